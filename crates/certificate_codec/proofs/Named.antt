@@ -1,5 +1,5 @@
 -- A part is named exactly where the parts below are spelled by a front of the bytes and no valid one follows.
-use Rattle.std.proofs.Common.{◌≡◌, ◌≢◌, ℕ, ◌≤◌, inl, inr, ◌⊎◌, nat_eq, List, [], length, Result, Ok, Err, sym, ap}
+use Rattle.std.proofs.Common.{◌≡◌, ◌≢◌, ℕ, ◌≤◌, inl, inr, ◌⊎◌, nat_eq, List, [], Result, Ok, Err, sym, ap}
 use Rattle.std.proofs.Common.{subst, ◌∙◌, arith}
 use Rattle.log_codec.specs.declared.codec_fault.TheConstants.{HEADER, REGULATED}
 use Rattle.race_log.specs.declared.recording.Recording.{Recording}
@@ -11,6 +11,7 @@ use Rattle.rtr_types.specs.Turns.{stay, count_up}
 use Rattle.log_codec.proofs.BadPartLaws.{after-5, at_end, bad_part, end-names, end-some, never-both, no-reading}
 use Rattle.log_codec.proofs.BadPartLaws.{read-all, some-end}
 use Rattle.log_codec.proofs.CoreCountLaws.{counts-name}
+use Rattle.log_codec.proofs.LastParts.{last_part}
 use Rattle.log_codec.proofs.Named.{Names, bind-err, bind-names, guard-names, number-names, turns-name}
 use Rattle.log_codec.proofs.Steps.{bind_ok, ok_is}
 use Rattle.log_codec.proofs.Whole.{front_takes}
@@ -128,19 +129,11 @@ stops-after bytes p are r rest front e =
 
     by : (u : UpToRegulated bytes rest) → (after_front (recording_up_to bytes rest u, rest) >>= at_end END) ≡ Err p →
         Stops bytes p
-    by u f = elim (bind-err (after_front (recording_up_to bytes rest u, rest)) (at_end END) p f) [
-      | inl bad ↦ elim (bind-err (clocks_at (recording_up_to bytes rest u) rest)
-          (with_clocks (recording_up_to bytes rest u)) p bad) [
-            | inl none ↦ inr (inl (at_clocks u none))
-            | inr more ↦ absurd (let g = more.2 in cc)
-          ]
-      | inr more ↦
-          let k = bind_ok (clocks_at (recording_up_to bytes rest u) rest) (with_clocks (recording_up_to bytes rest u))
-          more.0 more.1 in
-          let is = ok_is (made_of (recording_up_to bytes rest u) k.0.0, k.0.1) more.0 k.2 in
-          inr (inr (at_bytes u k.0.0 k.0.1 k.1
-          (subst (λ (x : Certificate × List ℕ). at_end END x ≡ Err p) (sym is) more.2)))
-    ]
+    by u f = elim (last_part (clocks_at (recording_up_to bytes rest u) rest)
+        (λ clocks. made_of (recording_up_to bytes rest u) clocks) END p f) [
+          | inl none ↦ inr (inl (at_clocks u none))
+          | inr k ↦ inr (inr (at_bytes u k.0 k.1 k.2 k.3))
+        ]
 
 stops : (bytes : List ℕ) (p : ℕ) → IsBytes bytes → certificate_at bytes ≡ Err p → Stops bytes p
 unfolding certificate_at parts_at

@@ -1,18 +1,15 @@
 -- Whole certificates: the laws.
-use Rattle.std.proofs.Common.{◌≡◌, ℕ, cond, List, [], ◌++◌, length, Result, Ok, Err, refl, sym, ap, subst, ◌∙◌}
-use Rattle.std.proofs.Common.{append_assoc, append-nil, eqb}
-use Rattle.std.specs.Prelude.{IfOk}
-use Rattle.std.proofs.lemmas.Bool.{eqb-true}
-use Rattle.std.proofs.lemmas.List.{nil_from_length}
-use Rattle.log_codec.specs.declared.codec_fault.CodecFault.{CodecFault}
+use Rattle.std.proofs.Common.{◌≡◌, ℕ, List, [], ◌++◌, Ok, refl, sym, ap, subst, ◌∙◌}
+use Rattle.std.proofs.Common.{append_assoc, append-nil}
 use Rattle.race_log.specs.declared.recording.Recording.{Recording}
-use Rattle.log_codec.specs.Faults.{◌>>=◌, Gives}
+use Rattle.log_codec.specs.Faults.{◌>>=◌}
 use Rattle.log_codec.specs.Laws.{IsBytes}
 use Rattle.log_codec.specs.Reading.{front_at}
 use Rattle.log_codec.specs.Spelling as recordings
 use Rattle.log_codec.specs.declared.version.Version.TheVariants.{Two}
-use Rattle.log_codec.proofs.Steps.{bind_ok, guard_ok, ok_is, Takes, Takes-then}
+use Rattle.log_codec.proofs.Steps.{bind_ok, ok_is, Takes, Takes-then}
 use Rattle.log_codec.proofs.Whole.{front_takes, front_again}
+use Rattle.log_codec.proofs.Wholes.{front_read, one_front, read_front}
 use Rattle.certificate_codec.specs.declared.certificate.Certificate.{Certificate}
 use Rattle.certificate_codec.specs.declared.certificate.TheConstants.{END}
 use Rattle.certificate_codec.specs.Validity.{IsCertificate}
@@ -65,19 +62,12 @@ parts_again c bytes rest v s =
 pub read_is_spelled : ReadIsSpelled
 unfolding certificate_at
 read_is_spelled bytes c are e =
-    let p = bind_ok (parts_at bytes) (λ parts. cond (eqb (length parts.1) 0) (Ok parts.0) (Err END)) c e in
-    let g = guard_ok (eqb (length p.0.1) 0) END p.0.0 c p.2 in
-    let t = parts_taken bytes p.0.0 p.0.1 are p.1 in
-    let none : p.0.1 ≡ [] = nil_from_length p.0.1 (eqb-true _ _ g.0) in
-    let all : t.text ≡ bytes = sym (t.taken.parts ∙ ap (λ (x : List ℕ). t.text ++ x) none ∙ append-nil t.text) in
-    subst (λ (d : Certificate). IsCertificate d × Spells bytes d) g.1
-    (t.valid, subst (λ (b : List ℕ). Spells b p.0.0) all t.spells)
+    let t = parts_taken bytes c [] are (read_front parts_at END bytes c e) in
+    (t.valid, subst (λ (b : List ℕ). Spells b c) (sym (t.taken.parts ∙ append-nil t.text)) t.spells)
 
 pub spelled_is_read : SpelledIsRead
 unfolding certificate_at
-spelled_is_read c bytes v s =
-    let p : parts_at bytes ≡ Ok (c, []) = ap parts_at (sym (append-nil bytes)) ∙ parts_again c bytes [] v s in
-    rw p refl
+spelled_is_read c bytes v s = front_read parts_at END bytes c (parts_again c bytes [] v s)
 
 pub written_spells : WrittenSpells
 unfolding spelling
@@ -89,14 +79,4 @@ written_spells c v = record {
 
 pub prefix_free : PrefixFree
 prefix_free c d first second x y vc vd sc sd e =
-    let both : Ok (c, x) ≡ Ok (d, y) =
-    sym (parts_again c first x vc sc) ∙ ap parts_at e ∙ parts_again d second y vd sd in
-    let same = ok_is (c, x) (d, y) both in
-    (ap (λ (p : Certificate × List ℕ). p.0) same, ap (λ (p : Certificate × List ℕ). p.1) same)
-
--- what a reader answered
-pub is_found : (bytes : List ℕ) (result : Result Certificate CodecFault) → IsBytes bytes →
-    Gives (λ x. x) result (certificate_at bytes) →
-    IfOk result (λ c. IsCertificate c × Spells bytes c)
-is_found bytes (Ok c) are e = read_is_spelled bytes c are e
-is_found bytes (Err f) are e = tt
+    one_front parts_at (first ++ x) (second ++ y) c d x y (parts_again c first x vc sc) (parts_again d second y vd sd) e

@@ -1,8 +1,8 @@
 -- Reading a certificate from left to right. A number that doesn't fit is a fault of the part in which it stands.
-use Rattle.std.specs.Prelude.{ℕ, List, length, Result, Ok, Err, nat_eq, ◌==◌, if◌then◌else◌}
+use Rattle.std.specs.Prelude.{ℕ, List, Result, Ok, Err, nat_eq, if◌then◌else◌}
 use Rattle.race_log.specs.declared.recording.Recording.{Recording}
 use Rattle.log_codec.specs.CoreCounts.{counts_at}
-use Rattle.log_codec.specs.Faults.{◌>>=◌}
+use Rattle.log_codec.specs.Faults.{◌>>=◌, read_all}
 use Rattle.log_codec.specs.Reading.{number_at, front_at}
 use Rattle.rtr_types.specs.Turns.{stay, count_up}
 use Rattle.log_codec.specs.Turns.{read_in_turn}
@@ -38,6 +38,4 @@ parts_at bytes = do
 
 -- all parts
 unfoldable pub certificate_at : List ℕ → Result Certificate ℕ
-certificate_at bytes = do
-  parts ← parts_at bytes
-  if length parts.1 == 0 then Ok parts.0 else Err END
+certificate_at bytes = read_all parts_at END bytes

@@ -152,18 +152,20 @@ vector-true most last v e =
       target_most = grind (arith, nat_tests);
     }
 
+pub strides_of : (most last : ℕ × ℕ) (v : StrideVector) → VectorStands most last v → StridesStand v
+strides_of most last v h = record {
+  source_stride = h.source_stride;
+  target_stride = h.target_stride;
+  no_source_stride = h.no_source_stride;
+  no_target_stride = h.no_target_stride;
+}
+
 pub true-vector : (most last : ℕ × ℕ) (v : StrideVector) → VectorStands most last v → vector_stands most last v ≡ true
 true-vector most last v h =
     let h0 = h.some in let h1 = h.source_rises in let h2 = h.target_rises in let h3 = h.source_most in let h4 =
     h.target_most in
     let a : nat_le 1 v.n ≡ true = grind (arith, nat_tests) in
-    let b = true-strides v
-    (record {
-      source_stride = h.source_stride;
-      target_stride = h.target_stride;
-      no_source_stride = h.no_source_stride;
-      no_target_stride = h.no_target_stride;
-    }) in
+    let b = true-strides v (strides_of most last v h) in
     let c : nat_lt last.0 v.a0 ≡ true = grind (arith, nat_tests) in
     let d : nat_lt last.1 v.b0 ≡ true = grind (arith, nat_tests) in
     let e : nat_le (last_of v).0 most.0 ≡ true = grind (arith, nat_tests) in

@@ -1,38 +1,36 @@
 -- A recording that is read is the one that is spelled, and what is spelled is read again.
-use Rattle.std.proofs.Common.{◌≡◌, ℕ, zero, suc, ◌+◌, ◌*◌, ◌^◌, ◌<◌, ◌≤◌, cond, eqb, List, [], ◌∷◌, ◌++◌, length, take}
-use Rattle.std.proofs.Common.{drop, get_or, Result, Ok, Err, Bool, true, false}
+use Rattle.std.proofs.Common.{◌≡◌, ℕ, zero, suc, ◌+◌, ◌*◌, ◌^◌, ◌<◌, ◌≤◌, cond, List, [], ◌++◌, length, take}
+use Rattle.std.proofs.Common.{drop, Result, Ok, Err, Bool, true, false}
 use Rattle.std.proofs.Common.{refl, sym, ap, subst, ◌∙◌, append_assoc, nat_eq, arith}
-use Rattle.std.specs.Prelude.{All, IfOk, replicate, slice_index}
+use Rattle.std.specs.Prelude.{replicate, slice_index}
 use Rattle.std.specs.List.{starts_with}
 use Rattle.std.specs.Cmp.Lexicographic.{same_text}
-use Rattle.std.proofs.lemmas.Bool.{eqb-true}
-use Rattle.std.proofs.lemmas.List.{append-nil, nil_from_length, length-replicate, take-append-drop}
+use Rattle.std.proofs.lemmas.List.{length-replicate, take-append-drop}
 use Rattle.rtr_types.specs.declared.params.Params.{Params}
 use Rattle.rtr_types.specs.Pairs.{pair_count}
-use Rattle.rtr_types.specs.Parameters.{Fits}
 use Rattle.rtr_types.specs.Turns.{StandInTurn, count_up}
 use Rattle.stride_vector.specs.declared.StrideVector.{StrideVector}
-use Rattle.log_codec.specs.declared.codec_fault.CodecFault.{CodecFault}
 use Rattle.log_codec.specs.declared.codec_fault.TheConstants.{HEADER}
 use Rattle.log_codec.specs.declared.version.Version.TheVariants.{Two}
-use Rattle.log_codec.specs.Faults.{◌>>=◌, Gives}
+use Rattle.log_codec.specs.Faults.{◌>>=◌}
 use Rattle.log_codec.specs.Laws.{IsBytes}
 use Rattle.log_codec.specs.Reading.{sizes_at, image_at, totals_at, targets_at}
 use Rattle.log_codec.specs.Spelling.{sizes_text, totals_text, targets_text}
-use Rattle.race_log.specs.Validity.{Valid, AreVectors, bound_at}
+use Rattle.race_log.specs.Validity.{AreVectors, bound_at}
 use Rattle.log_codec.proofs.FieldLaws.{sizes_take, sizes_again, image_takes, image_again}
 use Rattle.log_codec.proofs.Named.{Names}
 use Rattle.log_codec.proofs.ReducedLaws.{reduced_takes, reduced_again}
 use Rattle.race_log.proofs.Parts.{total-small}
+use Rattle.log_codec.proofs.Wholes.{SpellingLaws, Taken, spelling_laws}
 use Rattle.log_codec.proofs.Steps.{bind_ok, guard_ok, ok_is, bytes-drop, Takes, Takes-then}
-use Rattle.log_codec.proofs.Whole.{totals_take, totals_again}
+use Rattle.log_codec.proofs.Whole.{totals_take, totals_again, totals_fit}
 use Rattle.race_log.proofs.Parts.{valid-made, edges-placed}
 use Rattle.tso_codec.specs.declared.recording.TheConstants.{END}
 use Rattle.tso_codec.specs.declared.recording.TsoRecording.{TsoRecording}
-use Rattle.tso_codec.specs.Laws.{ReadIsSpelled, SpelledIsRead, PrefixFree}
+use Rattle.tso_codec.specs.Laws.{SpelledIsRead}
 use Rattle.tso_codec.specs.Reading.{magic_at, all_values_at, parts_at, tso_at}
 use Rattle.tso_codec.specs.Spelling.{tso_magic, all_values_text, tso_spelling}
-use Rattle.tso_codec.specs.Validity.{IsTso, AreValuesOf, plain_of}
+use Rattle.tso_codec.specs.Validity.{IsTso, plain_of}
 use Rattle.tso_codec.proofs.Values.{all_values_take, all_values_again}
 
 -- ---- the first bytes
@@ -86,13 +84,8 @@ no-vectors : (totals : List ℕ) (s n : ℕ) →
 no-vectors totals s zero = tt
 no-vectors totals s (suc n) = (tt, no-vectors totals (s + 1) n)
 
--- a recording that was taken from the front of the bytes
-pub record PartsTaken (bytes : List ℕ) (r : TsoRecording) (rest : List ℕ) : Type 0 where
-  pub valid : IsTso r
-  pub taken : Takes bytes (tso_spelling r) rest
-
 pub parts_take : (bytes : List ℕ) (r : TsoRecording) (rest : List ℕ) → IsBytes bytes → parts_at bytes ≡ Ok (r, rest) →
-    PartsTaken bytes r rest
+    Taken IsTso tso_spelling bytes r rest
 unfolding parts_at tso_spelling
 parts_take bytes r rest are e =
     let m = bind_ok (magic_at bytes) after_magic (r, rest) e in
@@ -137,7 +130,8 @@ parts_take bytes r rest are e =
       each_core = tv.1;
       values = tv.2;
     } in
-    subst (λ (y : TsoRecording × List ℕ). PartsTaken bytes y.0 y.1) (ok_is (made, v.0.1) (r, rest) v.2)
+    subst (λ (y : TsoRecording × List ℕ). Taken IsTso tso_spelling bytes y.0 y.1)
+    (ok_is (made, v.0.1) (r, rest) v.2)
     (record { valid = valid; taken = named })
 
 -- a core's total can be spelled
@@ -153,10 +147,7 @@ parts_again r rest v =
     let valid = v.plain in
     let params = valid.params in
     let p = r.params in
-    let small : p.limit < 2 ^ 32 = omega arith in
-    let few : length r.totals < 2 ^ 32 = let each = valid.each_core in omega arith in
-    let together : length r.totals * p.limit < 2 ^ 32 =
-    let all = params.instructions in subst (λ (n : ℕ). n * p.limit < 2 ^ 32) (sym valid.each_core) (omega arith) in
+    let sizes = totals_fit (plain_of r) valid in
     let v_text = all_values_text r.values ++ rest in
     let d_text = targets_text p.cores r.reduced ++ v_text in
     let t_text = totals_text r.totals ++ d_text in
@@ -167,44 +158,22 @@ parts_again r rest v =
     let h = sizes_again Two p (length r.image) i_text (record { params = params; image = valid.image }) in
     let i = image_again r.image t_text in
     let t = subst (λ (n : ℕ). totals_at p.limit n t_text ≡ Ok (r.totals, d_text)) valid.each_core
-    (totals_again p.limit r.totals d_text small valid.totals) in
+    (totals_again p.limit r.totals d_text sizes.small valid.totals) in
     let back : pair_count p.cores ≡ pair_count (length r.totals) = ap (λ (n : ℕ). pair_count n) (sym valid.each_core) in
     let d = subst (λ (n : ℕ). targets_at r.totals (targets_text n r.reduced ++ v_text) ≡ Ok (r.reduced, v_text))
     valid.each_core
-    (reduced_again Two p.limit r.totals r.reduced v_text small together few valid.totals (valid.each_reduced ∙ back)
+    (reduced_again Two p.limit r.totals r.reduced v_text sizes.small sizes.together sizes.few valid.totals
+    (valid.each_reduced ∙ back)
     (edges-placed (plain_of r) valid)) in
     let w = all_values_again p.cores r.totals r.values rest (small-total r v) v.each_core v.values in
     ap parts_at regrouped ∙ rw (m, h, i, t, d, w) refl
 
 -- ---- the laws
 
-pub read_is_spelled : ReadIsSpelled
+pub laws : SpellingLaws tso_at IsTso tso_spelling
 unfolding tso_at
-read_is_spelled bytes r are e =
-    let f = bind_ok (parts_at bytes) (λ parts. cond (eqb (length parts.1) 0) (Ok parts.0) (Err END)) r e in
-    let g = guard_ok (eqb (length f.0.1) 0) END f.0.0 r f.2 in
-    let t = parts_take bytes f.0.0 f.0.1 are f.1 in
-    let none : f.0.1 ≡ [] = nil_from_length f.0.1 (eqb-true _ _ g.0) in
-    let text = tso_spelling f.0.0 in
-    let all : bytes ≡ text = t.taken.parts ∙ ap (λ (x : List ℕ). text ++ x) none ∙ append-nil text in
-    subst (λ (s : TsoRecording). IsTso s × (bytes ≡ tso_spelling s)) g.1 (t.valid, all)
+laws = let l = spelling_laws parts_at END IsTso tso_spelling parts_take parts_again in
+    record { read = l.read; spelled = l.spelled; prefix = l.prefix }
 
 pub spelled_is_read : SpelledIsRead
-unfolding tso_at
-spelled_is_read r v =
-    let f : parts_at (tso_spelling r) ≡ Ok (r, []) =
-    ap parts_at (sym (append-nil (tso_spelling r))) ∙ parts_again r [] v in
-    rw f refl
-
-pub prefix_free : PrefixFree
-prefix_free r s x y vr vs e =
-    let both : Ok (r, x) ≡ Ok (s, y) = sym (parts_again r x vr) ∙ ap parts_at e ∙ parts_again s y vs in
-    let same = ok_is (r, x) (s, y) both in
-    (ap (λ (p : TsoRecording × List ℕ). p.0) same, ap (λ (p : TsoRecording × List ℕ). p.1) same)
-
--- what a reader answered
-pub is_found : (bytes : List ℕ) (result : Result TsoRecording CodecFault) → IsBytes bytes →
-    Gives (λ x. x) result (tso_at bytes) →
-    IfOk result (λ r. IsTso r × (bytes ≡ tso_spelling r))
-is_found bytes (Ok r) are e = read_is_spelled bytes r are e
-is_found bytes (Err f) are e = tt
+spelled_is_read = laws.spelled

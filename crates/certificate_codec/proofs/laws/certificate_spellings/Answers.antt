@@ -1,10 +1,5 @@
-use Rattle.certificate_codec.proofs.Whole as whole
+use Rattle.certificate_codec.proofs.Whole.{prefix_free, read_is_spelled, spelled_is_read, written_spells}
 use Rattle.certificate_codec.proofs.laws.certificate_spellings.Goals as goal
 
 pub returns : goal.returns
-returns c = record {
-  read = whole.read_is_spelled;
-  spelled = whole.spelled_is_read;
-  written = whole.written_spells;
-  prefix = whole.prefix_free;
-}
+returns c = record { read = read_is_spelled; spelled = spelled_is_read; written = written_spells; prefix = prefix_free }

@@ -27,7 +27,4 @@ loop-entries-preserved c =
     c.loop-entries.invariant
 
 pub returns : goal.returns
-returns c = puts_done (alike entries_text) count_up c.loop-entries.out.items
-    (c.args.out.now.items ++ clocks_text c.args.clocks.now) c.loop-entries.entries-index c.args.clocks.now
-    c.loop-entries.entries-index
-    c.loop-entries-test.false c.loop-entries.invariant
+returns c = puts_done (alike entries_text) count_up _ _ _ _ _ c.loop-entries-test.false c.loop-entries.invariant

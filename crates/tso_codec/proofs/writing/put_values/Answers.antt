@@ -1,9 +1,8 @@
 use Rattle.std.proofs.Common.{◌≡◌, ◌-◌, ◌++◌, length, get_or, ap, ◌∙◌, append_assoc, arith, List, ℕ}
 use Rattle.log_codec.specs.Spelling.{number}
-use Rattle.log_codec.specs.Turns.{spelled_in_turn}
 use Rattle.log_codec.proofs.InTurn.{puts_on, puts_done}
 use Rattle.race_log.proofs.InTurn.{stand-drop}
-use Rattle.tso_codec.specs.Spelling.{value_text, values_text}
+use Rattle.tso_codec.specs.Spelling.{value_text}
 use Rattle.tso_codec.specs.Validity.{ValueStands, count_of}
 use Rattle.tso_codec.proofs.Values.{few_values}
 use Rattle.tso_codec.proofs.writing.put_values.Goals as goal
@@ -15,8 +14,7 @@ pub loop-value-init : goal.loop-value-init
 loop-value-init c = record {
   stand = c.requires;
   wrote = rw c.in_ok-put_u32.ensures.ok
-      (append_assoc c.args.out.now.items (number (length c.args.values.now))
-      (spelled_in_turn value_text count_of 0 c.args.values.now));
+      (append_assoc c.args.out.now.items (number (length c.args.values.now)) _);
 }
 
 pub overflow_sub-value : goal.overflow_sub-value
@@ -39,13 +37,8 @@ loop-value-preserved c =
     ∙ append_assoc c.loop-value.out.items (number (v.0 - last)) (number v.1) in
     record {
       stand = h.1;
-      wrote = puts_on value_text count_of c.loop-value.out.items c.put_u32-in-loop-value-2.new.out.items
-          (c.args.out.now.items ++ values_text c.args.values.now) last c.args.values.now c.loop-value.value-index
-          (0, 0) c.loop-value-test.true is c.loop-value.invariant.wrote;
+      wrote = puts_on value_text count_of _ _ _ _ _ _ (0, 0) c.loop-value-test.true is c.loop-value.invariant.wrote;
     }
 
 pub returns : goal.returns
-returns c = puts_done value_text count_of c.loop-value.out.items
-    (c.args.out.now.items ++ values_text c.args.values.now) c.loop-value.last c.args.values.now c.loop-value.value-index
-    c.loop-value-test.false
-    c.loop-value.invariant.wrote
+returns c = puts_done value_text count_of _ _ _ _ _ c.loop-value-test.false c.loop-value.invariant.wrote
