@@ -45,6 +45,18 @@ ready_next which r s core valid ready =
     let below = ready.below in
     record { core = ready.inside; some = omega arith; most = omega arith }
 
+-- and so has a place of the same recording and log, where the core is ready
+next_there : (old mid : Placed) (core : ℕ) → Valid old.recording → mid.recording ≡ old.recording →
+    mid.which ≡ old.which → Ready (plan_at old) (counts_in mid.state) core →
+    IsInstrOf mid.recording (next_in (cut_at mid) core)
+next_there old mid core valid same_recording same_which ready =
+    let next = ready_next old.which old.recording mid.state core valid ready in
+    subst (λ (w : Which).
+    IsInstrOf mid.recording (next_in (cut_of (plan_of w mid.recording) (counts_in mid.state)) core))
+    (sym same_which)
+    (subst (λ (r : Recording). IsInstrOf r (next_in (cut_of (plan_of old.which r) (counts_in mid.state)) core))
+    (sym same_recording) next)
+
 -- the place's replay
 abbrev as_replay : Placed → UnderWay
 as_replay place = record { plan = plan_at place; state = place.state; roomy = true }
@@ -81,12 +93,7 @@ next_forward test old mid to core stands valid closed within same_recording same
     let ready : Ready p (counts_in mid.state) core =
     subst (λ (s : Outcome). Ready p (counts_in s) core) (sym first.state)
     (ready_before old to first.front first.rest core stands valid closed within first.split) in
-    let next = ready_next old.which old.recording mid.state core valid ready in
-    subst (λ (w : Which).
-    IsInstrOf mid.recording (next_in (cut_of (plan_of w mid.recording) (counts_in mid.state)) core))
-    (sym same_which)
-    (subst (λ (r : Recording). IsInstrOf r (next_in (cut_of (plan_of old.which r) (counts_in mid.state)) core))
-    (sym same_recording) next)
+    next_there old mid core valid same_recording same_which ready
 
 -- and so at a place of the way back to a closed cut, by the places before, from the state there
 module _ (old : Placed) (to : Cut) (there : Outcome) (stands : Stands old) (valid : Valid old.recording)
@@ -133,9 +140,4 @@ next_backward test old mid to core stands valid closed within same_recording sam
     subst (λ (s : Outcome). Ready p (counts_in s) core) (sym last.state)
     (subst (λ (c : ℕ). Ready p (counts_in (play p goes.there (take last.number (way_back old to)))) c) last.core_is
     (ready_behind old to goes.there stands valid closed within goes.state last.number last.inside)) in
-    let next = ready_next old.which old.recording mid.state core valid ready in
-    subst (λ (w : Which).
-    IsInstrOf mid.recording (next_in (cut_of (plan_of w mid.recording) (counts_in mid.state)) core))
-    (sym same_which)
-    (subst (λ (r : Recording). IsInstrOf r (next_in (cut_of (plan_of old.which r) (counts_in mid.state)) core))
-    (sym same_recording) next)
+    next_there old mid core valid same_recording same_which ready

@@ -1,5 +1,5 @@
 -- How the programs of the cores end.
-use Rattle.std.specs.Prelude.{ℕ, List, Option, Some, None, codes}
+use Rattle.std.specs.Prelude.{ℕ, Option, Some, None}
 use Rattle.gdb_packets.specs.declared.replies.Signal.{Signal}
 use Rattle.gdb_packets.specs.declared.replies.Signal.TheVariants as signals
 use Rattle.image_mem.specs.Contents.{Contents}
@@ -32,15 +32,3 @@ signal_of Jump = Some signals.Misaligned
 signal_of Align = Some signals.Misaligned
 signal_of Address = Some signals.Segment
 signal_of Total = None
-
--- the word for how a program ends
-abbrev pub end_name : Stop → List ℕ
-end_name Exit = codes "exit"
-end_name Break = codes "break"
-end_name Limit = codes "limit"
-end_name Fetch = codes "fetch"
-end_name Illegal = codes "illegal"
-end_name Jump = codes "jump"
-end_name Align = codes "align"
-end_name Address = codes "address"
-end_name Total = codes "total"

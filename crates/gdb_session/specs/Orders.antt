@@ -56,6 +56,11 @@ steps actions core = unwrap_or (asked_of actions core) false
 abbrev pub acts : List Action → (core : ℕ) → Bool
 acts actions core = is_some (asked_of actions core)
 
+-- whether a core is to step, or to move at all
+abbrev pub is_asked : (step : Bool) → List Action → (core : ℕ) → Bool
+is_asked true = steps
+is_asked false = acts
+
 -- each thread that is named is there
 abbrev pub are_there : List Action → (cores : ℕ) → Bool
 are_there actions cores = list_all (λ action. is_there action.who cores) actions

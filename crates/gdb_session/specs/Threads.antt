@@ -5,15 +5,16 @@ use Rattle.std.specs.Fmt.{digits}
 use Rattle.std.specs.List.{flat_map}
 use Rattle.rtr_types.specs.declared.instr.Instr.{Instr}
 use Rattle.rv_core.specs.declared.core_state.Stop.{Stop}
+use Rattle.state_text.specs.States.{stop_name}
 use Rattle.replay_core.specs.Orders.{counts_in}
 use Rattle.replay_core.specs.Play.{instr}
 use Rattle.debug_place.specs.Places.{Placed, cut_at}
-use Rattle.gdb_session.specs.Ends.{end_name, end_of}
+use Rattle.gdb_session.specs.Ends.{end_of}
 use Rattle.gdb_session.specs.Waits.{waits_below}
 
 -- how a program ends
 abbrev pub end_text : Stop → List ℕ
-end_text end = codes ", " ++ end_name end
+end_text end = codes ", " ++ stop_name end
 
 -- an instruction that is waited for
 abbrev pub wait_text : Instr → List ℕ

@@ -1,6 +1,7 @@
 //! How the programs of the cores end.
 ghost use Rattle.std.specs.Prelude.{◌≡◌};
-ghost use Rattle.gdb_session.specs.Ends.{end_in, end_name, signal_of};
+ghost use Rattle.state_text.specs.States.{stop_name};
+ghost use Rattle.gdb_session.specs.Ends.{end_in, signal_of};
 
 use gdb_packets::Signal;
 use image_mem::Image;
@@ -31,7 +32,7 @@ pub(crate) fn signal_of(end: Stop) -> Option<Signal>
 
 /// The word for how a program ends.
 pub(crate) fn end_name(end: Stop) -> &'static str
-    ensures { result.now ≡ end_name end }
+    ensures { result.now ≡ stop_name end }
 {
     match end {
         Stop::Exit => "exit",

@@ -2,8 +2,8 @@
 ghost use Rattle.std.specs.Prelude.{◌≡◌, ◌<◌, ◌≤◌, IfSome};
 ghost use Rattle.rtr_types.specs.declared.TheConstants.{CORES_MAX};
 ghost use Rattle.gdb_session.specs.Orders.{IsWithin, acts, all_back, all_go, all_on, are_there, asked_of, every_core};
-ghost use Rattle.gdb_session.specs.Orders.{go_back_order, heard_of, lower_of, lowest_where, mover, movers_of, named};
-ghost use Rattle.gdb_session.specs.Orders.{names, only};
+ghost use Rattle.gdb_session.specs.Orders.{go_back_order, heard_of, is_asked, lower_of, lowest_where, mover, movers_of};
+ghost use Rattle.gdb_session.specs.Orders.{named, names, only};
 ghost use Rattle.gdb_session.specs.Orders.{resume_order, some_order, step_back_order, steps};
 ghost use Rattle.gdb_session.specs.Wishes.{Fit};
 
@@ -112,26 +112,25 @@ pub(crate) fn every_core(cores: u8) -> CoreSet
     set
 }
 
-/// The lowest core that is to move.
-fn lowest_acting(actions: &[Action], cores: u8) -> Option<u8>
-    ensures core { result ≡ lowest_where (acts actions.now) cores }
-    ensures within { IfSome result (λ core. core < cores) }
+/// Whether a core is to step, or to move at all.
+fn is_asked(actions: &[Action], core: u8, step: bool) -> bool
+    ensures { result ≡ is_asked step actions.now core }
 {
-    let mut lowest = None;
-    for core in 0..cores {
-        lowest = lower_of(lowest, acts(actions, core), core);
+    if step {
+        steps(actions, core)
+    } else {
+        acts(actions, core)
     }
-    lowest
 }
 
-/// The lowest core that is to step.
-fn lowest_step(actions: &[Action], cores: u8) -> Option<u8>
-    ensures core { result ≡ lowest_where (steps actions.now) cores }
+/// The lowest core that is to step, or to move at all.
+fn lowest_asked(actions: &[Action], cores: u8, step: bool) -> Option<u8>
+    ensures core { result ≡ lowest_where (is_asked step actions.now) cores }
     ensures within { IfSome result (λ core. core < cores) }
 {
     let mut lowest = None;
     for core in 0..cores {
-        lowest = lower_of(lowest, steps(actions, core), core);
+        lowest = lower_of(lowest, is_asked(actions, core, step), core);
     }
     lowest
 }
@@ -208,10 +207,10 @@ pub(crate) fn resume_order(wishes: Wishes, cores: u8, actions: &[Action]) -> Opt
         return Some(Order::Rest(named(actions, cores).unwrap_or(wishes.looked)));
     }
     let heard = heard_of(actions, cores);
-    match lowest_step(actions, cores) {
+    match lowest_asked(actions, cores, true) {
         Some(core) => Some(Order::Step(core, heard)),
         None if all_go(actions, cores) => Some(all_on(wishes.lead, wishes.looked, heard)),
-        None => some_order(wishes, heard, lowest_acting(actions, cores), cores),
+        None => some_order(wishes, heard, lowest_asked(actions, cores, false), cores),
     }
 }
 

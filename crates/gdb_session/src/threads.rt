@@ -15,6 +15,9 @@ use rtr_types::Instr;
 use rv_core::Stop;
 use std::alloc::{AllocError, Global};
 
+/// That a part of a text was put.
+type Put = Result<(), AllocError>;
+
 /// What is said of a thread: how far its core has come and, where it has come to its end, how its program ends, or
 /// else what it waits for.
 pub(crate) fn thread_text(
@@ -45,13 +48,7 @@ pub(crate) fn thread_text(
 }
 
 /// Puts what an instruction waits for at the place, if it does.
-fn put_waiting(
-    alloc: Global,
-    text: &mut String,
-    audited: &Audited,
-    place: &Place,
-    at: Instr,
-) -> Result<(), AllocError>
+fn put_waiting(alloc: Global, text: &mut String, audited: &Audited, place: &Place, at: Instr) -> Put
     requires { IsOf audited.now place.now }
     ensures { OnOk result (string_bytes text.new ≡ string_bytes text.old ++ waits_text (waits_of place.now at)) }
 {
@@ -61,7 +58,7 @@ fn put_waiting(
 }
 
 /// Puts how a program ends.
-fn put_end(text: &mut String, end: Stop) -> Result<(), AllocError>
+fn put_end(text: &mut String, end: Stop) -> Put
     ensures { OnOk result (string_bytes text.new ≡ string_bytes text.old ++ end_text end) }
 {
     let name = end_name(end);
@@ -69,7 +66,7 @@ fn put_end(text: &mut String, end: Stop) -> Result<(), AllocError>
 }
 
 /// Puts what a core waits for, if it does.
-fn put_waits(text: &mut String, waits: &[Instr]) -> Result<(), AllocError>
+fn put_waits(text: &mut String, waits: &[Instr]) -> Put
     ensures { OnOk result (string_bytes text.new ≡ string_bytes text.old ++ waits_text waits.now) }
 {
     if waits.is_empty() {
@@ -79,7 +76,7 @@ fn put_waits(text: &mut String, waits: &[Instr]) -> Result<(), AllocError>
 }
 
 /// Puts what a core waits for.
-fn put_some(text: &mut String, waits: &[Instr]) -> Result<(), AllocError>
+fn put_some(text: &mut String, waits: &[Instr]) -> Put
     ensures { OnOk result (string_bytes text.new
         ≡ string_bytes text.old ++ (codes ", waits for" ++ flat_map wait_text waits.now)) }
 {
@@ -88,14 +85,14 @@ fn put_some(text: &mut String, waits: &[Instr]) -> Result<(), AllocError>
 }
 
 /// Puts that a core waits.
-fn put_words(text: &mut String) -> Result<(), AllocError>
+fn put_words(text: &mut String) -> Put
     ensures { OnOk result (string_bytes text.new ≡ string_bytes text.old ++ codes ", waits for") }
 {
     write!(text, ", waits for")
 }
 
 /// Puts instructions that are waited for.
-fn put_list(text: &mut String, waits: &[Instr]) -> Result<(), AllocError>
+fn put_list(text: &mut String, waits: &[Instr]) -> Put
     ensures { OnOk result (string_bytes text.new ≡ string_bytes text.old ++ flat_map wait_text waits.now) }
 {
     for at in waits {
@@ -130,7 +127,7 @@ fn put_rows(
     audited: &Audited,
     image: &Image,
     place: &Place,
-) -> Result<(), AllocError>
+) -> Put
     requires { Sees audited.now image.now place.now }
     ensures { OnOk result (string_bytes text.new
         ≡ string_bytes text.old ++ rows_text place.now place.now.recording.params.cores) }
@@ -149,7 +146,7 @@ fn put_row(
     image: &Image,
     place: &Place,
     core: u8,
-) -> Result<(), AllocError>
+) -> Put
     requires sees { Sees audited.now image.now place.now }
     requires core { core < place.now.recording.params.cores }
     ensures { OnOk result (string_bytes text.new ≡ string_bytes text.old ++ row_text place.now core) }
@@ -161,7 +158,7 @@ fn put_row(
 }
 
 /// Puts what stands before a thread's text.
-fn put_head(text: &mut String, core: u8) -> Result<(), AllocError>
+fn put_head(text: &mut String, core: u8) -> Put
     ensures { OnOk result (string_bytes text.new ≡ string_bytes text.old ++ head_text core) }
 {
     put_id(text, core as u32 + 1)?;
@@ -169,14 +166,14 @@ fn put_head(text: &mut String, core: u8) -> Result<(), AllocError>
 }
 
 /// Puts the beginning of a thread with this number.
-fn put_id(text: &mut String, thread: u32) -> Result<(), AllocError>
+fn put_id(text: &mut String, thread: u32) -> Put
     ensures { OnOk result (string_bytes text.new ≡ string_bytes text.old ++ id_text thread) }
 {
     write!(text, "<thread id=\"{thread:x}")
 }
 
 /// Puts the names of a thread, by its core.
-fn put_names(text: &mut String, core: u8) -> Result<(), AllocError>
+fn put_names(text: &mut String, core: u8) -> Put
     ensures { OnOk result (string_bytes text.new ≡ string_bytes text.old ++ names_text core) }
 {
     write!(text, "\" core=\"{core}\" name=\"core {core}\">")

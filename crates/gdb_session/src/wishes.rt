@@ -49,16 +49,11 @@ fn looks_at(wishes: Wishes, thread: Thread, cores: u8) -> Wishes
     ensures wishes { result ≡ looks_at wishes thread cores }
     ensures fit { Fit result cores }
 {
-    let mut wishes = wishes;
-    match thread {
-        Thread::All | Thread::Any => wishes.looked = wishes.told,
-        Thread::Core(_) => {
-            if let Some(core) = core_of(thread, cores) {
-                wishes.looked = core;
-            }
-        }
-    }
-    wishes
+    let looked = match thread {
+        Thread::All | Thread::Any => wishes.told,
+        Thread::Core(_) => core_of(thread, cores).unwrap_or(wishes.looked),
+    };
+    Wishes { looked, ..wishes }
 }
 
 /// The cores that go back from here on.
@@ -67,16 +62,11 @@ fn moves_with(wishes: Wishes, thread: Thread, cores: u8) -> Wishes
     ensures wishes { result ≡ moves_with wishes thread cores }
     ensures fit { Fit result cores }
 {
-    let mut wishes = wishes;
-    match thread {
-        Thread::All | Thread::Any => wishes.moving = None,
-        Thread::Core(_) => {
-            if let Some(core) = core_of(thread, cores) {
-                wishes.moving = Some(core);
-            }
-        }
-    }
-    wishes
+    let moving = match thread {
+        Thread::All | Thread::Any => None,
+        Thread::Core(_) => core_of(thread, cores).or(wishes.moving),
+    };
+    Wishes { moving, ..wishes }
 }
 
 /// The wishes behind a packet that moves nothing.

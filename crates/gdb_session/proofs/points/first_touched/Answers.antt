@@ -4,8 +4,8 @@ use Rattle.gdb_session.proofs.points.first_touched.Goals as goal
 
 pub returns-then-touches : goal.returns-then-touches
 returns-then-touches c =
-    sym (c.loop-point.invariant
-    ∙ touched_here _ _ _ _ c.loop-point-test.true (sym c.touches.ensures ∙ c.if-touches.true))
+    let here = touched_here _ _ _ _ c.loop-point-test.true (sym c.touches.ensures ∙ c.if-touches.true) in
+    sym (c.loop-point.invariant ∙ here)
 
 pub loop-point-preserved : goal.loop-point-preserved
 loop-point-preserved c =
