@@ -110,20 +110,17 @@ static REPLAYS: [ReplayRow; 7] = [
     replay!("replay --loads --threads 2" => Reduced, Some(2), true),
 ];
 
+/// Whether the command is the replay of the row.
+fn is_replay(command: Option<Command>, row: &ReplayRow) -> bool {
+    matches!(command, Some(Command::Replay { which, threads, loads })
+        if which == row.which && threads == row.threads && loads == row.loads)
+}
+
 #[test]
 fn words_that_mean_a_replay(rt: HostRuntime) -> Result<(), Fail> {
     for row in &REPLAYS {
-        let meant = match meaning_of(rt.alloc(), row.line)? {
-            Some(
-                Command::Replay {
-                    which,
-                    threads,
-                    loads,
-                },
-            ) => which == row.which && threads == row.threads && loads == row.loads,
-            _ => false,
-        };
-        assert!(rt; meant, "{}", row.line);
+        let command = meaning_of(rt.alloc(), row.line)?;
+        assert!(rt; is_replay(command, row), "{}", row.line);
     }
     Ok(())
 }
@@ -336,19 +333,8 @@ static SOAKS: [SoakRow; 2] = [
 
 /// Whether the command is the soak of the row.
 fn is_soak(command: Option<Command>, row: &SoakRow) -> bool {
-    match command {
-        Some(
-            Command::Soak {
-                shape,
-                number,
-                params,
-                seed,
-            },
-        ) => {
-            shape == row.shape && number == row.number && params == row.params && seed == row.seed
-        }
-        _ => false,
-    }
+    matches!(command, Some(Command::Soak { shape, number, params, seed })
+        if shape == row.shape && number == row.number && params == row.params && seed == row.seed)
 }
 
 #[test]
@@ -390,18 +376,8 @@ static INSTRUCTIONS: [AtRow; 4] = [
 
 /// Whether the command asks for the state at the row's instruction.
 fn is_at(command: Option<Command>, row: &AtRow) -> bool {
-    let Some(
-        Command::At {
-            which,
-            at,
-            latest,
-            loads,
-        },
-    ) = command
-    else {
-        return false;
-    };
-    which == row.which && at == row.at && latest == row.latest && loads == row.loads
+    matches!(command, Some(Command::At { which, at, latest, loads })
+        if which == row.which && at == row.at && latest == row.latest && loads == row.loads)
 }
 
 #[test]
