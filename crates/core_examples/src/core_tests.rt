@@ -149,34 +149,43 @@ fn loads_and_stores_act_on_lanes(rt: HostRuntime) -> Result<(), Fail> {
     Ok(())
 }
 
+// The same of an atomic memory operation on the word at 32, which has the old value, where x2 is -6.
+fn left_of_amo(rt: &impl Abort, alloc: Global, word: u32, old: u32) -> Result<[u32; 7], Fail> {
+    left_of_one(
+        rt,
+        alloc,
+        word,
+        (32, 0xffff_fffa),
+        Need::Amo { word: 8 },
+        old,
+    )
+}
+
 #[test]
 fn atomics_act_on_their_word(rt: HostRuntime) -> Result<(), Fail> {
-    // The word, the memory word's value before and after it, and x1, x2 and x3 after it. Before it, x1 is
-    // 32 and x2 is -6.
-    let steps = [
-        (0x0820_a1af, 10, 0xffff_fffa, 32, 0xffff_fffa, 10), // amoswap.w x3, x2, (x1)
-        (0x0020_a1af, 10, 4, 32, 0xffff_fffa, 10), // amoadd.w x3, x2, (x1)
-        (0x2020_a1af, 10, 0xffff_fff0, 32, 0xffff_fffa, 10), // amoxor.w x3, x2, (x1)
-        (0x6020_a1af, 15, 10, 32, 0xffff_fffa, 15), // amoand.w x3, x2, (x1)
-        (0x4020_a1af, 5, 0xffff_ffff, 32, 0xffff_fffa, 5), // amoor.w x3, x2, (x1)
-        (0x8020_a1af, 10, 0xffff_fffa, 32, 0xffff_fffa, 10), // amomin.w x3, x2, (x1)
-        (0xa020_a1af, 10, 10, 32, 0xffff_fffa, 10), // amomax.w x3, x2, (x1)
-        (0xc020_a1af, 10, 10, 32, 0xffff_fffa, 10), // amominu.w x3, x2, (x1)
-        (0xe020_a1af, 10, 0xffff_fffa, 32, 0xffff_fffa, 10), // amomaxu.w x3, x2, (x1)
-        (0x0020_a12f, 10, 4, 32, 10, 0), // amoadd.w x2, x2, (x1)
-        (0x0020_a0af, 10, 4, 10, 0xffff_fffa, 0), // amoadd.w x1, x2, (x1)
-        (0x0020_a02f, 10, 4, 32, 0xffff_fffa, 0), // amoadd.w x0, x2, (x1)
-    ];
-    for (word, old, value, x1, x2, x3) in steps {
-        let left = left_of_one(
-            &rt,
-            rt.alloc(),
-            word,
-            (32, 0xffff_fffa),
-            Need::Amo { word: 8 },
-            old,
-        )?;
-        assert_eq!(rt; left, [value, 20, 1, 0, x1, x2, x3], "{word:x}");
+    // The word, and the memory word's value before and after it. Before it, x1 is 32 and x2 is -6.
+    for (word, old, value) in [
+        (0x0820_a1af, 10, 0xffff_fffa), // amoswap.w x3, x2, (x1)
+        (0x0020_a1af, 10, 4), // amoadd.w x3, x2, (x1)
+        (0x2020_a1af, 10, 0xffff_fff0), // amoxor.w x3, x2, (x1)
+        (0x6020_a1af, 15, 10), // amoand.w x3, x2, (x1)
+        (0x4020_a1af, 5, 0xffff_ffff), // amoor.w x3, x2, (x1)
+        (0x8020_a1af, 10, 0xffff_fffa), // amomin.w x3, x2, (x1)
+        (0xa020_a1af, 10, 10), // amomax.w x3, x2, (x1)
+        (0xc020_a1af, 10, 10), // amominu.w x3, x2, (x1)
+        (0xe020_a1af, 10, 0xffff_fffa), // amomaxu.w x3, x2, (x1)
+    ] {
+        let left = left_of_amo(&rt, rt.alloc(), word, old)?;
+        assert_eq!(rt; left, [value, 20, 1, 0, 32, 0xffff_fffa, old], "{word:x}");
+    }
+    // The word, and x1, x2 and x3 after it, where the memory word was 10.
+    for (word, x1, x2, x3) in [
+        (0x0020_a12f, 32, 10, 0), // amoadd.w x2, x2, (x1)
+        (0x0020_a0af, 10, 0xffff_fffa, 0), // amoadd.w x1, x2, (x1)
+        (0x0020_a02f, 32, 0xffff_fffa, 0), // amoadd.w x0, x2, (x1)
+    ] {
+        let left = left_of_amo(&rt, rt.alloc(), word, 10)?;
+        assert_eq!(rt; left, [4, 20, 1, 0, x1, x2, x3], "{word:x}");
     }
     assert!(rt; !Need::Amo { word: 8 }.is_whole());
     Ok(())

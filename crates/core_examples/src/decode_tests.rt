@@ -73,7 +73,7 @@ fn loads_and_jalr(rt: HostRuntime) {
     goes_both_ways(&rt, 0x8004_5383, load(Width::HalfU, 7, 8, -2048));
     goes_both_ways(
         &rt,
-        0xffc2_80e7,
+        0xffc280e7,
         Op::Jalr {
             rd: 1,
             rs1: 5,
@@ -82,7 +82,7 @@ fn loads_and_jalr(rt: HostRuntime) {
     );
     goes_both_ways(
         &rt,
-        0x0000_8067,
+        0x00008067,
         Op::Jalr {
             rd: 0,
             rs1: 1,
@@ -127,7 +127,7 @@ fn branches(rt: HostRuntime) {
 fn uppers_and_jumps(rt: HostRuntime) {
     goes_both_ways(
         &rt,
-        0x1234_52b7,
+        0x123452b7,
         Op::Lui {
             rd: 5,
             upper: 0x1_2345,
@@ -135,7 +135,7 @@ fn uppers_and_jumps(rt: HostRuntime) {
     );
     goes_both_ways(
         &rt,
-        0xffff_ffb7,
+        0xffffffb7,
         Op::Lui {
             rd: 31,
             upper: 0xf_ffff,
@@ -143,7 +143,7 @@ fn uppers_and_jumps(rt: HostRuntime) {
     );
     goes_both_ways(
         &rt,
-        0x8000_00b7,
+        0x800000b7,
         Op::Lui {
             rd: 1,
             upper: 0x8_0000,
@@ -152,7 +152,7 @@ fn uppers_and_jumps(rt: HostRuntime) {
     goes_both_ways(&rt, 0x0000_1117, Op::Auipc { rd: 2, upper: 1 });
     goes_both_ways(
         &rt,
-        0xffff_f197,
+        0xfffff197,
         Op::Auipc {
             rd: 3,
             upper: 0xf_ffff,
@@ -160,7 +160,7 @@ fn uppers_and_jumps(rt: HostRuntime) {
     );
     goes_both_ways(
         &rt,
-        0x0010_00ef,
+        0x001000ef,
         Op::Jal {
             rd: 1,
             offset: 2048,
@@ -170,7 +170,7 @@ fn uppers_and_jumps(rt: HostRuntime) {
     goes_both_ways(&rt, 0xffdf_f2ef, Op::Jal { rd: 5, offset: -4 });
     goes_both_ways(
         &rt,
-        0x7fff_ffef,
+        0x7fffffef,
         Op::Jal {
             rd: 31,
             offset: 1_048_574,
@@ -178,7 +178,7 @@ fn uppers_and_jumps(rt: HostRuntime) {
     );
     goes_both_ways(
         &rt,
-        0x8000_036f,
+        0x8000036f,
         Op::Jal {
             rd: 6,
             offset: -1_048_576,
@@ -186,7 +186,7 @@ fn uppers_and_jumps(rt: HostRuntime) {
     );
     goes_both_ways(
         &rt,
-        0x0000_13ef,
+        0x000013ef,
         Op::Jal {
             rd: 7,
             offset: 4096,
@@ -233,44 +233,16 @@ fn whole_words(rt: HostRuntime) {
 
 #[test]
 fn other_words(rt: HostRuntime) {
-    // FENCE.I, CSRRW, CSRRS, MRET, WFI, MUL, DIVU, LR.W, LR.W.AQRL, SC.W
     for word in [
-        0x0000_100f,
-        0x3052_9073,
-        0xc000_22f3,
-        0x3020_0073,
-        0x1050_0073,
-        0x02c5_8533,
-        0x02c5_d533,
-        0x1002_a32f,
-        0x1602_a32f,
-        0x1872_a32f,
-    ] {
-        assert!(rt; decode(word).is_none(), "{word:08x}");
-    }
-    // of RV64: LWU, LD, SD, ADDIW, ADDW, SRLI by 32, and AMOADD.D
-    for word in [
-        0x0001_6083,
-        0x0001_3083,
-        0x0011_3023,
-        0x0031_009b,
-        0x0031_00bb,
-        0x0205_5313,
-        0x0053_b32f,
-    ] {
-        assert!(rt; decode(word).is_none(), "{word:08x}");
-    }
-    // ECALL with rd 1 and with rs1 1, SLLI with SRAI's funct7, JALR and BEQ with no such funct3, a
-    // 16-bit C.NOP, no bit, every bit
-    for word in [
-        0x0000_00f3,
-        0x0000_8073,
-        0x4045_1313,
-        0x0000_90e7,
-        0x0005_a663,
-        0x0000_0001,
-        0x0000_0000,
-        0xffff_ffff,
+        // FENCE.I, CSRRW, CSRRS, MRET, WFI, MUL, DIVU, LR.W, LR.W.AQRL, SC.W
+        0x0000100f, 0x30529073, 0xc00022f3, 0x30200073, 0x10500073, 0x02c58533, 0x02c5d533,
+        0x1002a32f, 0x1602a32f, 0x1872a32f,
+        // of RV64: LWU, LD, SD, ADDIW, ADDW, SRLI by 32, and AMOADD.D
+        0x00016083, 0x00013083, 0x00113023, 0x0031009b, 0x003100bb, 0x02055313, 0x0053b32f,
+        // ECALL with rd 1 and with rs1 1, SLLI with SRAI's funct7, JALR and BEQ with no such funct3, a
+        // 16-bit C.NOP, no bit, every bit
+        0x000000f3, 0x00008073, 0x40451313, 0x000090e7, 0x0005a663, 0x00000001, 0x00000000,
+        0xffffffff,
     ] {
         assert!(rt; decode(word).is_none(), "{word:08x}");
     }

@@ -7,161 +7,41 @@ use std::alloc::Global;
 use std::process::Abort;
 use std::test::Fail;
 
+// The words of all bits, of all but the top one, and of that one alone.
+const ONES: u32 = 0xffff_ffff;
+
+const MOST: u32 = 0x7fff_ffff;
+
+const TOP: u32 = 0x8000_0000;
+
 // 0, 1, -1, 2^31 - 1 and -2^31.
-const EDGES: [u32; 5] = [0, 1, 0xffff_ffff, 0x7fff_ffff, 0x8000_0000];
+const EDGES: [u32; 5] = [0, 1, ONES, MOST, TOP];
 
-// An operation, and its results by left operand and then by right operand.
-type Results = (Alu, [[u32; 5]; 5]);
+// What an operation leaves, by its left and then by its right operand.
+type Table = [[u32; 5]; 5];
 
-const RESULTS: [Results; 10] = [
-    (
-        Alu::Add,
-        [
-            [0, 1, 0xffff_ffff, 0x7fff_ffff, 0x8000_0000],
-            [1, 2, 0, 0x8000_0000, 0x8000_0001],
-            [0xffff_ffff, 0, 0xffff_fffe, 0x7fff_fffe, 0x7fff_ffff],
-            [
-                0x7fff_ffff,
-                0x8000_0000,
-                0x7fff_fffe,
-                0xffff_fffe,
-                0xffff_ffff,
-            ],
-            [0x8000_0000, 0x8000_0001, 0x7fff_ffff, 0xffff_ffff, 0],
-        ],
-    ),
-    (
-        Alu::Sub,
-        [
-            [0, 0xffff_ffff, 1, 0x8000_0001, 0x8000_0000],
-            [1, 0, 2, 0x8000_0002, 0x8000_0001],
-            [0xffff_ffff, 0xffff_fffe, 0, 0x8000_0000, 0x7fff_ffff],
-            [0x7fff_ffff, 0x7fff_fffe, 0x8000_0000, 0, 0xffff_ffff],
-            [0x8000_0000, 0x7fff_ffff, 0x8000_0001, 1, 0],
-        ],
-    ),
-    (
-        Alu::Sll,
-        [
-            [0, 0, 0, 0, 0],
-            [1, 2, 0x8000_0000, 0x8000_0000, 1],
-            [
-                0xffff_ffff,
-                0xffff_fffe,
-                0x8000_0000,
-                0x8000_0000,
-                0xffff_ffff,
-            ],
-            [
-                0x7fff_ffff,
-                0xffff_fffe,
-                0x8000_0000,
-                0x8000_0000,
-                0x7fff_ffff,
-            ],
-            [0x8000_0000, 0, 0, 0, 0x8000_0000],
-        ],
-    ),
-    (
-        Alu::Slt,
-        [
-            [0, 1, 0, 1, 0],
-            [0, 0, 0, 1, 0],
-            [1, 1, 0, 1, 0],
-            [0, 0, 0, 0, 0],
-            [1, 1, 1, 1, 0],
-        ],
-    ),
-    (
-        Alu::Sltu,
-        [
-            [0, 1, 1, 1, 1],
-            [0, 0, 1, 1, 1],
-            [0, 0, 0, 0, 0],
-            [0, 0, 1, 0, 1],
-            [0, 0, 1, 0, 0],
-        ],
-    ),
-    (
-        Alu::Xor,
-        [
-            [0, 1, 0xffff_ffff, 0x7fff_ffff, 0x8000_0000],
-            [1, 0, 0xffff_fffe, 0x7fff_fffe, 0x8000_0001],
-            [0xffff_ffff, 0xffff_fffe, 0, 0x8000_0000, 0x7fff_ffff],
-            [0x7fff_ffff, 0x7fff_fffe, 0x8000_0000, 0, 0xffff_ffff],
-            [0x8000_0000, 0x8000_0001, 0x7fff_ffff, 0xffff_ffff, 0],
-        ],
-    ),
-    (
-        Alu::Srl,
-        [
-            [0, 0, 0, 0, 0],
-            [1, 0, 0, 0, 1],
-            [0xffff_ffff, 0x7fff_ffff, 1, 1, 0xffff_ffff],
-            [0x7fff_ffff, 0x3fff_ffff, 0, 0, 0x7fff_ffff],
-            [0x8000_0000, 0x4000_0000, 1, 1, 0x8000_0000],
-        ],
-    ),
-    (
-        Alu::Sra,
-        [
-            [0, 0, 0, 0, 0],
-            [1, 0, 0, 0, 1],
-            [
-                0xffff_ffff,
-                0xffff_ffff,
-                0xffff_ffff,
-                0xffff_ffff,
-                0xffff_ffff,
-            ],
-            [0x7fff_ffff, 0x3fff_ffff, 0, 0, 0x7fff_ffff],
-            [
-                0x8000_0000,
-                0xc000_0000,
-                0xffff_ffff,
-                0xffff_ffff,
-                0x8000_0000,
-            ],
-        ],
-    ),
-    (
-        Alu::Or,
-        [
-            [0, 1, 0xffff_ffff, 0x7fff_ffff, 0x8000_0000],
-            [1, 1, 0xffff_ffff, 0x7fff_ffff, 0x8000_0001],
-            [
-                0xffff_ffff,
-                0xffff_ffff,
-                0xffff_ffff,
-                0xffff_ffff,
-                0xffff_ffff,
-            ],
-            [
-                0x7fff_ffff,
-                0x7fff_ffff,
-                0xffff_ffff,
-                0x7fff_ffff,
-                0xffff_ffff,
-            ],
-            [
-                0x8000_0000,
-                0x8000_0001,
-                0xffff_ffff,
-                0xffff_ffff,
-                0x8000_0000,
-            ],
-        ],
-    ),
-    (
-        Alu::And,
-        [
-            [0, 0, 0, 0, 0],
-            [0, 1, 1, 1, 0],
-            [0, 1, 0xffff_ffff, 0x7fff_ffff, 0x8000_0000],
-            [0, 1, 0x7fff_ffff, 0x7fff_ffff, 0],
-            [0, 0, 0x8000_0000, 0, 0x8000_0000],
-        ],
-    ),
+macro_rules! edges {
+    ($op:path: $([$($word:tt)+])+) => { ($op, [$([$($word),+]),+]) };
+}
+
+const RESULTS: [(Alu, Table); 10] = [
+    edges!(Alu::Add: [0 1 ONES MOST TOP] [1 2 0 TOP 0x8000_0001] [ONES 0 0xffff_fffe 0x7fff_fffe MOST]
+        [MOST TOP 0x7fff_fffe 0xffff_fffe ONES] [TOP 0x8000_0001 MOST ONES 0]),
+    edges!(Alu::Sub: [0 ONES 1 0x8000_0001 TOP] [1 0 2 0x8000_0002 0x8000_0001] [ONES 0xffff_fffe 0 TOP MOST]
+        [MOST 0x7fff_fffe TOP 0 ONES] [TOP MOST 0x8000_0001 1 0]),
+    edges!(Alu::Sll: [0 0 0 0 0] [1 2 TOP TOP 1] [ONES 0xffff_fffe TOP TOP ONES] [MOST 0xffff_fffe TOP TOP MOST]
+        [TOP 0 0 0 TOP]),
+    edges!(Alu::Slt: [0 1 0 1 0] [0 0 0 1 0] [1 1 0 1 0] [0 0 0 0 0] [1 1 1 1 0]),
+    edges!(Alu::Sltu: [0 1 1 1 1] [0 0 1 1 1] [0 0 0 0 0] [0 0 1 0 1] [0 0 1 0 0]),
+    edges!(Alu::Xor: [0 1 ONES MOST TOP] [1 0 0xffff_fffe 0x7fff_fffe 0x8000_0001] [ONES 0xffff_fffe 0 TOP MOST]
+        [MOST 0x7fff_fffe TOP 0 ONES] [TOP 0x8000_0001 MOST ONES 0]),
+    edges!(Alu::Srl: [0 0 0 0 0] [1 0 0 0 1] [ONES MOST 1 1 ONES] [MOST 0x3fff_ffff 0 0 MOST]
+        [TOP 0x4000_0000 1 1 TOP]),
+    edges!(Alu::Sra: [0 0 0 0 0] [1 0 0 0 1] [ONES ONES ONES ONES ONES] [MOST 0x3fff_ffff 0 0 MOST]
+        [TOP 0xc000_0000 ONES ONES TOP]),
+    edges!(Alu::Or: [0 1 ONES MOST TOP] [1 1 ONES MOST 0x8000_0001] [ONES ONES ONES ONES ONES]
+        [MOST MOST ONES MOST ONES] [TOP 0x8000_0001 ONES ONES TOP]),
+    edges!(Alu::And: [0 0 0 0 0] [0 1 1 1 0] [0 1 ONES MOST TOP] [0 1 MOST MOST 0] [0 0 TOP 0 TOP]),
 ];
 
 // The image of this instruction alone.
@@ -187,7 +67,7 @@ fn result_of(rt: &impl Abort, image: &Image, x1: u32, x2: u32) -> u32 {
     core.reg(3)
 }
 
-fn results_are(rt: &impl Abort, image: &Image, results: &[[u32; 5]; 5]) {
+fn results_are(rt: &impl Abort, image: &Image, results: &Table) {
     for (left, row) in EDGES.iter().zip(results.iter()) {
         for (right, want) in EDGES.iter().zip(row.iter()) {
             assert_eq!(rt;
@@ -213,86 +93,15 @@ fn operations_at_the_edges(rt: HostRuntime) -> Result<(), Fail> {
     Ok(())
 }
 
-// An atomic memory operation, and what it leaves by the word's old value and then by rs2.
-type Exchanges = (AmoOp, [[u32; 5]; 5]);
-
-const EXCHANGES: [Exchanges; 4] = [
-    (
-        AmoOp::Min,
-        [
-            [0, 0, 0xffff_ffff, 0, 0x8000_0000],
-            [0, 1, 0xffff_ffff, 1, 0x8000_0000],
-            [
-                0xffff_ffff,
-                0xffff_ffff,
-                0xffff_ffff,
-                0xffff_ffff,
-                0x8000_0000,
-            ],
-            [0, 1, 0xffff_ffff, 0x7fff_ffff, 0x8000_0000],
-            [
-                0x8000_0000,
-                0x8000_0000,
-                0x8000_0000,
-                0x8000_0000,
-                0x8000_0000,
-            ],
-        ],
-    ),
-    (
-        AmoOp::Max,
-        [
-            [0, 1, 0, 0x7fff_ffff, 0],
-            [1, 1, 1, 0x7fff_ffff, 1],
-            [0, 1, 0xffff_ffff, 0x7fff_ffff, 0xffff_ffff],
-            [
-                0x7fff_ffff,
-                0x7fff_ffff,
-                0x7fff_ffff,
-                0x7fff_ffff,
-                0x7fff_ffff,
-            ],
-            [0, 1, 0xffff_ffff, 0x7fff_ffff, 0x8000_0000],
-        ],
-    ),
-    (
-        AmoOp::Minu,
-        [
-            [0, 0, 0, 0, 0],
-            [0, 1, 1, 1, 1],
-            [0, 1, 0xffff_ffff, 0x7fff_ffff, 0x8000_0000],
-            [0, 1, 0x7fff_ffff, 0x7fff_ffff, 0x7fff_ffff],
-            [0, 1, 0x8000_0000, 0x7fff_ffff, 0x8000_0000],
-        ],
-    ),
-    (
-        AmoOp::Maxu,
-        [
-            [0, 1, 0xffff_ffff, 0x7fff_ffff, 0x8000_0000],
-            [1, 1, 0xffff_ffff, 0x7fff_ffff, 0x8000_0000],
-            [
-                0xffff_ffff,
-                0xffff_ffff,
-                0xffff_ffff,
-                0xffff_ffff,
-                0xffff_ffff,
-            ],
-            [
-                0x7fff_ffff,
-                0x7fff_ffff,
-                0xffff_ffff,
-                0x7fff_ffff,
-                0x8000_0000,
-            ],
-            [
-                0x8000_0000,
-                0x8000_0000,
-                0xffff_ffff,
-                0x8000_0000,
-                0x8000_0000,
-            ],
-        ],
-    ),
+// What an atomic memory operation leaves, by the word's old value and then by rs2.
+const EXCHANGES: [(AmoOp, Table); 4] = [
+    edges!(AmoOp::Min: [0 0 ONES 0 TOP] [0 1 ONES 1 TOP] [ONES ONES ONES ONES TOP] [0 1 ONES MOST TOP]
+        [TOP TOP TOP TOP TOP]),
+    edges!(AmoOp::Max: [0 1 0 MOST 0] [1 1 1 MOST 1] [0 1 ONES MOST ONES] [MOST MOST MOST MOST MOST]
+        [0 1 ONES MOST TOP]),
+    edges!(AmoOp::Minu: [0 0 0 0 0] [0 1 1 1 1] [0 1 ONES MOST TOP] [0 1 MOST MOST MOST] [0 1 TOP MOST TOP]),
+    edges!(AmoOp::Maxu: [0 1 ONES MOST TOP] [1 1 ONES MOST TOP] [ONES ONES ONES ONES ONES] [MOST MOST ONES MOST TOP]
+        [TOP TOP ONES TOP TOP]),
 ];
 
 // What the operation leaves in the word at 4 that had `old`, where x2 is the value.
@@ -304,7 +113,7 @@ fn left_of(rt: &impl Abort, image: &Image, old: u32, value: u32) -> u32 {
     left
 }
 
-fn exchanges_are(rt: &impl Abort, image: &Image, exchanges: &[[u32; 5]; 5]) {
+fn exchanges_are(rt: &impl Abort, image: &Image, exchanges: &Table) {
     for (old, row) in EDGES.iter().zip(exchanges.iter()) {
         for (value, want) in EDGES.iter().zip(row.iter()) {
             assert_eq!(rt;

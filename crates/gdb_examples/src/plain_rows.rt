@@ -7,723 +7,163 @@ pub struct Row {
     pub asks: Plain,
 }
 
+macro_rules! asks {
+    ($payload:literal => $asks:expr) => {
+        Row { payload: $payload, asks: $asks }
+    };
+}
+
 /// What the sessions have, each once, but for commands and for threads that go on.
 pub static SESSIONS: [Row; 100] = [
-    Row {
-        payload: "?",
-        asks: Plain::LastStop,
-    },
-    Row {
-        payload: "D",
-        asks: Plain::Detach,
-    },
-    Row {
-        payload: "Hc-1",
-        asks: Plain::MoveWith(Thread::All),
-    },
-    Row {
-        payload: "Hc0",
-        asks: Plain::MoveWith(Thread::Any),
-    },
-    Row {
-        payload: "Hc1",
-        asks: Plain::MoveWith(Thread::Core(0)),
-    },
-    Row {
-        payload: "Hc2",
-        asks: Plain::MoveWith(Thread::Core(1)),
-    },
-    Row {
-        payload: "Hc3",
-        asks: Plain::MoveWith(Thread::Core(2)),
-    },
-    Row {
-        payload: "Hc4",
-        asks: Plain::MoveWith(Thread::Core(3)),
-    },
-    Row {
-        payload: "Hg0",
-        asks: Plain::LookAt(Thread::Any),
-    },
-    Row {
-        payload: "Hg1",
-        asks: Plain::LookAt(Thread::Core(0)),
-    },
-    Row {
-        payload: "Hg10",
-        asks: Plain::LookAt(Thread::Core(15)),
-    },
-    Row {
-        payload: "Hg2",
-        asks: Plain::LookAt(Thread::Core(1)),
-    },
-    Row {
-        payload: "Hg3",
-        asks: Plain::LookAt(Thread::Core(2)),
-    },
-    Row {
-        payload: "Hg4",
-        asks: Plain::LookAt(Thread::Core(3)),
-    },
-    Row {
-        payload: "Hg5",
-        asks: Plain::LookAt(Thread::Core(4)),
-    },
-    Row {
-        payload: "Hg6",
-        asks: Plain::LookAt(Thread::Core(5)),
-    },
-    Row {
-        payload: "Hg7",
-        asks: Plain::LookAt(Thread::Core(6)),
-    },
-    Row {
-        payload: "Hg8",
-        asks: Plain::LookAt(Thread::Core(7)),
-    },
-    Row {
-        payload: "Hg9",
-        asks: Plain::LookAt(Thread::Core(8)),
-    },
-    Row {
-        payload: "Hga",
-        asks: Plain::LookAt(Thread::Core(9)),
-    },
-    Row {
-        payload: "Hgb",
-        asks: Plain::LookAt(Thread::Core(10)),
-    },
-    Row {
-        payload: "Hgc",
-        asks: Plain::LookAt(Thread::Core(11)),
-    },
-    Row {
-        payload: "Hgd",
-        asks: Plain::LookAt(Thread::Core(12)),
-    },
-    Row {
-        payload: "Hge",
-        asks: Plain::LookAt(Thread::Core(13)),
-    },
-    Row {
-        payload: "Hgf",
-        asks: Plain::LookAt(Thread::Core(14)),
-    },
-    Row {
-        payload: "P20=64000000",
-        asks: Plain::Write,
-    },
-    Row {
-        payload: "Pa=07000000",
-        asks: Plain::Write,
-    },
-    Row {
-        payload: "QStartNoAckMode",
-        asks: Plain::StopAcks,
-    },
-    Row {
-        payload: "T1",
-        asks: Plain::IsThere(Thread::Core(0)),
-    },
-    Row {
-        payload: "T2",
-        asks: Plain::IsThere(Thread::Core(1)),
-    },
-    Row {
-        payload: "T4",
-        asks: Plain::IsThere(Thread::Core(3)),
-    },
-    Row {
-        payload: "T9",
-        asks: Plain::IsThere(Thread::Core(8)),
-    },
-    Row {
-        payload: "X10f0,0:",
-        asks: Plain::Write,
-    },
-    Row {
-        payload: "Z0,14c,4",
-        asks: Plain::SetPoint(
-            PointKind::Software,
-            Span {
-                at: 0x14c,
-                len: 0x4,
-            },
-        ),
-    },
-    Row {
-        payload: "Z0,2c,4",
-        asks: Plain::SetPoint(PointKind::Software, Span { at: 0x2c, len: 0x4 }),
-    },
-    Row {
-        payload: "Z0,40,4",
-        asks: Plain::SetPoint(PointKind::Software, Span { at: 0x40, len: 0x4 }),
-    },
-    Row {
-        payload: "Z0,64,4",
-        asks: Plain::SetPoint(PointKind::Software, Span { at: 0x64, len: 0x4 }),
-    },
-    Row {
-        payload: "Z0,6c,4",
-        asks: Plain::SetPoint(PointKind::Software, Span { at: 0x6c, len: 0x4 }),
-    },
-    Row {
-        payload: "Z0,78,4",
-        asks: Plain::SetPoint(PointKind::Software, Span { at: 0x78, len: 0x4 }),
-    },
-    Row {
-        payload: "Z0,88,4",
-        asks: Plain::SetPoint(PointKind::Software, Span { at: 0x88, len: 0x4 }),
-    },
-    Row {
-        payload: "Z0,98,4",
-        asks: Plain::SetPoint(PointKind::Software, Span { at: 0x98, len: 0x4 }),
-    },
-    Row {
-        payload: "Z2,1098,4",
-        asks: Plain::SetPoint(
-            PointKind::Watch(Watch::Write),
-            Span {
-                at: 0x1098,
-                len: 0x4,
-            },
-        ),
-    },
-    Row {
-        payload: "Z2,10f0,4",
-        asks: Plain::SetPoint(
-            PointKind::Watch(Watch::Write),
-            Span {
-                at: 0x10f0,
-                len: 0x4,
-            },
-        ),
-    },
-    Row {
-        payload: "Z2,10fc,4",
-        asks: Plain::SetPoint(
-            PointKind::Watch(Watch::Write),
-            Span {
-                at: 0x10fc,
-                len: 0x4,
-            },
-        ),
-    },
-    Row {
-        payload: "Z3,10f0,4",
-        asks: Plain::SetPoint(
-            PointKind::Watch(Watch::Read),
-            Span {
-                at: 0x10f0,
-                len: 0x4,
-            },
-        ),
-    },
-    Row {
-        payload: "Z4,10f0,4",
-        asks: Plain::SetPoint(
-            PointKind::Watch(Watch::Access),
-            Span {
-                at: 0x10f0,
-                len: 0x4,
-            },
-        ),
-    },
-    Row {
-        payload: "bc",
-        asks: Plain::GoBack,
-    },
-    Row {
-        payload: "bs",
-        asks: Plain::StepBack,
-    },
-    Row {
-        payload: "g",
-        asks: Plain::Registers,
-    },
-    Row {
-        payload: "m0,40",
-        asks: Plain::Memory(Span { at: 0x0, len: 0x40 }),
-    },
-    Row {
-        payload: "m0,c4",
-        asks: Plain::Memory(Span { at: 0x0, len: 0xc4 }),
-    },
-    Row {
-        payload: "m10000,4",
-        asks: Plain::Memory(Span {
-            at: 0x10000,
-            len: 0x4,
-        }),
-    },
-    Row {
-        payload: "m1098,4",
-        asks: Plain::Memory(Span {
-            at: 0x1098,
-            len: 0x4,
-        }),
-    },
-    Row {
-        payload: "m10f0,4",
-        asks: Plain::Memory(Span {
-            at: 0x10f0,
-            len: 0x4,
-        }),
-    },
-    Row {
-        payload: "m10fc,4",
-        asks: Plain::Memory(Span {
-            at: 0x10fc,
-            len: 0x4,
-        }),
-    },
-    Row {
-        payload: "m140,40",
-        asks: Plain::Memory(Span {
-            at: 0x140,
-            len: 0x40,
-        }),
-    },
-    Row {
-        payload: "m14c,4",
-        asks: Plain::Memory(Span {
-            at: 0x14c,
-            len: 0x4,
-        }),
-    },
-    Row {
-        payload: "m2c,4",
-        asks: Plain::Memory(Span { at: 0x2c, len: 0x4 }),
-    },
-    Row {
-        payload: "m40,4",
-        asks: Plain::Memory(Span { at: 0x40, len: 0x4 }),
-    },
-    Row {
-        payload: "m40,40",
-        asks: Plain::Memory(Span {
-            at: 0x40,
-            len: 0x40,
-        }),
-    },
-    Row {
-        payload: "m64,4",
-        asks: Plain::Memory(Span { at: 0x64, len: 0x4 }),
-    },
-    Row {
-        payload: "m6c,4",
-        asks: Plain::Memory(Span { at: 0x6c, len: 0x4 }),
-    },
-    Row {
-        payload: "m78,4",
-        asks: Plain::Memory(Span { at: 0x78, len: 0x4 }),
-    },
-    Row {
-        payload: "m80,40",
-        asks: Plain::Memory(Span {
-            at: 0x80,
-            len: 0x40,
-        }),
-    },
-    Row {
-        payload: "m8380,40",
-        asks: Plain::Memory(Span {
-            at: 0x8380,
-            len: 0x40,
-        }),
-    },
-    Row {
-        payload: "m83c0,40",
-        asks: Plain::Memory(Span {
-            at: 0x83c0,
-            len: 0x40,
-        }),
-    },
-    Row {
-        payload: "m8780,40",
-        asks: Plain::Memory(Span {
-            at: 0x8780,
-            len: 0x40,
-        }),
-    },
-    Row {
-        payload: "m87c0,40",
-        asks: Plain::Memory(Span {
-            at: 0x87c0,
-            len: 0x40,
-        }),
-    },
-    Row {
-        payload: "m88,4",
-        asks: Plain::Memory(Span { at: 0x88, len: 0x4 }),
-    },
-    Row {
-        payload: "m8bc0,40",
-        asks: Plain::Memory(Span {
-            at: 0x8bc0,
-            len: 0x40,
-        }),
-    },
-    Row {
-        payload: "m8fc0,40",
-        asks: Plain::Memory(Span {
-            at: 0x8fc0,
-            len: 0x40,
-        }),
-    },
-    Row {
-        payload: "m98,4",
-        asks: Plain::Memory(Span { at: 0x98, len: 0x4 }),
-    },
-    Row {
-        payload: "mc4,2c",
-        asks: Plain::Memory(Span {
-            at: 0xc4,
-            len: 0x2c,
-        }),
-    },
-    Row {
-        payload: "mfffc,4",
-        asks: Plain::Memory(Span {
-            at: 0xfffc,
-            len: 0x4,
-        }),
-    },
-    Row {
-        payload: "mffffffc0,40",
-        asks: Plain::Memory(Span {
-            at: 0xffffffc0,
-            len: 0x40,
-        }),
-    },
-    Row {
-        payload: "mffffffe0,1",
-        asks: Plain::Memory(Span {
-            at: 0xffffffe0,
-            len: 0x1,
-        }),
-    },
-    Row {
-        payload: "qAttached",
-        asks: Plain::Attached,
-    },
-    Row {
-        payload: "qCRC:0,c4",
-        asks: Plain::Unknown,
-    },
-    Row {
-        payload: "qOffsets",
-        asks: Plain::Unknown,
-    },
-    Row {
-        payload: "qSupported:multiprocess+;swbreak+;hwbreak+;qRelocInsn+;fork-events+;vfork-events+;exec-events+;\
-            vContSupported+;QThreadEvents+;no-resumed+;memory-tagging+;xmlRegisters=i386",
-        asks: Plain::Features,
-    },
-    Row {
-        payload: "qSymbol::",
-        asks: Plain::Unknown,
-    },
-    Row {
-        payload: "qTStatus",
-        asks: Plain::Unknown,
-    },
-    Row {
-        payload: "qXfer:features:read:target.xml:0,ffb",
-        asks: Plain::TargetPart(Span {
-            at: 0x0,
-            len: 0xffb,
-        }),
-    },
-    Row {
-        payload: "qXfer:threads:read::0,ffb",
-        asks: Plain::ThreadsPart(Span {
-            at: 0x0,
-            len: 0xffb,
-        }),
-    },
-    Row {
-        payload: "vCont?",
-        asks: Plain::ResumeKinds,
-    },
-    Row {
-        payload: "vKill;a410",
-        asks: Plain::Kill,
-    },
-    Row {
-        payload: "vMustReplyEmpty",
-        asks: Plain::Unknown,
-    },
-    Row {
-        payload: "z0,14c,4",
-        asks: Plain::ClearPoint(
-            PointKind::Software,
-            Span {
-                at: 0x14c,
-                len: 0x4,
-            },
-        ),
-    },
-    Row {
-        payload: "z0,2c,4",
-        asks: Plain::ClearPoint(PointKind::Software, Span { at: 0x2c, len: 0x4 }),
-    },
-    Row {
-        payload: "z0,40,4",
-        asks: Plain::ClearPoint(PointKind::Software, Span { at: 0x40, len: 0x4 }),
-    },
-    Row {
-        payload: "z0,64,4",
-        asks: Plain::ClearPoint(PointKind::Software, Span { at: 0x64, len: 0x4 }),
-    },
-    Row {
-        payload: "z0,6c,4",
-        asks: Plain::ClearPoint(PointKind::Software, Span { at: 0x6c, len: 0x4 }),
-    },
-    Row {
-        payload: "z0,78,4",
-        asks: Plain::ClearPoint(PointKind::Software, Span { at: 0x78, len: 0x4 }),
-    },
-    Row {
-        payload: "z0,88,4",
-        asks: Plain::ClearPoint(PointKind::Software, Span { at: 0x88, len: 0x4 }),
-    },
-    Row {
-        payload: "z0,98,4",
-        asks: Plain::ClearPoint(PointKind::Software, Span { at: 0x98, len: 0x4 }),
-    },
-    Row {
-        payload: "z2,1098,4",
-        asks: Plain::ClearPoint(
-            PointKind::Watch(Watch::Write),
-            Span {
-                at: 0x1098,
-                len: 0x4,
-            },
-        ),
-    },
-    Row {
-        payload: "z2,10f0,4",
-        asks: Plain::ClearPoint(
-            PointKind::Watch(Watch::Write),
-            Span {
-                at: 0x10f0,
-                len: 0x4,
-            },
-        ),
-    },
-    Row {
-        payload: "z2,10fc,4",
-        asks: Plain::ClearPoint(
-            PointKind::Watch(Watch::Write),
-            Span {
-                at: 0x10fc,
-                len: 0x4,
-            },
-        ),
-    },
-    Row {
-        payload: "z3,10f0,4",
-        asks: Plain::ClearPoint(
-            PointKind::Watch(Watch::Read),
-            Span {
-                at: 0x10f0,
-                len: 0x4,
-            },
-        ),
-    },
-    Row {
-        payload: "z4,10f0,4",
-        asks: Plain::ClearPoint(
-            PointKind::Watch(Watch::Access),
-            Span {
-                at: 0x10f0,
-                len: 0x4,
-            },
-        ),
-    },
+    asks!("?" => Plain::LastStop),
+    asks!("D" => Plain::Detach),
+    asks!("Hc-1" => Plain::MoveWith(Thread::All)),
+    asks!("Hc0" => Plain::MoveWith(Thread::Any)),
+    asks!("Hc1" => Plain::MoveWith(Thread::Core(0))),
+    asks!("Hc2" => Plain::MoveWith(Thread::Core(1))),
+    asks!("Hc3" => Plain::MoveWith(Thread::Core(2))),
+    asks!("Hc4" => Plain::MoveWith(Thread::Core(3))),
+    asks!("Hg0" => Plain::LookAt(Thread::Any)),
+    asks!("Hg1" => Plain::LookAt(Thread::Core(0))),
+    asks!("Hg10" => Plain::LookAt(Thread::Core(15))),
+    asks!("Hg2" => Plain::LookAt(Thread::Core(1))),
+    asks!("Hg3" => Plain::LookAt(Thread::Core(2))),
+    asks!("Hg4" => Plain::LookAt(Thread::Core(3))),
+    asks!("Hg5" => Plain::LookAt(Thread::Core(4))),
+    asks!("Hg6" => Plain::LookAt(Thread::Core(5))),
+    asks!("Hg7" => Plain::LookAt(Thread::Core(6))),
+    asks!("Hg8" => Plain::LookAt(Thread::Core(7))),
+    asks!("Hg9" => Plain::LookAt(Thread::Core(8))),
+    asks!("Hga" => Plain::LookAt(Thread::Core(9))),
+    asks!("Hgb" => Plain::LookAt(Thread::Core(10))),
+    asks!("Hgc" => Plain::LookAt(Thread::Core(11))),
+    asks!("Hgd" => Plain::LookAt(Thread::Core(12))),
+    asks!("Hge" => Plain::LookAt(Thread::Core(13))),
+    asks!("Hgf" => Plain::LookAt(Thread::Core(14))),
+    asks!("P20=64000000" => Plain::Write),
+    asks!("Pa=07000000" => Plain::Write),
+    asks!("QStartNoAckMode" => Plain::StopAcks),
+    asks!("T1" => Plain::IsThere(Thread::Core(0))),
+    asks!("T2" => Plain::IsThere(Thread::Core(1))),
+    asks!("T4" => Plain::IsThere(Thread::Core(3))),
+    asks!("T9" => Plain::IsThere(Thread::Core(8))),
+    asks!("X10f0,0:" => Plain::Write),
+    asks!("Z0,14c,4" => Plain::SetPoint(PointKind::Software, Span { at: 0x14c, len: 0x4 })),
+    asks!("Z0,2c,4" => Plain::SetPoint(PointKind::Software, Span { at: 0x2c, len: 0x4 })),
+    asks!("Z0,40,4" => Plain::SetPoint(PointKind::Software, Span { at: 0x40, len: 0x4 })),
+    asks!("Z0,64,4" => Plain::SetPoint(PointKind::Software, Span { at: 0x64, len: 0x4 })),
+    asks!("Z0,6c,4" => Plain::SetPoint(PointKind::Software, Span { at: 0x6c, len: 0x4 })),
+    asks!("Z0,78,4" => Plain::SetPoint(PointKind::Software, Span { at: 0x78, len: 0x4 })),
+    asks!("Z0,88,4" => Plain::SetPoint(PointKind::Software, Span { at: 0x88, len: 0x4 })),
+    asks!("Z0,98,4" => Plain::SetPoint(PointKind::Software, Span { at: 0x98, len: 0x4 })),
+    asks!("Z2,1098,4" => Plain::SetPoint(PointKind::Watch(Watch::Write), Span { at: 0x1098, len: 0x4 })),
+    asks!("Z2,10f0,4" => Plain::SetPoint(PointKind::Watch(Watch::Write), Span { at: 0x10f0, len: 0x4 })),
+    asks!("Z2,10fc,4" => Plain::SetPoint(PointKind::Watch(Watch::Write), Span { at: 0x10fc, len: 0x4 })),
+    asks!("Z3,10f0,4" => Plain::SetPoint(PointKind::Watch(Watch::Read), Span { at: 0x10f0, len: 0x4 })),
+    asks!("Z4,10f0,4" => Plain::SetPoint(PointKind::Watch(Watch::Access), Span { at: 0x10f0, len: 0x4 })),
+    asks!("bc" => Plain::GoBack),
+    asks!("bs" => Plain::StepBack),
+    asks!("g" => Plain::Registers),
+    asks!("m0,40" => Plain::Memory(Span { at: 0x0, len: 0x40 })),
+    asks!("m0,c4" => Plain::Memory(Span { at: 0x0, len: 0xc4 })),
+    asks!("m10000,4" => Plain::Memory(Span { at: 0x10000, len: 0x4 })),
+    asks!("m1098,4" => Plain::Memory(Span { at: 0x1098, len: 0x4 })),
+    asks!("m10f0,4" => Plain::Memory(Span { at: 0x10f0, len: 0x4 })),
+    asks!("m10fc,4" => Plain::Memory(Span { at: 0x10fc, len: 0x4 })),
+    asks!("m140,40" => Plain::Memory(Span { at: 0x140, len: 0x40 })),
+    asks!("m14c,4" => Plain::Memory(Span { at: 0x14c, len: 0x4 })),
+    asks!("m2c,4" => Plain::Memory(Span { at: 0x2c, len: 0x4 })),
+    asks!("m40,4" => Plain::Memory(Span { at: 0x40, len: 0x4 })),
+    asks!("m40,40" => Plain::Memory(Span { at: 0x40, len: 0x40 })),
+    asks!("m64,4" => Plain::Memory(Span { at: 0x64, len: 0x4 })),
+    asks!("m6c,4" => Plain::Memory(Span { at: 0x6c, len: 0x4 })),
+    asks!("m78,4" => Plain::Memory(Span { at: 0x78, len: 0x4 })),
+    asks!("m80,40" => Plain::Memory(Span { at: 0x80, len: 0x40 })),
+    asks!("m8380,40" => Plain::Memory(Span { at: 0x8380, len: 0x40 })),
+    asks!("m83c0,40" => Plain::Memory(Span { at: 0x83c0, len: 0x40 })),
+    asks!("m8780,40" => Plain::Memory(Span { at: 0x8780, len: 0x40 })),
+    asks!("m87c0,40" => Plain::Memory(Span { at: 0x87c0, len: 0x40 })),
+    asks!("m88,4" => Plain::Memory(Span { at: 0x88, len: 0x4 })),
+    asks!("m8bc0,40" => Plain::Memory(Span { at: 0x8bc0, len: 0x40 })),
+    asks!("m8fc0,40" => Plain::Memory(Span { at: 0x8fc0, len: 0x40 })),
+    asks!("m98,4" => Plain::Memory(Span { at: 0x98, len: 0x4 })),
+    asks!("mc4,2c" => Plain::Memory(Span { at: 0xc4, len: 0x2c })),
+    asks!("mfffc,4" => Plain::Memory(Span { at: 0xfffc, len: 0x4 })),
+    asks!("mffffffc0,40" => Plain::Memory(Span { at: 0xffffffc0, len: 0x40 })),
+    asks!("mffffffe0,1" => Plain::Memory(Span { at: 0xffffffe0, len: 0x1 })),
+    asks!("qAttached" => Plain::Attached),
+    asks!("qCRC:0,c4" => Plain::Unknown),
+    asks!("qOffsets" => Plain::Unknown),
+    asks!("qSupported:multiprocess+;swbreak+;hwbreak+;qRelocInsn+;fork-events+;vfork-events+;exec-events+;\
+            vContSupported+;QThreadEvents+;no-resumed+;memory-tagging+;xmlRegisters=i386" =>
+        Plain::Features),
+    asks!("qSymbol::" => Plain::Unknown),
+    asks!("qTStatus" => Plain::Unknown),
+    asks!("qXfer:features:read:target.xml:0,ffb" => Plain::TargetPart(Span { at: 0x0, len: 0xffb })),
+    asks!("qXfer:threads:read::0,ffb" => Plain::ThreadsPart(Span { at: 0x0, len: 0xffb })),
+    asks!("vCont?" => Plain::ResumeKinds),
+    asks!("vKill;a410" => Plain::Kill),
+    asks!("vMustReplyEmpty" => Plain::Unknown),
+    asks!("z0,14c,4" => Plain::ClearPoint(PointKind::Software, Span { at: 0x14c, len: 0x4 })),
+    asks!("z0,2c,4" => Plain::ClearPoint(PointKind::Software, Span { at: 0x2c, len: 0x4 })),
+    asks!("z0,40,4" => Plain::ClearPoint(PointKind::Software, Span { at: 0x40, len: 0x4 })),
+    asks!("z0,64,4" => Plain::ClearPoint(PointKind::Software, Span { at: 0x64, len: 0x4 })),
+    asks!("z0,6c,4" => Plain::ClearPoint(PointKind::Software, Span { at: 0x6c, len: 0x4 })),
+    asks!("z0,78,4" => Plain::ClearPoint(PointKind::Software, Span { at: 0x78, len: 0x4 })),
+    asks!("z0,88,4" => Plain::ClearPoint(PointKind::Software, Span { at: 0x88, len: 0x4 })),
+    asks!("z0,98,4" => Plain::ClearPoint(PointKind::Software, Span { at: 0x98, len: 0x4 })),
+    asks!("z2,1098,4" => Plain::ClearPoint(PointKind::Watch(Watch::Write), Span { at: 0x1098, len: 0x4 })),
+    asks!("z2,10f0,4" => Plain::ClearPoint(PointKind::Watch(Watch::Write), Span { at: 0x10f0, len: 0x4 })),
+    asks!("z2,10fc,4" => Plain::ClearPoint(PointKind::Watch(Watch::Write), Span { at: 0x10fc, len: 0x4 })),
+    asks!("z3,10f0,4" => Plain::ClearPoint(PointKind::Watch(Watch::Read), Span { at: 0x10f0, len: 0x4 })),
+    asks!("z4,10f0,4" => Plain::ClearPoint(PointKind::Watch(Watch::Access), Span { at: 0x10f0, len: 0x4 })),
 ];
 
 /// Other packets, and malformed and unknown ones.
 pub static OTHERS: [Row; 45] = [
-    Row {
-        payload: "qC",
-        asks: Plain::ToldThread,
-    },
-    Row {
-        payload: "k",
-        asks: Plain::Quit,
-    },
-    Row {
-        payload: "qfThreadInfo",
-        asks: Plain::ThreadsFirst,
-    },
-    Row {
-        payload: "qsThreadInfo",
-        asks: Plain::ThreadsRest,
-    },
-    Row {
-        payload: "D;1",
-        asks: Plain::Detach,
-    },
-    Row {
-        payload: "qAttached:a410",
-        asks: Plain::Attached,
-    },
-    Row {
-        payload: "p20",
-        asks: Plain::Register(32),
-    },
-    Row {
-        payload: "pffffffffffffffff",
-        asks: Plain::Register(0xffff_ffff_ffff_ffff),
-    },
-    Row {
-        payload: "Z1,2C,4",
-        asks: Plain::SetPoint(PointKind::Hardware, Span { at: 0x2c, len: 4 }),
-    },
-    Row {
-        payload: "qThreadExtraInfo,3",
-        asks: Plain::ThreadText(Thread::Core(2)),
-    },
-    Row {
-        payload: "qXfer:features:read:other.xml:0,ffb",
-        asks: Plain::OtherPart,
-    },
-    Row {
-        payload: "qXfer:auxv:read::0,1000",
-        asks: Plain::OtherPart,
-    },
-    Row {
-        payload: "Hc",
-        asks: Plain::Malformed,
-    },
-    Row {
-        payload: "Hg-2",
-        asks: Plain::Malformed,
-    },
-    Row {
-        payload: "Hgx",
-        asks: Plain::Malformed,
-    },
-    Row {
-        payload: "T",
-        asks: Plain::Malformed,
-    },
-    Row {
-        payload: "p",
-        asks: Plain::Malformed,
-    },
-    Row {
-        payload: "p0x1",
-        asks: Plain::Malformed,
-    },
-    Row {
-        payload: "p10000000000000000",
-        asks: Plain::Malformed,
-    },
-    Row {
-        payload: "m10",
-        asks: Plain::Malformed,
-    },
-    Row {
-        payload: "m10,",
-        asks: Plain::Malformed,
-    },
-    Row {
-        payload: "m,4",
-        asks: Plain::Malformed,
-    },
-    Row {
-        payload: "m10,4,4",
-        asks: Plain::Malformed,
-    },
-    Row {
-        payload: "Z0,2c",
-        asks: Plain::Malformed,
-    },
-    Row {
-        payload: "Z02c,4",
-        asks: Plain::Malformed,
-    },
-    Row {
-        payload: "Z5,2c,4",
-        asks: Plain::Unknown,
-    },
-    Row {
-        payload: "Z",
-        asks: Plain::Unknown,
-    },
-    Row {
-        payload: "z",
-        asks: Plain::Unknown,
-    },
-    Row {
-        payload: "qXfer:",
-        asks: Plain::Malformed,
-    },
-    Row {
-        payload: "qXfer:features:read:target.xml:0",
-        asks: Plain::Malformed,
-    },
-    Row {
-        payload: "qXfer:a:b:c:0",
-        asks: Plain::Malformed,
-    },
-    Row {
-        payload: "qThreadExtraInfo,",
-        asks: Plain::Malformed,
-    },
-    Row {
-        payload: "",
-        asks: Plain::Unknown,
-    },
-    Row {
-        payload: "gg",
-        asks: Plain::Unknown,
-    },
-    Row {
-        payload: "Hx1",
-        asks: Plain::Unknown,
-    },
-    Row {
-        payload: "s",
-        asks: Plain::Unknown,
-    },
-    Row {
-        payload: "c",
-        asks: Plain::Unknown,
-    },
-    Row {
-        payload: "R",
-        asks: Plain::Unknown,
-    },
-    Row {
-        payload: "!",
-        asks: Plain::Unknown,
-    },
-    Row {
-        payload: "vRun",
-        asks: Plain::Unknown,
-    },
-    Row {
-        payload: "vKill",
-        asks: Plain::Unknown,
-    },
-    Row {
-        payload: "Dx",
-        asks: Plain::Unknown,
-    },
-    Row {
-        payload: "bsx",
-        asks: Plain::Unknown,
-    },
-    Row {
-        payload: "vCont",
-        asks: Plain::Unknown,
-    },
-    Row {
-        payload: "qThreadExtraInfo",
-        asks: Plain::Unknown,
-    },
+    asks!("qC" => Plain::ToldThread),
+    asks!("k" => Plain::Quit),
+    asks!("qfThreadInfo" => Plain::ThreadsFirst),
+    asks!("qsThreadInfo" => Plain::ThreadsRest),
+    asks!("D;1" => Plain::Detach),
+    asks!("qAttached:a410" => Plain::Attached),
+    asks!("p20" => Plain::Register(32)),
+    asks!("pffffffffffffffff" => Plain::Register(0xffff_ffff_ffff_ffff)),
+    asks!("Z1,2C,4" => Plain::SetPoint(PointKind::Hardware, Span { at: 0x2c, len: 4 })),
+    asks!("qThreadExtraInfo,3" => Plain::ThreadText(Thread::Core(2))),
+    asks!("qXfer:features:read:other.xml:0,ffb" => Plain::OtherPart),
+    asks!("qXfer:auxv:read::0,1000" => Plain::OtherPart),
+    asks!("Hc" => Plain::Malformed),
+    asks!("Hg-2" => Plain::Malformed),
+    asks!("Hgx" => Plain::Malformed),
+    asks!("T" => Plain::Malformed),
+    asks!("p" => Plain::Malformed),
+    asks!("p0x1" => Plain::Malformed),
+    asks!("p10000000000000000" => Plain::Malformed),
+    asks!("m10" => Plain::Malformed),
+    asks!("m10," => Plain::Malformed),
+    asks!("m,4" => Plain::Malformed),
+    asks!("m10,4,4" => Plain::Malformed),
+    asks!("Z0,2c" => Plain::Malformed),
+    asks!("Z02c,4" => Plain::Malformed),
+    asks!("Z5,2c,4" => Plain::Unknown),
+    asks!("Z" => Plain::Unknown),
+    asks!("z" => Plain::Unknown),
+    asks!("qXfer:" => Plain::Malformed),
+    asks!("qXfer:features:read:target.xml:0" => Plain::Malformed),
+    asks!("qXfer:a:b:c:0" => Plain::Malformed),
+    asks!("qThreadExtraInfo," => Plain::Malformed),
+    asks!("" => Plain::Unknown),
+    asks!("gg" => Plain::Unknown),
+    asks!("Hx1" => Plain::Unknown),
+    asks!("s" => Plain::Unknown),
+    asks!("c" => Plain::Unknown),
+    asks!("R" => Plain::Unknown),
+    asks!("!" => Plain::Unknown),
+    asks!("vRun" => Plain::Unknown),
+    asks!("vKill" => Plain::Unknown),
+    asks!("Dx" => Plain::Unknown),
+    asks!("bsx" => Plain::Unknown),
+    asks!("vCont" => Plain::Unknown),
+    asks!("qThreadExtraInfo" => Plain::Unknown),
 ];

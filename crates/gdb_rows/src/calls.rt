@@ -2,6 +2,7 @@
 
 use crate::core_rows::Row;
 use gdb_cli::write_core;
+use row_texts::{bytes, words};
 use rtr_io::{MemSink, MemSource};
 use std::alloc::{AllocError, Global};
 
@@ -15,38 +16,6 @@ pub struct Answer {
     pub given: usize,
     pub sum: u32,
     pub report: Vec<u8>,
-}
-
-/// The words of a line, which are parted by single spaces.
-pub fn words(alloc: Global, line: &str) -> Result<Vec<String>, AllocError> {
-    let mut words = Vec::new(alloc);
-    for word in line.split(' ') {
-        if !line.is_empty() {
-            words.push(String::from_str(alloc, word)?)?;
-        }
-    }
-    Ok(words)
-}
-
-/// The bytes that hexadecimal digits spell; spaces between them are passed over.
-pub fn bytes(alloc: Global, digits: &str) -> Result<Vec<u8>, AllocError> {
-    let mut bytes = Vec::new(alloc);
-    let mut high = None;
-    for digit in digits.bytes() {
-        let value = match digit {
-            b'0'..=b'9' => digit - b'0',
-            b'a'..=b'f' => digit - b'a' + 10,
-            _ => continue,
-        };
-        high = match high {
-            None => Some(value),
-            Some(high) => {
-                bytes.push((high % 16) * 16 + value)?;
-                None
-            }
-        };
-    }
-    Ok(bytes)
 }
 
 /// The list of one call that fails, or of none for 0.

@@ -67,6 +67,24 @@ macro_rules! refused {
     };
 }
 
+/// A call whose input or output fails, the output taking so many bytes at the most: its status, how many bytes were
+/// given, their sum, and the report.
+macro_rules! failed {
+    ($input:literal, $output:literal, $most:literal => $status:literal, $given:literal, $sum:expr, $report:literal) => {
+        Row {
+            words: "at --core 1 --count 2",
+            input: HANDED_OVER,
+            input_fails: $input,
+            output_fails: $output,
+            most: $most,
+            status: $status,
+            given: $given,
+            sum: $sum,
+            report: $report,
+        }
+    };
+}
+
 /// The rows.
 pub static ROWS: [Row; 16] = [
     made!("at --core 1 --count 2", 0x0a30_026b),
@@ -106,59 +124,9 @@ pub static ROWS: [Row; 16] = [
         "rtr: no order from 0:2 to 1:2\n"
     ),
     // Streams that fail, the output after 100 bytes.
-    Row {
-        words: "at --core 1 --count 2",
-        input: HANDED_OVER,
-        input_fails: 1,
-        output_fails: 0,
-        most: 10_000,
-        status: 8,
-        given: 0,
-        sum: NOTHING,
-        report: "rtr: read fault\n",
-    },
-    Row {
-        words: "at --core 1 --count 2",
-        input: HANDED_OVER,
-        input_fails: 2,
-        output_fails: 0,
-        most: 10_000,
-        status: 8,
-        given: 0,
-        sum: NOTHING,
-        report: "rtr: read fault\n",
-    },
-    Row {
-        words: "at --core 1 --count 2",
-        input: HANDED_OVER,
-        input_fails: 0,
-        output_fails: 1,
-        most: 10_000,
-        status: 9,
-        given: 0,
-        sum: NOTHING,
-        report: "rtr: write fault\n",
-    },
-    Row {
-        words: "at --core 1 --count 2",
-        input: HANDED_OVER,
-        input_fails: 0,
-        output_fails: 2,
-        most: 100,
-        status: 9,
-        given: 100,
-        sum: FIRST_HUNDRED,
-        report: "rtr: write fault\n",
-    },
-    Row {
-        words: "at --core 1 --count 2",
-        input: HANDED_OVER,
-        input_fails: 0,
-        output_fails: 0,
-        most: 100,
-        status: 0,
-        given: 692,
-        sum: 0x0a30_026b,
-        report: "",
-    },
+    failed!(1, 0, 10_000 => 8, 0, NOTHING, "rtr: read fault\n"),
+    failed!(2, 0, 10_000 => 8, 0, NOTHING, "rtr: read fault\n"),
+    failed!(0, 1, 10_000 => 9, 0, NOTHING, "rtr: write fault\n"),
+    failed!(0, 2, 100 => 9, 100, FIRST_HUNDRED, "rtr: write fault\n"),
+    failed!(0, 0, 100 => 0, 692, 0x0a30_026b, ""),
 ];

@@ -1,8 +1,9 @@
 //! One session of the program over streams in memory.
 
-use crate::calls::{bytes, failing, words};
+use crate::calls::failing;
 use crate::session_rows::{File, Row};
 use gdb_cli::run_debugger;
+use row_texts::{bytes, words};
 use rtr_io::{MemSink, MemSource};
 use std::alloc::{AllocError, Global};
 

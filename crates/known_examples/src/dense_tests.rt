@@ -17,18 +17,8 @@ use std::test::Fail;
 /// rounds: lw x6,64(x5); addi x6,x6,1; sw x6,68(x5): a core reads its word and writes the next core's;
 /// lw x7,128(x0); sw x6,128(x0): all read and write one word; addi x13,x13,-1; bne x13,x0,-24. At last ecall.
 const CODE: [u32; 12] = [
-    0x0070_0293,
-    0x0255_0463,
-    0x0025_1293,
-    0x0030_0693,
-    0x0402_a303,
-    0x0013_0313,
-    0x0462_a223,
-    0x0800_2383,
-    0x0860_2023,
-    0xfff6_8693,
-    0xfe06_94e3,
-    0x0000_0073,
+    0x00700293, 0x02550463, 0x00251293, 0x00300693, 0x0402a303, 0x00130313, 0x0462a223, 0x08002383,
+    0x08602023, 0xfff68693, 0xfe0694e3, 0x00000073,
 ];
 
 /// How many cores there are.

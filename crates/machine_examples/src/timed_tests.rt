@@ -211,123 +211,66 @@ struct Row {
 }
 
 /// slli x5,x10,2; sw x10,32(x5); lw x6,32(x5); ecall
-const FALSE_SHARING: [u32; 4] = [0x0025_1293, 0x02a2_a023, 0x0202_a303, 0x0000_0073];
+const FALSE_SHARING: [u32; 4] = [0x00251293, 0x02a2a023, 0x0202a303, 0x00000073];
 
 /// bne x10,x0,+20; addi x5,x0,7; sw x5,64(x0); lw x6,64(x0); ecall; lw x7,64(x0); sw x10,64(x0); ecall
 const BOTH_READ_AND_WRITE: [u32; 8] = [
-    0x0005_1a63,
-    0x0070_0293,
-    0x0450_2023,
-    0x0400_2303,
-    0x0000_0073,
-    0x0400_2383,
-    0x04a0_2023,
-    0x0000_0073,
+    0x00051a63, 0x00700293, 0x04502023, 0x04002303, 0x00000073, 0x04002383, 0x04a02023, 0x00000073,
 ];
 
 /// addi x5,x10,9; bne x10,x0,+12; sw x5,64(x0); ecall; lw x6,64(x0); lw x7,320(x0); ecall
 const READER_EVICTS: [u32; 7] = [
-    0x0095_0293,
-    0x0005_1663,
-    0x0450_2023,
-    0x0000_0073,
-    0x0400_2303,
-    0x1400_2383,
-    0x0000_0073,
+    0x00950293, 0x00051663, 0x04502023, 0x00000073, 0x04002303, 0x14002383, 0x00000073,
 ];
 
 /// addi x5,x10,9; bne x10,x0,+16; sw x5,64(x0); lw x7,320(x0); ecall; lw x6,64(x0); ecall
 const WRITER_EVICTS: [u32; 7] = [
-    0x0095_0293,
-    0x0005_1863,
-    0x0450_2023,
-    0x1400_2383,
-    0x0000_0073,
-    0x0400_2303,
-    0x0000_0073,
+    0x00950293, 0x00051863, 0x04502023, 0x14002383, 0x00000073, 0x04002303, 0x00000073,
 ];
 
 /// The same with sw x5,64(x0) in place of lw x6,64(x0).
 const WRITER_EVICTS_FOR_A_WRITER: [u32; 7] = [
-    0x0095_0293,
-    0x0005_1863,
-    0x0450_2023,
-    0x1400_2383,
-    0x0000_0073,
-    0x0450_2023,
-    0x0000_0073,
+    0x00950293, 0x00051863, 0x04502023, 0x14002383, 0x00000073, 0x04502023, 0x00000073,
 ];
+
+macro_rules! row {
+    (
+        $code:ident by $choices:tt
+        => $accesses:literal, $core:literal : $count:literal after $write:expr, $reader:literal $read:expr
+    ) => {
+        Row {
+            code: &$code,
+            choices: &$choices,
+            accesses: $accesses,
+            access: Instr { core: $core, count: $count },
+            write: $write,
+            reader: $reader,
+            read: $read,
+        }
+    };
+}
 
 static ROWS: [Row; 7] = [
     // Each core has its own word of one block.
-    Row {
-        code: &FALSE_SHARING,
-        choices: &[0, 1, 0, 1, 0, 1, 0, 1, 0, 1, 0, 1],
-        accesses: 4,
-        access: Instr { core: 1, count: 2 },
-        write: None,
-        reader: 0,
-        read: None,
-    },
+    row!(FALSE_SHARING by [0, 1, 0, 1, 0, 1, 0, 1, 0, 1, 0, 1] =>
+        4, 1:2 after None, 0 None),
     // Core 1's upgrade takes core 0's copy back.
-    Row {
-        code: &BOTH_READ_AND_WRITE,
-        choices: &[0, 0, 0, 1, 1, 1, 1, 1, 1, 1, 1, 1, 1, 1, 1, 1],
-        accesses: 4,
-        access: Instr { core: 1, count: 3 },
-        write: Some(Instr { core: 0, count: 3 }),
-        reader: 1,
-        read: Some(2),
-    },
+    row!(BOTH_READ_AND_WRITE by [0, 0, 0, 1, 1, 1, 1, 1, 1, 1, 1, 1, 1, 1, 1, 1] =>
+        4, 1:3 after Some(Instr { core: 0, count: 3 }), 1 Some(2)),
     // Core 0 reads the word again between the two stores.
-    Row {
-        code: &BOTH_READ_AND_WRITE,
-        choices: &[1, 1, 1, 1, 0, 0, 0, 1, 1, 1, 1, 0],
-        accesses: 4,
-        access: Instr { core: 1, count: 3 },
-        write: Some(Instr { core: 0, count: 3 }),
-        reader: 0,
-        read: Some(4),
-    },
+    row!(BOTH_READ_AND_WRITE by [1, 1, 1, 1, 0, 0, 0, 1, 1, 1, 1, 0] =>
+        4, 1:3 after Some(Instr { core: 0, count: 3 }), 0 Some(4)),
     // Core 1's upgrade waits while core 0's store takes its read copy back.
-    Row {
-        code: &BOTH_READ_AND_WRITE,
-        choices: &[1, 1, 1, 1, 0, 0, 0, 0],
-        accesses: 4,
-        access: Instr { core: 0, count: 3 },
-        write: None,
-        reader: 1,
-        read: Some(2),
-    },
+    row!(BOTH_READ_AND_WRITE by [1, 1, 1, 1, 0, 0, 0, 0] =>
+        4, 0:3 after None, 1 Some(2)),
     // Core 1's eviction of its read copy is stalled while core 0's store takes it back.
-    Row {
-        code: &READER_EVICTS,
-        choices: &[1, 1, 1, 1, 1, 0, 0, 0, 0, 0, 0, 0, 0],
-        accesses: 3,
-        access: Instr { core: 0, count: 3 },
-        write: None,
-        reader: 1,
-        read: Some(3),
-    },
+    row!(READER_EVICTS by [1, 1, 1, 1, 1, 0, 0, 0, 0, 0, 0, 0, 0] =>
+        3, 0:3 after None, 1 Some(3)),
     // Core 0's eviction of its written copy is stalled while core 1's load or store is forwarded to it.
-    Row {
-        code: &WRITER_EVICTS,
-        choices: &[0, 0, 0, 1, 1, 1, 1, 1, 0, 1, 0, 0],
-        accesses: 3,
-        access: Instr { core: 1, count: 3 },
-        write: Some(Instr { core: 0, count: 3 }),
-        reader: 0,
-        read: None,
-    },
-    Row {
-        code: &WRITER_EVICTS_FOR_A_WRITER,
-        choices: &[0, 0, 0, 1, 1, 1, 1, 1, 0, 1, 0, 0],
-        accesses: 3,
-        access: Instr { core: 1, count: 3 },
-        write: Some(Instr { core: 0, count: 3 }),
-        reader: 0,
-        read: None,
-    },
+    row!(WRITER_EVICTS by [0, 0, 0, 1, 1, 1, 1, 1, 0, 1, 0, 0] =>
+        3, 1:3 after Some(Instr { core: 0, count: 3 }), 0 None),
+    row!(WRITER_EVICTS_FOR_A_WRITER by [0, 0, 0, 1, 1, 1, 1, 1, 0, 1, 0, 0] =>
+        3, 1:3 after Some(Instr { core: 0, count: 3 }), 0 None),
 ];
 
 /// The bytes of the code, each word's lowest first.

@@ -100,13 +100,13 @@ fn totals_are(rt: &impl Abort, run: &Recorded, totals: &[u32]) {
 fn both_cores_conflict(rt: HostRuntime) -> Result<(), Fail> {
     let code = [
         0x0005_1a63u32,
-        0x0070_0293,
-        0x0450_2023,
-        0x0400_2303,
-        0x0000_0073,
-        0x0400_2383,
-        0x04a0_2023,
-        0x0000_0073,
+        0x00700293,
+        0x04502023,
+        0x04002303,
+        0x00000073,
+        0x04002383,
+        0x04a02023,
+        0x00000073,
     ];
     let choices = [0u8, 0, 0, 1, 1, 1, 1, 1, 1, 1, 1, 1, 1, 1, 1, 1];
     let run = recorded(rt.alloc(), &code, 2, &choices)?;
@@ -135,16 +135,16 @@ fn both_cores_conflict(rt: HostRuntime) -> Result<(), Fail> {
 fn readers_ordered_through_another_word(rt: HostRuntime) -> Result<(), Fail> {
     let code = [
         0x0010_0293u32,
-        0x0055_0863,
-        0x0005_1c63,
-        0x0450_2023,
-        0x0000_0073,
-        0x0400_2303,
-        0x0850_2023,
-        0x0000_0073,
-        0x0800_2383,
-        0x0400_2303,
-        0x0000_0073,
+        0x00550863,
+        0x00051c63,
+        0x04502023,
+        0x00000073,
+        0x04002303,
+        0x08502023,
+        0x00000073,
+        0x08002383,
+        0x04002303,
+        0x00000073,
     ];
     let choices = [
         1u8, 1, 1, 2, 2, 1, 2, 2, 1, 1, 1, 1, 1, 1, 1, 1, 1, 1, 1, 1, 1,
@@ -168,7 +168,7 @@ fn edges_are(rt: &impl Abort, recording: &Recording) {
 }
 
 /// Two cores that store 5 and their number to word 8 as their second instruction.
-const LAST_STORE: [u32; 3] = [0x0055_0293, 0x0250_2023, 0x0000_0073];
+const LAST_STORE: [u32; 3] = [0x00550293, 0x02502023, 0x00000073];
 
 // The fifth choice decides whose store comes last: here that of core 1.
 #[test]
@@ -193,18 +193,8 @@ fn the_other_choice_decides(rt: HostRuntime) -> Result<(), Fail> {
 /// Core 0 stores to words 16, 17 and 18 as its third, fourth and fifth instruction; core 1 loads them as its
 /// third, fourth and seventh.
 const STRIDES: [u32; 12] = [
-    0x0095_0293,
-    0x0005_1a63,
-    0x0450_2023,
-    0x0450_2223,
-    0x0450_2423,
-    0x0000_0073,
-    0x0400_2303,
-    0x0440_2383,
-    0x0000_0013,
-    0x0000_0013,
-    0x0480_2403,
-    0x0000_0073,
+    0x00950293, 0x00051a63, 0x04502023, 0x04502223, 0x04502423, 0x00000073, 0x04002303, 0x04402383,
+    0x00000013, 0x00000013, 0x04802403, 0x00000073,
 ];
 
 /// The vector of so many positions whose first is the third instruction of either core.

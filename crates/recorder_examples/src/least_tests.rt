@@ -22,18 +22,8 @@ use std::test::Fail;
 ///   go back, and bytes of words that others read;
 /// - addi x13,x13,-1; bne x13,x0,-32; ecall.
 const CODE: [u32; 12] = [
-    0x0030_0693,
-    0x0025_1293,
-    0x0402_a303,
-    0x0013_0313,
-    0x0462_a223,
-    0x0800_2383,
-    0x0860_2023,
-    0x1402_a403,
-    0x14a5_00a3,
-    0xfff6_8693,
-    0xfe06_90e3,
-    0x0000_0073,
+    0x00300693, 0x00251293, 0x0402a303, 0x00130313, 0x0462a223, 0x08002383, 0x08602023, 0x1402a403,
+    0x14a500a3, 0xfff68693, 0xfe0690e3, 0x00000073,
 ];
 
 /// How many accesses a run has: three rounds of six accesses for each core.

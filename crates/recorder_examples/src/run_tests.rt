@@ -65,13 +65,13 @@ fn did(rt: &impl Abort, ran: &Ran, core: usize, load: LoadNote) {
 fn both_cores_conflict(rt: HostRuntime) -> Result<(), Fail> {
     let code = [
         0x0005_1a63u32,
-        0x0070_0293,
-        0x0450_2023,
-        0x0400_2303,
-        0x0000_0073,
-        0x0400_2383,
-        0x04a0_2023,
-        0x0000_0073,
+        0x00700293,
+        0x04502023,
+        0x04002303,
+        0x00000073,
+        0x04002383,
+        0x04a02023,
+        0x00000073,
     ];
     let choices = [0u8, 0, 0, 1, 1, 1, 1, 1, 1, 1, 1, 1, 1, 1, 1, 1];
     let ran = ran(rt.alloc(), &code, 2, &choices)?;

@@ -1,28 +1,22 @@
 //! The closed cuts of a recording of three cores, found by a slow search through all its cuts.
 use rtr_types::{Cut, Edge, Instr};
 
+macro_rules! edge {
+    ($from:literal : $before:literal to $to:literal : $after:literal) => {
+        Edge {
+            from: Instr { core: $from, count: $before },
+            to: Instr { core: $to, count: $after },
+        }
+    };
+}
+
 /// The edges of the reduced log of the three cores.
 const EDGES: [Edge; 5] = [
-    Edge {
-        from: Instr { core: 0, count: 3 },
-        to: Instr { core: 1, count: 2 },
-    },
-    Edge {
-        from: Instr { core: 0, count: 3 },
-        to: Instr { core: 2, count: 2 },
-    },
-    Edge {
-        from: Instr { core: 1, count: 3 },
-        to: Instr { core: 2, count: 3 },
-    },
-    Edge {
-        from: Instr { core: 2, count: 2 },
-        to: Instr { core: 1, count: 3 },
-    },
-    Edge {
-        from: Instr { core: 2, count: 3 },
-        to: Instr { core: 0, count: 4 },
-    },
+    edge!(0:3 to 1:2),
+    edge!(0:3 to 2:2),
+    edge!(1:3 to 2:3),
+    edge!(2:2 to 1:3),
+    edge!(2:3 to 0:4),
 ];
 
 /// A cut of three cores, without its other places.

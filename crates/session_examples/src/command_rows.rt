@@ -7,6 +7,12 @@ pub struct Told {
     pub told: &'static str,
 }
 
+macro_rules! told {
+    ($command:literal => $told:expr) => {
+        Told { command: $command, told: $told }
+    };
+}
+
 /// What a command is told that isn't known.
 pub const USAGE: &str =
     "rtr_gdb: monitor cut | goto N .. | goto C:N | earliest C | latest C | lead C | lead all | \
@@ -14,71 +20,24 @@ edges C:N | writer ADDR | readers ADDR | history ADDR | conflicts C:N | order C:
 
 /// Where the place is and goes, what comes before what, and what is asked on the way.
 pub static PLACES: [Told; 16] = [
-    Told {
-        command: "cut",
-        told: "cut 32 26 32 26\n",
-    },
-    Told {
-        command: "edges 2:33",
-        told: "2:33 pc 00000098 load 000010f8 00000001\n",
-    },
-    Told {
-        command: "conflicts 2:33",
-        told: "2:33 pc 00000098 load 000010f8 00000001\n  \
-            later   3:34 pc 00000094 store 000010f8 00000001 -> 00000002\n",
-    },
-    Told {
-        command: "writer 4344",
-        told: "2:32 pc 00000094 store 000010f8 00000000 -> 00000001\n",
-    },
-    Told {
-        command: "readers 4344",
-        told: "no read since the last write\n",
-    },
-    Told {
-        command: "earliest 2",
-        told: "cut 0 0 32 0\n",
-    },
-    Told {
-        command: "latest 2",
-        told: "cut 36 36 32 28\n",
-    },
-    Told {
-        command: "goto 3:100",
-        told: "cut 109 97 107 100\n",
-    },
-    Told {
-        command: "edges 3:101",
-        told: "3:101 pc 0000001c\n",
-    },
-    Told {
-        command: "order 0:30 1:60",
-        told: "before\n",
-    },
-    Told {
-        command: "order 1:60 0:30",
-        told: "after\n",
-    },
-    Told {
-        command: "order 1:60 1:60",
-        told: "same\n",
-    },
-    Told {
-        command: "order 0:1 1:1",
-        told: "unordered\n",
-    },
-    Told {
-        command: "goto 0 0 33 0",
-        told: "cut 0 0 33 0\n",
-    },
-    Told {
-        command: "goto 37 0 0 0",
-        told: "rtr_gdb: not closed; the least closed cut that contains it is 37 37 35 29\n",
-    },
-    Told {
-        command: " cut ",
-        told: "cut 0 0 33 0\n",
-    },
+    told!("cut" => "cut 32 26 32 26\n"),
+    told!("edges 2:33" => "2:33 pc 00000098 load 000010f8 00000001\n"),
+    told!("conflicts 2:33" =>
+        "2:33 pc 00000098 load 000010f8 00000001\n  \
+        later   3:34 pc 00000094 store 000010f8 00000001 -> 00000002\n"),
+    told!("writer 4344" => "2:32 pc 00000094 store 000010f8 00000000 -> 00000001\n"),
+    told!("readers 4344" => "no read since the last write\n"),
+    told!("earliest 2" => "cut 0 0 32 0\n"),
+    told!("latest 2" => "cut 36 36 32 28\n"),
+    told!("goto 3:100" => "cut 109 97 107 100\n"),
+    told!("edges 3:101" => "3:101 pc 0000001c\n"),
+    told!("order 0:30 1:60" => "before\n"),
+    told!("order 1:60 0:30" => "after\n"),
+    told!("order 1:60 1:60" => "same\n"),
+    told!("order 0:1 1:1" => "unordered\n"),
+    told!("goto 0 0 33 0" => "cut 0 0 33 0\n"),
+    told!("goto 37 0 0 0" => "rtr_gdb: not closed; the least closed cut that contains it is 37 37 35 29\n"),
+    told!(" cut " => "cut 0 0 33 0\n"),
 ];
 
 /// Commands that aren't known, or that name what isn't there.
@@ -107,72 +66,37 @@ pub static UNKNOWN: [&str; 20] = [
 
 /// What is asked where core 0 has stored to word 16 and core 1 has loaded it: on the recording of two cores.
 pub static RUN: [Told; 14] = [
-    Told {
-        command: "history 64",
-        told: "+ 0:3 pc 00000008 store 00000040 00000000 -> 00000007\n\
-            + 1:2 pc 00000014 load 00000040 00000007\n\
-            + 1:3 pc 00000018 store 00000040 00000007 -> 00000001\n\
-            + 0:4 pc 0000000c load 00000040 00000001\n",
-    },
-    Told {
-        command: "writer 64",
-        told: "no write: the opening value\n",
-    },
-    Told {
-        command: "goto 1:2",
-        told: "cut 3 2\n",
-    },
-    Told {
-        command: "history 0x40",
-        told: "  0:3 pc 00000008 store 00000040 00000000 -> 00000007\n  \
-            1:2 pc 00000014 load 00000040 00000007\n\
-            + 1:3 pc 00000018 store 00000040 00000007 -> 00000001\n\
-            + 0:4 pc 0000000c load 00000040 00000001\n",
-    },
-    Told {
-        command: "history 0x44",
-        told: "no access\n",
-    },
-    Told {
-        command: "writer 67",
-        told: "0:3 pc 00000008 store 00000040 00000000 -> 00000007\n",
-    },
-    Told {
-        command: "readers 0x40",
-        told: "1:2 pc 00000014 load 00000040 00000007\n",
-    },
-    Told {
-        command: "edges 1:2",
-        told: "1:2 pc 00000014 load 00000040 00000007\n  \
-            after  0:3 pc 00000008 store 00000040 00000000 -> 00000007\n",
-    },
-    Told {
-        command: "edges 0:3",
-        told: "0:3 pc 00000008 store 00000040 00000000 -> 00000007\n  \
-            before 1:2 pc 00000014 load 00000040 00000007  (already)\n",
-    },
-    Told {
-        command: "edges 0:4",
-        told: "0:4 pc 0000000c load 00000040 00000001\n  \
-            after  1:3 pc 00000018 store 00000040 00000007 -> 00000001  (not yet)\n",
-    },
-    Told {
-        command: "edges 1:3",
-        told: "1:3 pc 00000018 store 00000040 00000007 -> 00000001\n  \
-            before 0:4 pc 0000000c load 00000040 00000001\n",
-    },
-    Told {
-        command: "conflicts 1:3",
-        told: "1:3 pc 00000018 store 00000040 00000007 -> 00000001\n  \
-            earlier 0:3 pc 00000008 store 00000040 00000000 -> 00000007\n  \
-            later   0:4 pc 0000000c load 00000040 00000001\n",
-    },
-    Told {
-        command: "conflicts 1:1",
-        told: "no access\n",
-    },
-    Told {
-        command: "cut",
-        told: "cut 3 2\n",
-    },
+    told!("history 64" =>
+        "+ 0:3 pc 00000008 store 00000040 00000000 -> 00000007\n\
+        + 1:2 pc 00000014 load 00000040 00000007\n\
+        + 1:3 pc 00000018 store 00000040 00000007 -> 00000001\n\
+        + 0:4 pc 0000000c load 00000040 00000001\n"),
+    told!("writer 64" => "no write: the opening value\n"),
+    told!("goto 1:2" => "cut 3 2\n"),
+    told!("history 0x40" =>
+        "  0:3 pc 00000008 store 00000040 00000000 -> 00000007\n  \
+        1:2 pc 00000014 load 00000040 00000007\n\
+        + 1:3 pc 00000018 store 00000040 00000007 -> 00000001\n\
+        + 0:4 pc 0000000c load 00000040 00000001\n"),
+    told!("history 0x44" => "no access\n"),
+    told!("writer 67" => "0:3 pc 00000008 store 00000040 00000000 -> 00000007\n"),
+    told!("readers 0x40" => "1:2 pc 00000014 load 00000040 00000007\n"),
+    told!("edges 1:2" =>
+        "1:2 pc 00000014 load 00000040 00000007\n  \
+        after  0:3 pc 00000008 store 00000040 00000000 -> 00000007\n"),
+    told!("edges 0:3" =>
+        "0:3 pc 00000008 store 00000040 00000000 -> 00000007\n  \
+        before 1:2 pc 00000014 load 00000040 00000007  (already)\n"),
+    told!("edges 0:4" =>
+        "0:4 pc 0000000c load 00000040 00000001\n  \
+        after  1:3 pc 00000018 store 00000040 00000007 -> 00000001  (not yet)\n"),
+    told!("edges 1:3" =>
+        "1:3 pc 00000018 store 00000040 00000007 -> 00000001\n  \
+        before 0:4 pc 0000000c load 00000040 00000001\n"),
+    told!("conflicts 1:3" =>
+        "1:3 pc 00000018 store 00000040 00000007 -> 00000001\n  \
+        earlier 0:3 pc 00000008 store 00000040 00000000 -> 00000007\n  \
+        later   0:4 pc 0000000c load 00000040 00000001\n"),
+    told!("conflicts 1:1" => "no access\n"),
+    told!("cut" => "cut 3 2\n"),
 ];

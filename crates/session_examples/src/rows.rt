@@ -12,7 +12,7 @@ pub struct Row {
 
 /// A packet with its answer, as a row.
 macro_rules! asked {
-    ($packet:expr, $answer:expr) => {
+    ($packet:literal => $answer:expr) => {
         Row {
             packet: $packet,
             answer: $answer,

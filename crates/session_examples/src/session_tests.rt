@@ -21,54 +21,23 @@ fn first_wrong(alloc: Global, rows: &[Row]) -> Result<&'static str, Fail> {
 }
 
 #[test]
-fn steps_go_forth_and_back(rt: HostRuntime) -> Result<(), Fail> {
-    assert_eq!(rt; first_wrong(rt.alloc(), &STEPS)?, "none");
-    Ok(())
-}
-
-#[test]
-fn breakpoints_stop_before_their_instruction(rt: HostRuntime) -> Result<(), Fail> {
-    assert_eq!(rt; first_wrong(rt.alloc(), &BREAKS)?, "none");
-    Ok(())
-}
-
-#[test]
-fn watched_ranges_stop_before_the_access(rt: HostRuntime) -> Result<(), Fail> {
-    assert_eq!(rt; first_wrong(rt.alloc(), &WATCHES)?, "none");
-    Ok(())
-}
-
-#[test]
-fn some_cores_go_on_alone(rt: HostRuntime) -> Result<(), Fail> {
-    assert_eq!(rt; first_wrong(rt.alloc(), &ONE_CORE)?, "none");
-    assert_eq!(rt; first_wrong(rt.alloc(), &UNHEARD)?, "none");
-    assert_eq!(rt; first_wrong(rt.alloc(), &TOLD)?, "none");
-    Ok(())
-}
-
-#[test]
-fn some_cores_go_back_alone(rt: HostRuntime) -> Result<(), Fail> {
-    assert_eq!(rt; first_wrong(rt.alloc(), &BACK_ALONE)?, "none");
-    assert_eq!(rt; first_wrong(rt.alloc(), &UNASKED)?, "none");
-    Ok(())
-}
-
-#[test]
-fn a_step_back_stops_for_the_others(rt: HostRuntime) -> Result<(), Fail> {
-    assert_eq!(rt; first_wrong(rt.alloc(), &OTHERS_BACK)?, "none");
-    Ok(())
-}
-
-// Core 1 leads on, and core 0 back; without a core that leads, all go.
-#[test]
-fn a_core_leads_all(rt: HostRuntime) -> Result<(), Fail> {
-    assert_eq!(rt; first_wrong(rt.alloc(), &LEADS)?, "none");
-    Ok(())
-}
-
-#[test]
-fn other_packets_move_nothing(rt: HostRuntime) -> Result<(), Fail> {
-    assert_eq!(rt; first_wrong(rt.alloc(), &STILL)?, "none");
+fn each_session_is_answered_so(rt: HostRuntime) -> Result<(), Fail> {
+    let alloc = rt.alloc();
+    assert_eq!(rt; first_wrong(alloc, &STEPS)?, "none");
+    assert_eq!(rt; first_wrong(alloc, &BREAKS)?, "none");
+    assert_eq!(rt; first_wrong(alloc, &WATCHES)?, "none");
+    // Some cores go on alone, and back.
+    assert_eq!(rt; first_wrong(alloc, &ONE_CORE)?, "none");
+    assert_eq!(rt; first_wrong(alloc, &UNHEARD)?, "none");
+    assert_eq!(rt; first_wrong(alloc, &TOLD)?, "none");
+    assert_eq!(rt; first_wrong(alloc, &BACK_ALONE)?, "none");
+    assert_eq!(rt; first_wrong(alloc, &UNASKED)?, "none");
+    // A step back stops for the others.
+    assert_eq!(rt; first_wrong(alloc, &OTHERS_BACK)?, "none");
+    // Core 1 leads on, and core 0 back; without a core that leads, all go.
+    assert_eq!(rt; first_wrong(alloc, &LEADS)?, "none");
+    // Other packets move nothing.
+    assert_eq!(rt; first_wrong(alloc, &STILL)?, "none");
     Ok(())
 }
 

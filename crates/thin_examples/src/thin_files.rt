@@ -59,49 +59,25 @@ struct Changed {
     answer: u32,
 }
 
+macro_rules! changed {
+    ($rest:tt => $answer:literal) => {
+        Changed { rest: &$rest, answer: $answer }
+    };
+}
+
 // In turn: cuts that have more, one of them as much as it may; the target isn't there; the source is; the cut isn't
 // closed under the other vector; no such edge, also none by far; a count above its total; a cut number; a byte more.
 static CHANGED: [Changed; 10] = [
-    Changed {
-        rest: &[0, 0, 3, 4, 0, 4, 0, 0],
-        answer: 0,
-    },
-    Changed {
-        rest: &[0, 0, 3, 6, 0, 5, 5, 3],
-        answer: 0,
-    },
-    Changed {
-        rest: &[0, 0, 0, 3, 0, 4, 0, 0],
-        answer: 11,
-    },
-    Changed {
-        rest: &[0, 0, 4, 4, 0, 4, 0, 0],
-        answer: 11,
-    },
-    Changed {
-        rest: &[0, 0, 0, 4, 0, 4, 3, 4],
-        answer: 12,
-    },
-    Changed {
-        rest: &[0, 0, 0, 4, 1, 4, 0, 0],
-        answer: 12,
-    },
-    Changed {
-        rest: &[0xff, 0xff, 0xff, 0xff, 0xf, 0, 0, 4, 0, 4, 0, 0],
-        answer: 11,
-    },
-    Changed {
-        rest: &[0, 0, 0, 7, 0, 4, 0, 0],
-        answer: 6,
-    },
-    Changed {
-        rest: &[0, 0, 0, 4, 0, 4, 0],
-        answer: 6,
-    },
-    Changed {
-        rest: &[0, 0, 0, 4, 0, 4, 0, 0, 0],
-        answer: 7,
-    },
+    changed!([0, 0, 3, 4, 0, 4, 0, 0] => 0),
+    changed!([0, 0, 3, 6, 0, 5, 5, 3] => 0),
+    changed!([0, 0, 0, 3, 0, 4, 0, 0] => 11),
+    changed!([0, 0, 4, 4, 0, 4, 0, 0] => 11),
+    changed!([0, 0, 0, 4, 0, 4, 3, 4] => 12),
+    changed!([0, 0, 0, 4, 1, 4, 0, 0] => 12),
+    changed!([0xff, 0xff, 0xff, 0xff, 0xf, 0, 0, 4, 0, 4, 0, 0] => 11),
+    changed!([0, 0, 0, 7, 0, 4, 0, 0] => 6),
+    changed!([0, 0, 0, 4, 0, 4, 0] => 6),
+    changed!([0, 0, 0, 4, 0, 4, 0, 0, 0] => 7),
 ];
 
 /// What a check says of a thinned recording: 0, or 10 and the number of the vector that isn't shown to be needed, or

@@ -185,8 +185,7 @@ fn logs_of_one_core(rt: HostRuntime) -> Result<(), Fail> {
         regulated: Items::new(alloc),
     };
     let text = logs_text(alloc, &recording)?;
-    let lines = "cores 1 limit 10000 words 16384 image 4\n\
-        total 0 1\n\
+    let lines = "cores 1 limit 10000 words 16384 image 4\ntotal 0 1\n\
         reduced 0\n\
         regulated 0 vectors 0 edges\n";
     assert_eq!(rt; text.as_slice(), lines.as_bytes());
@@ -225,16 +224,9 @@ fn logs_of_two_cores(rt: HostRuntime) -> Result<(), Fail> {
         regulated: Items::from_vec(vec![in alloc; Items::new(alloc), vectors]?),
     };
     let text = logs_text(alloc, &recording)?;
-    let lines = "cores 2 limit 10000 words 32 image 48\n\
-        total 0 6\n\
-        total 1 7\n\
-        reduced 3\n\
-        edge 0:3 1:3\n\
-        edge 0:4 1:4\n\
-        edge 0:5 1:7\n\
-        regulated 2 vectors 3 edges\n\
-        vector 1 0 2 3 3 1 1\n\
-        vector 1 0 1 5 7\n";
+    let lines = "cores 2 limit 10000 words 32 image 48\ntotal 0 6\ntotal 1 7\n\
+        reduced 3\nedge 0:3 1:3\nedge 0:4 1:4\nedge 0:5 1:7\n\
+        regulated 2 vectors 3 edges\nvector 1 0 2 3 3 1 1\nvector 1 0 1 5 7\n";
     assert_eq!(rt; text.as_slice(), lines.as_bytes());
     Ok(())
 }
@@ -280,10 +272,8 @@ fn stops(rt: HostRuntime) -> Result<(), Fail> {
         (3, 12, Halt::Running, "address retired 3 pc 0000000c"),
         (4, 16, Halt::Running, "total retired 4 pc 00000010"),
     ];
-    let memory = "mem 00000000 00000000\n\
-        mem 00000008 00000000\n\
-        mem 0000000c 00000000\n\
-        mem 00000010 00000000\n";
+    let memory =
+        "mem 00000000 00000000\nmem 00000008 00000000\nmem 0000000c 00000000\nmem 00000010 00000000\n";
     for (count, pc, halt, line) in rows {
         let text = state_of(rt.alloc(), core_at(count, pc, halt), &image, &[0; 8])?;
         let expected = format!(in rt.alloc(); "core 0 {line}\n{memory}")?;
@@ -301,9 +291,7 @@ fn registers(rt: HostRuntime) -> Result<(), Fail> {
     core.registers[1] = 0xdead_beef;
     core.registers[31] = 10;
     let text = state_of(rt.alloc(), core, &image, &[0, 0, 0, 255])?;
-    let lines = "core 0 fetch retired 0 pc 00000000\n\
-        core 0 x1 deadbeef\n\
-        core 0 x31 0000000a\n\
+    let lines = "core 0 fetch retired 0 pc 00000000\ncore 0 x1 deadbeef\ncore 0 x31 0000000a\n\
         mem 0000000c 000000ff\n";
     assert_eq!(rt; text.as_slice(), lines.as_bytes());
     Ok(())

@@ -1,20 +1,10 @@
 //! Lines of words, and what they mean.
+use row_texts::words;
 use rtr_types::{Instr, Params, Which};
 use std::alloc::{AllocError, Global};
 use std::test::Fail;
 use tool_words::{Command, RunWords, meaning};
 use trace_gen::Shape;
-
-/// The words of a line, which are parted by single spaces.
-fn words(alloc: Global, line: &str) -> Result<Vec<String>, AllocError> {
-    let mut words = Vec::new(alloc);
-    for word in line.split(' ') {
-        if !line.is_empty() {
-            words.push(String::from_str(alloc, word)?)?;
-        }
-    }
-    Ok(words)
-}
 
 /// What the words of a line mean.
 fn meaning_of(alloc: Global, line: &str) -> Result<Option<Command>, AllocError> {
@@ -34,98 +24,36 @@ struct Row {
     elf: bool,
 }
 
+/// A run whose words give nothing.
+const PLAIN: Row = Row {
+    line: "",
+    cores: 1,
+    limit: 10_000,
+    words: 16_384,
+    choices: &[],
+    seed: 0,
+    loads: false,
+    elf: false,
+};
+
+/// A line, and what its words give.
+macro_rules! run {
+    ($line:literal => $($field:ident: $value:expr),*) => {
+        Row { line: $line, $($field: $value,)* ..PLAIN }
+    };
+}
+
 static ROWS: [Row; 9] = [
-    Row {
-        line: "run",
-        cores: 1,
-        limit: 10_000,
-        words: 16_384,
-        choices: &[],
-        seed: 0,
-        loads: false,
-        elf: false,
-    },
-    Row {
-        line: "run --loads --words 32",
-        cores: 1,
-        limit: 10_000,
-        words: 32,
-        choices: &[],
-        seed: 0,
-        loads: true,
-        elf: false,
-    },
-    Row {
-        line: "run --cores 16 --limit=1 --loads",
-        cores: 16,
-        limit: 1,
-        words: 16_384,
-        choices: &[],
-        seed: 0,
-        loads: true,
-        elf: false,
-    },
-    Row {
-        line: "run --words=262144 --choices 00ff1a --limit 1000000",
-        cores: 1,
-        limit: 1_000_000,
-        words: 262_144,
-        choices: &[0, 255, 26],
-        seed: 0,
-        loads: false,
-        elf: false,
-    },
+    run!("run" =>),
+    run!("run --loads --words 32" => words: 32, loads: true),
+    run!("run --cores 16 --limit=1 --loads" => cores: 16, limit: 1, loads: true),
+    run!("run --words=262144 --choices 00ff1a --limit 1000000" => limit: 1_000_000, words: 262_144, choices: &[0, 255, 26]),
     // Four million instructions together.
-    Row {
-        line: "run --limit 250000 --cores 16",
-        cores: 16,
-        limit: 250_000,
-        words: 16_384,
-        choices: &[],
-        seed: 0,
-        loads: false,
-        elf: false,
-    },
-    Row {
-        line: "run --cores=4 --limit=1000000",
-        cores: 4,
-        limit: 1_000_000,
-        words: 16_384,
-        choices: &[],
-        seed: 0,
-        loads: false,
-        elf: false,
-    },
-    Row {
-        line: "run --choices=07 --seed 18446744073709551615 --cores=2",
-        cores: 2,
-        limit: 10_000,
-        words: 16_384,
-        choices: &[7],
-        seed: 18_446_744_073_709_551_615,
-        loads: false,
-        elf: false,
-    },
-    Row {
-        line: "run --elf --loads",
-        cores: 1,
-        limit: 10_000,
-        words: 16_384,
-        choices: &[],
-        seed: 0,
-        loads: true,
-        elf: true,
-    },
-    Row {
-        line: "run --words 32 --choices 07 --elf",
-        cores: 1,
-        limit: 10_000,
-        words: 32,
-        choices: &[7],
-        seed: 0,
-        loads: false,
-        elf: true,
-    },
+    run!("run --limit 250000 --cores 16" => cores: 16, limit: 250_000),
+    run!("run --cores=4 --limit=1000000" => cores: 4, limit: 1_000_000),
+    run!("run --choices=07 --seed 18446744073709551615 --cores=2" => cores: 2, choices: &[7], seed: 18_446_744_073_709_551_615),
+    run!("run --elf --loads" => loads: true, elf: true),
+    run!("run --words 32 --choices 07 --elf" => words: 32, choices: &[7], elf: true),
 ];
 
 /// Whether the words of a run are those of the row.
@@ -166,65 +94,33 @@ struct ReplayRow {
     loads: bool,
 }
 
+macro_rules! replay {
+    ($line:literal => $which:ident, $threads:expr, $loads:literal) => {
+        ReplayRow { line: $line, which: Which::$which, threads: $threads, loads: $loads }
+    };
+}
+
 static REPLAYS: [ReplayRow; 7] = [
-    ReplayRow {
-        line: "replay",
-        which: Which::Reduced,
-        threads: None,
-        loads: false,
-    },
-    ReplayRow {
-        line: "replay --log regulated",
-        which: Which::Regulated,
-        threads: None,
-        loads: false,
-    },
-    ReplayRow {
-        line: "replay --loads --log=reduced",
-        which: Which::Reduced,
-        threads: None,
-        loads: true,
-    },
-    ReplayRow {
-        line: "replay --log=regulated --loads",
-        which: Which::Regulated,
-        threads: None,
-        loads: true,
-    },
-    ReplayRow {
-        line: "replay --threads 1",
-        which: Which::Reduced,
-        threads: Some(1),
-        loads: false,
-    },
-    ReplayRow {
-        line: "replay --threads=8 --log regulated",
-        which: Which::Regulated,
-        threads: Some(8),
-        loads: false,
-    },
-    ReplayRow {
-        line: "replay --loads --threads 2",
-        which: Which::Reduced,
-        threads: Some(2),
-        loads: true,
-    },
+    replay!("replay" => Reduced, None, false),
+    replay!("replay --log regulated" => Regulated, None, false),
+    replay!("replay --loads --log=reduced" => Reduced, None, true),
+    replay!("replay --log=regulated --loads" => Regulated, None, true),
+    replay!("replay --threads 1" => Reduced, Some(1), false),
+    replay!("replay --threads=8 --log regulated" => Regulated, Some(8), false),
+    replay!("replay --loads --threads 2" => Reduced, Some(2), true),
 ];
+
+/// Whether the command is the replay of the row.
+fn is_replay(command: Option<Command>, row: &ReplayRow) -> bool {
+    matches!(command, Some(Command::Replay { which, threads, loads })
+        if which == row.which && threads == row.threads && loads == row.loads)
+}
 
 #[test]
 fn words_that_mean_a_replay(rt: HostRuntime) -> Result<(), Fail> {
     for row in &REPLAYS {
-        let meant = match meaning_of(rt.alloc(), row.line)? {
-            Some(
-                Command::Replay {
-                    which,
-                    threads,
-                    loads,
-                },
-            ) => which == row.which && threads == row.threads && loads == row.loads,
-            _ => false,
-        };
-        assert!(rt; meant, "{}", row.line);
+        let command = meaning_of(rt.alloc(), row.line)?;
+        assert!(rt; is_replay(command, row), "{}", row.line);
     }
     Ok(())
 }
@@ -376,27 +272,17 @@ struct ImageRow {
     number: u64,
 }
 
+macro_rules! image {
+    ($line:literal => $shape:ident, $number:literal) => {
+        ImageRow { line: $line, shape: Shape::$shape, number: $number }
+    };
+}
+
 static IMAGES: [ImageRow; 4] = [
-    ImageRow {
-        line: "gen --shape lock --number 500",
-        shape: Shape::Lock,
-        number: 500,
-    },
-    ImageRow {
-        line: "gen --number=2047 --shape=lock",
-        shape: Shape::Lock,
-        number: 2047,
-    },
-    ImageRow {
-        line: "gen --shape mix --number 0",
-        shape: Shape::Mix,
-        number: 0,
-    },
-    ImageRow {
-        line: "gen --number 18446744073709551615 --shape mix",
-        shape: Shape::Mix,
-        number: 18_446_744_073_709_551_615,
-    },
+    image!("gen --shape lock --number 500" => Lock, 500),
+    image!("gen --number=2047 --shape=lock" => Lock, 2047),
+    image!("gen --shape mix --number 0" => Mix, 0),
+    image!("gen --number 18446744073709551615 --shape mix" => Mix, 18_446_744_073_709_551_615),
 ];
 
 #[test]
@@ -447,18 +333,8 @@ static SOAKS: [SoakRow; 2] = [
 
 /// Whether the command is the soak of the row.
 fn is_soak(command: Option<Command>, row: &SoakRow) -> bool {
-    let Some(
-        Command::Soak {
-            shape,
-            number,
-            params,
-            seed,
-        },
-    ) = command
-    else {
-        return false;
-    };
-    shape == row.shape && number == row.number && params == row.params && seed == row.seed
+    matches!(command, Some(Command::Soak { shape, number, params, seed })
+        if shape == row.shape && number == row.number && params == row.params && seed == row.seed)
 }
 
 #[test]
@@ -479,54 +355,29 @@ struct AtRow {
     loads: bool,
 }
 
+macro_rules! at {
+    ($line:literal => $which:ident, $core:literal: $count:literal, $latest:literal, $loads:literal) => {
+        AtRow {
+            line: $line,
+            which: Which::$which,
+            at: Instr { core: $core, count: $count },
+            latest: $latest,
+            loads: $loads,
+        }
+    };
+}
+
 static INSTRUCTIONS: [AtRow; 4] = [
-    AtRow {
-        line: "at --core 1 --count 2",
-        which: Which::Reduced,
-        at: Instr { core: 1, count: 2 },
-        latest: false,
-        loads: false,
-    },
-    AtRow {
-        line: "at --latest --count=1 --core=0",
-        which: Which::Reduced,
-        at: Instr { core: 0, count: 1 },
-        latest: true,
-        loads: false,
-    },
-    AtRow {
-        line: "at --core 15 --log regulated --count 1000000 --loads",
-        which: Which::Regulated,
-        at: Instr {
-            core: 15,
-            count: 1_000_000,
-        },
-        latest: false,
-        loads: true,
-    },
-    AtRow {
-        line: "at --loads --core=3 --latest --count=7 --log=reduced",
-        which: Which::Reduced,
-        at: Instr { core: 3, count: 7 },
-        latest: true,
-        loads: true,
-    },
+    at!("at --core 1 --count 2" => Reduced, 1: 2, false, false),
+    at!("at --latest --count=1 --core=0" => Reduced, 0: 1, true, false),
+    at!("at --core 15 --log regulated --count 1000000 --loads" => Regulated, 15: 1_000_000, false, true),
+    at!("at --loads --core=3 --latest --count=7 --log=reduced" => Reduced, 3: 7, true, true),
 ];
 
 /// Whether the command asks for the state at the row's instruction.
 fn is_at(command: Option<Command>, row: &AtRow) -> bool {
-    let Some(
-        Command::At {
-            which,
-            at,
-            latest,
-            loads,
-        },
-    ) = command
-    else {
-        return false;
-    };
-    which == row.which && at == row.at && latest == row.latest && loads == row.loads
+    matches!(command, Some(Command::At { which, at, latest, loads })
+        if which == row.which && at == row.at && latest == row.latest && loads == row.loads)
 }
 
 #[test]
@@ -558,36 +409,9 @@ fn words_that_mean_fewer_vectors(rt: HostRuntime) -> Result<(), Fail> {
 }
 
 static BUFFERED_RUNS: [Row; 3] = [
-    Row {
-        line: "tsorun",
-        cores: 1,
-        limit: 10_000,
-        words: 16_384,
-        choices: &[],
-        seed: 0,
-        loads: false,
-        elf: false,
-    },
-    Row {
-        line: "tsorun --cores 2 --words=32 --choices 0000 --loads",
-        cores: 2,
-        limit: 10_000,
-        words: 32,
-        choices: &[0, 0],
-        seed: 0,
-        loads: true,
-        elf: false,
-    },
-    Row {
-        line: "tsorun --seed=9 --limit 250000 --cores=16",
-        cores: 16,
-        limit: 250_000,
-        words: 16_384,
-        choices: &[],
-        seed: 9,
-        loads: false,
-        elf: false,
-    },
+    run!("tsorun" =>),
+    run!("tsorun --cores 2 --words=32 --choices 0000 --loads" => cores: 2, words: 32, choices: &[0, 0], loads: true),
+    run!("tsorun --seed=9 --limit 250000 --cores=16" => cores: 16, limit: 250_000, seed: 9),
 ];
 
 /// Whether the command is the row's run of cores with store buffers.
@@ -608,26 +432,8 @@ fn words_that_mean_a_run_of_buffered_cores(rt: HostRuntime) -> Result<(), Fail> 
 }
 
 static BUFFERED_RECORDS: [Row; 2] = [
-    Row {
-        line: "tsorecord",
-        cores: 1,
-        limit: 10_000,
-        words: 16_384,
-        choices: &[],
-        seed: 0,
-        loads: false,
-        elf: false,
-    },
-    Row {
-        line: "tsorecord --choices=07ff --words 262144 --seed 18446744073709551615 --cores 2",
-        cores: 2,
-        limit: 10_000,
-        words: 262_144,
-        choices: &[7, 255],
-        seed: 18_446_744_073_709_551_615,
-        loads: false,
-        elf: false,
-    },
+    run!("tsorecord" =>),
+    run!("tsorecord --choices=07ff --words 262144 --seed 18446744073709551615 --cores 2" => cores: 2, words: 262_144, choices: &[7, 255], seed: 18_446_744_073_709_551_615),
 ];
 
 /// Whether the command records the row's run of cores with store buffers.

@@ -12,111 +12,50 @@ use tso_run::tso_run;
 
 /// slli x6,x10,4; xori x7,x10,1; slli x8,x7,4; addi x9,x0,1; sw x9,64(x6); lw x11,64(x8); ecall: each of two
 /// cores writes a word of its own and then reads the other's.
-const STORE_BUFFERING: [u32; 7] = [
-    0x0045_1313,
-    0x0015_4393,
-    0x0043_9413,
-    0x0010_0493,
-    0x0493_2023,
-    0x0404_2583,
-    0x0000_0073,
+pub const STORE_BUFFERING: [u32; 7] = [
+    0x00451313, 0x00154393, 0x00439413, 0x00100493, 0x04932023, 0x04042583, 0x00000073,
 ];
 
 /// The same with a FENCE between store and load.
 const STORE_BUFFERING_FENCED: [u32; 8] = [
-    0x0045_1313,
-    0x0015_4393,
-    0x0043_9413,
-    0x0010_0493,
-    0x0493_2023,
-    0x0ff0_000f,
-    0x0404_2583,
-    0x0000_0073,
+    0x00451313, 0x00154393, 0x00439413, 0x00100493, 0x04932023, 0x0ff0000f, 0x04042583, 0x00000073,
 ];
 
 /// bne x10,x0,+20; addi x9,x0,1; sw x9,64(x0); sw x9,80(x0); ecall; addi x0,x0,0; addi x0,x0,0;
 /// lw x11,80(x0); lw x12,64(x0); ecall: core 0 writes x and then y, core 1 reads y and then x.
 const MESSAGE_PASSING: [u32; 10] = [
-    0x0005_1a63,
-    0x0010_0493,
-    0x0490_2023,
-    0x0490_2823,
-    0x0000_0073,
-    0x0000_0013,
-    0x0000_0013,
-    0x0500_2583,
-    0x0400_2603,
-    0x0000_0073,
+    0x00051a63, 0x00100493, 0x04902023, 0x04902823, 0x00000073, 0x00000013, 0x00000013, 0x05002583,
+    0x04002603, 0x00000073,
 ];
 
 /// The same with a FENCE between the stores and one between the loads.
 const MESSAGE_PASSING_FENCED: [u32; 12] = [
-    0x0005_1c63,
-    0x0010_0493,
-    0x0490_2023,
-    0x0ff0_000f,
-    0x0490_2823,
-    0x0000_0073,
-    0x0000_0013,
-    0x0000_0013,
-    0x0500_2583,
-    0x0ff0_000f,
-    0x0400_2603,
-    0x0000_0073,
+    0x00051c63, 0x00100493, 0x04902023, 0x0ff0000f, 0x04902823, 0x00000073, 0x00000013, 0x00000013,
+    0x05002583, 0x0ff0000f, 0x04002603, 0x00000073,
 ];
 
 /// slli x6,x10,4; xori x7,x10,1; slli x8,x7,4; addi x9,x0,1; lw x11,64(x8); sw x9,64(x6); ecall: each of two
 /// cores reads the other's word and then writes its own.
 const LOAD_BUFFERING: [u32; 7] = [
-    0x0045_1313,
-    0x0015_4393,
-    0x0043_9413,
-    0x0010_0493,
-    0x0404_2583,
-    0x0493_2023,
-    0x0000_0073,
+    0x00451313, 0x00154393, 0x00439413, 0x00100493, 0x04042583, 0x04932023, 0x00000073,
 ];
 
 /// The same with a FENCE between load and store.
 const LOAD_BUFFERING_FENCED: [u32; 8] = [
-    0x0045_1313,
-    0x0015_4393,
-    0x0043_9413,
-    0x0010_0493,
-    0x0404_2583,
-    0x0ff0_000f,
-    0x0493_2023,
-    0x0000_0073,
+    0x00451313, 0x00154393, 0x00439413, 0x00100493, 0x04042583, 0x0ff0000f, 0x04932023, 0x00000073,
 ];
 
 /// slli x6,x10,4; srli x5,x10,1; addi x9,x0,1; bne x5,x0,+12; sw x9,64(x6); ecall; xori x7,x6,16; lw x11,32(x6); lw
 /// x12,32(x7); ecall: cores 0 and 1 write x and y, core 2 reads x and then y, and core 3 reads y and then x.
 const TWO_READERS: [u32; 10] = [
-    0x0045_1313,
-    0x0015_5293,
-    0x0010_0493,
-    0x0002_9663,
-    0x0493_2023,
-    0x0000_0073,
-    0x0103_4393,
-    0x0203_2583,
-    0x0203_a603,
-    0x0000_0073,
+    0x00451313, 0x00155293, 0x00100493, 0x00029663, 0x04932023, 0x00000073, 0x01034393, 0x02032583,
+    0x0203a603, 0x00000073,
 ];
 
 /// The same with a FENCE between the loads.
 const TWO_READERS_FENCED: [u32; 11] = [
-    0x0045_1313,
-    0x0015_5293,
-    0x0010_0493,
-    0x0002_9663,
-    0x0493_2023,
-    0x0000_0073,
-    0x0103_4393,
-    0x0203_2583,
-    0x0ff0_000f,
-    0x0203_a603,
-    0x0000_0073,
+    0x00451313, 0x00155293, 0x00100493, 0x00029663, 0x04932023, 0x00000073, 0x01034393, 0x02032583,
+    0x0ff0000f, 0x0203a603, 0x00000073,
 ];
 
 /// How many schedules of each kind each program runs under.
@@ -206,33 +145,36 @@ fn outcomes(alloc: Global, code: &[u32], cores: u8) -> Result<u32, Fail>
     Ok(seen)
 }
 
-// Each core's load may pass its own store, so that both get 0; a FENCE between them forbids that.
-#[test]
-fn store_buffering(rt: HostRuntime) -> Result<(), Fail> {
-    let seen = outcomes(rt.alloc(), &STORE_BUFFERING, 2)?;
-    assert_eq!(rt; seen, 0b1111);
-    let fenced = outcomes(rt.alloc(), &STORE_BUFFERING_FENCED, 2)?;
-    assert_eq!(rt; fenced, 0b1110);
-    Ok(())
+/// A program of two cores, and the outcomes that are seen of it, a bit each.
+struct Litmus {
+    code: &'static [u32],
+    seen: u32,
 }
 
-// Stores are ordered as their core has them, and so are loads: whoever has read the new y reads the new x.
-#[test]
-fn message_passing(rt: HostRuntime) -> Result<(), Fail> {
-    let seen = outcomes(rt.alloc(), &MESSAGE_PASSING, 2)?;
-    assert_eq!(rt; seen, 0b1011);
-    let fenced = outcomes(rt.alloc(), &MESSAGE_PASSING_FENCED, 2)?;
-    assert_eq!(rt; fenced, 0b1011);
-    Ok(())
+macro_rules! litmus {
+    ($code:ident => $seen:literal) => {
+        Litmus { code: &$code, seen: $seen }
+    };
 }
 
-// No store is ordered before a load of its core that comes first, so not both loads get what was written.
+static LITMUS: [Litmus; 6] = [
+    // Each core's load may pass its own store, so that both get 0; a FENCE between them forbids that.
+    litmus!(STORE_BUFFERING => 0b1111),
+    litmus!(STORE_BUFFERING_FENCED => 0b1110),
+    // Stores are ordered as their core has them, and so are loads: whoever has read the new y reads the new x.
+    litmus!(MESSAGE_PASSING => 0b1011),
+    litmus!(MESSAGE_PASSING_FENCED => 0b1011),
+    // No store is ordered before a load of its core that comes first, so not both loads get what was written.
+    litmus!(LOAD_BUFFERING => 0b0111),
+    litmus!(LOAD_BUFFERING_FENCED => 0b0111),
+];
+
 #[test]
-fn load_buffering(rt: HostRuntime) -> Result<(), Fail> {
-    let seen = outcomes(rt.alloc(), &LOAD_BUFFERING, 2)?;
-    assert_eq!(rt; seen, 0b0111);
-    let fenced = outcomes(rt.alloc(), &LOAD_BUFFERING_FENCED, 2)?;
-    assert_eq!(rt; fenced, 0b0111);
+fn two_cores_have_these_outcomes(rt: HostRuntime) -> Result<(), Fail> {
+    for litmus in &LITMUS {
+        let seen = outcomes(rt.alloc(), litmus.code, 2)?;
+        assert_eq!(rt; seen, litmus.seen);
+    }
     Ok(())
 }
 

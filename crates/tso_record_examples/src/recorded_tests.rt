@@ -3,6 +3,7 @@
 ghost use Rattle.std.specs.Prelude.{◌≡◌, IfOk};
 ghost use Rattle.tso_codec.specs.Validity.{IsTso};
 
+use crate::litmus_tests::STORE_BUFFERING;
 use image_mem::Image;
 use replay_core::ReplayFault;
 use rtr_types::Params;
@@ -13,18 +14,6 @@ use std::test::Fail;
 use tso_codec::TsoRecording;
 use tso_record::{TsoRecorded, tso_record, tso_record_image};
 use tso_replay::tso_replay;
-
-/// slli x6,x10,4; xori x7,x10,1; slli x8,x7,4; addi x9,x0,1; sw x9,64(x6); lw x11,64(x8); ecall:
-/// each core writes a word of its own and then reads the other's.
-const STORE_BUFFERING: [u32; 7] = [
-    0x0045_1313,
-    0x0015_4393,
-    0x0043_9413,
-    0x0010_0493,
-    0x0493_2023,
-    0x0404_2583,
-    0x0000_0073,
-];
 
 /// Two cores and 32 words.
 const PARAMS: Params = Params {

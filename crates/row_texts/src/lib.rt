@@ -1,0 +1,36 @@
+//! Bytes and words as the rows of tests spell them.
+#![tactic(auto)]
+
+use std::alloc::{AllocError, Global};
+
+/// The bytes that hexadecimal digits spell; spaces between them are passed over.
+pub fn bytes(alloc: Global, digits: &str) -> Result<Vec<u8>, AllocError> {
+    let mut bytes = Vec::new(alloc);
+    let mut high = None;
+    for digit in digits.bytes() {
+        let value = match digit {
+            b'0'..=b'9' => digit - b'0',
+            b'a'..=b'f' => digit - b'a' + 10,
+            _ => continue,
+        };
+        high = match high {
+            None => Some(value),
+            Some(high) => {
+                bytes.push((high % 16) * 16 + value)?;
+                None
+            }
+        };
+    }
+    Ok(bytes)
+}
+
+/// The words of a line, which are parted by single spaces.
+pub fn words(alloc: Global, line: &str) -> Result<Vec<String>, AllocError> {
+    let mut words = Vec::new(alloc);
+    for word in line.split(' ') {
+        if !line.is_empty() {
+            words.push(String::from_str(alloc, word)?)?;
+        }
+    }
+    Ok(words)
+}
