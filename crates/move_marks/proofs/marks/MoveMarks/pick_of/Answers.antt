@@ -18,5 +18,7 @@ pub returns-clause-value : goal.returns-clause-value
 returns-clause-value c = λ d.
     found_last (λ (n : ℕ). record { kind = c.args.kind; core = n }) (members (set_of c.args.kind c.args.self))
     c.args.number c.nth-core.result d
-    (subst (λ (s : CoreSet). c.args.number < length (members s)) c.set_of.ensures (nth-core-requires c))
+    (subst (λ (k : ℕ). c.args.number < k)
+    (length-map {B = MarkedMove} (members (set_of c.args.kind c.args.self)) (λ (n : ℕ).
+    record { kind = c.args.kind; core = n })) c.requires)
     (λ e. c.nth-core.ensures.value e ∙ ap (λ (s : CoreSet). get_or (members s) c.args.number e) c.set_of.ensures)
