@@ -1,32 +1,28 @@
 -- The marks at the ports follow the home's turns: where exactly the acts were marked that could be made, so it is after
 -- the turn at a core, once its own response, or its own request, is marked anew.
 use Rattle.std.proofs.Common.{◌≡◌, ◌≢◌, ◌∙◌, ◌⊎◌, inl, inr, sym, subst, ap, ℕ, ◌<◌, ◌≤◌, Bool, true, false}
-use Rattle.std.proofs.Common.{length, nat_lt}
+use Rattle.std.proofs.Common.{[], ◌∷◌, length, nat_lt}
 use Rattle.std.proofs.lemmas.Bool.{cases_eq}
 use Rattle.access_times.specs.Riding.{Riding, Carrying}
 use Rattle.rtr_types.specs.CoreSets.{has}
 use Rattle.msi_memory.specs.declared.turn.Turn.{Turn}
-use Rattle.msi_memory.specs.Acts.{TakeMessage, TakeRequest, TakeResponse, can, take_request, take_response}
+use Rattle.msi_memory.specs.Acts.{Act, TakeMessage, TakeRequest, TakeResponse, after_act, can, take_request}
+use Rattle.msi_memory.specs.Acts.{take_response}
 use Rattle.msi_memory.specs.Memories.{Memory, port_at}
 use Rattle.msi_memory.specs.Rests.{requests_at}
 use Rattle.msi_memory.specs.Turns.{IsRequestTurn, IsResponseTurn}
 use Rattle.msi_laws.specs.Holds.{MemoryHolds}
+use Rattle.msi_laws.proofs.Acting.{ports_after_acts}
 use Rattle.msi_laws.proofs.Ready.{memory_ready}
 use Rattle.msi_laws.proofs.Spaces.{port_links_hold}
 use Rattle.move_marks.specs.declared.marks.MoveKind.TheVariants.{Request, Response, FromHome}
 use Rattle.move_marks.specs.declared.marks.MoveMarks.{MoveMarks}
 use Rattle.move_marks.specs.Kinds.{set_of}
+use Rattle.move_marks.specs.Ports.{PortsMarked}
 use Rattle.move_marks.specs.Turns.{IsAfterTurn}
 use Rattle.move_marks.proofs.Delivered.{left_is, lt_of, right_of}
 use Rattle.move_marks.proofs.Turned.{TurnFits, none_left, request_fits, request_leaves_none, response_fits}
 use Rattle.move_marks.proofs.Turned.{response_requests, same_responses}
-
--- exactly the acts that can be made at the ports are marked
-pub record PortsMarked {R K : Type 0} (riding : Riding R) (carrying : Carrying K) (m : Memory R K) (marks : MoveMarks)
-    : Type 0 where
-  pub requests : (d : ℕ) → has (set_of Request marks) d ≡ can riding carrying m (TakeRequest d)
-  pub responses : (d : ℕ) → has (set_of Response marks) d ≡ can riding carrying m (TakeResponse d)
-  pub messages : (d : ℕ) → has (set_of FromHome marks) d ≡ can riding carrying m (TakeMessage d)
 
 -- what holds at one core and at the others holds at each
 pub each : (f g : ℕ → Bool) (c : ℕ) → f c ≡ g c → ((d : ℕ) → d ≢ c → f d ≡ g d) → (d : ℕ) → f d ≡ g d
@@ -43,6 +39,12 @@ module _ {R K : Type 0} where
   one_request riding carrying m c holds here =
       subst (λ (k : ℕ). length (port_at carrying m.ports c).requests.items ≤ k)
       (holds.ports c here).requests_room (port_links_hold riding carrying m c holds here).requests
+
+  -- an act changes no number of ports
+  pub long_after : (riding : Riding R) (carrying : Carrying K) (m n : Memory R K) (act : Act R) →
+      n ≡ after_act riding carrying m act → length n.ports ≡ length m.ports
+  long_after riding carrying m n act is =
+      ap (λ (x : Memory R K). length x.ports) is ∙ ports_after_acts riding carrying m (act ∷ [])
 
   -- the home took core c's oldest request, and none of them is marked then
   pub request_followed : (riding : Riding R) (carrying : Carrying K) (m n : Memory R K) (c cores : ℕ) (turn : Turn)

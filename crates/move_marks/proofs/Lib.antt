@@ -7,5 +7,8 @@ pub mod Delivered
 pub mod Acts
 pub mod Turned
 pub mod Following
+pub mod OnePort
+pub mod Lateness
+pub mod Idle
 pub mod Listing
 pub mod Made

@@ -1,3 +1,4 @@
 pub mod Members
 pub mod Kinds
 pub mod Turns
+pub mod Ports

@@ -3,10 +3,14 @@
 //! can be made.
 #![tactic(auto)]
 
+mod late;
 mod marking;
 mod marks;
 mod sets;
+mod taking;
 
-pub use marking::mark_turn;
+pub use late::{make_room, with_late};
+pub use marking::{mark_port, mark_turn};
 pub use marks::{MarkedMove, MoveKind, MoveMarks};
 pub use sets::{count, nth, set_to};
+pub use taking::{take_request, take_response};

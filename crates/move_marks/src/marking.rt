@@ -1,11 +1,15 @@
-//! What the home's turns change of the marks.
-ghost use Rattle.std.specs.Prelude.{◌≡◌, ◌≤◌, ◌&&◌, ℕ, length, nat_lt};
+//! What the home's turns, and what happens at a port, change of the marks.
+ghost use Rattle.std.specs.Prelude.{◌≡◌, ◌≢◌, ◌<◌, ◌≤◌, ◌&&◌, ℕ, length, nat_lt};
 ghost use Rattle.rtr_types.specs.CoreSets.{has};
 ghost use Rattle.rtr_types.specs.declared.TheConstants.{CORES_MAX};
 ghost use Rattle.msi_directory.specs.Blocks.{entry_at};
 ghost use Rattle.msi_directory.specs.Table.{is_free};
+ghost use Rattle.msi_memory.specs.Acts.{TakeMessage, TakeResponse, can};
 ghost use Rattle.msi_memory.specs.Rests.{hears};
+ghost use Rattle.move_marks.specs.Kinds.{set_of};
 ghost use Rattle.move_marks.specs.Turns.{IsAfterTurn, differ};
+ghost use Rattle.move_marks.specs.declared.marks.MoveKind.{MoveKind};
+ghost use Rattle.move_marks.specs.declared.marks.MoveKind.TheVariants.{FromHome, Response};
 
 use crate::marks::{MoveKind, MoveMarks};
 use crate::sets::first_of;
@@ -38,6 +42,21 @@ pub fn mark_turn<R: Rider, K: Carry>(
             marks.clear_all(MoveKind::Request, askers);
         }
     }
+}
+
+/// Marks where the home can take a response of the core, and where the core's cache can take a message.
+pub fn mark_port<R: Rider, K: Carry>(memory: &MemorySystem<R, K>, core: u8, marks: &mut MoveMarks)
+    requires few { length memory.now.memory.ports ≤ CORES_MAX }
+    requires here { core < length memory.now.memory.ports }
+    ensures response { has (set_of Response marks.new) core
+        ≡ can R.riding K.carrying memory.now.memory (TakeResponse core) }
+    ensures message { has (set_of FromHome marks.new) core
+        ≡ can R.riding K.carrying memory.now.memory (TakeMessage core) }
+    ensures others { (k : MoveKind) (c : ℕ) → (k ≡ Response → c ≢ core) → (k ≡ FromHome → c ≢ core)
+        → has (set_of k marks.new) c ≡ has (set_of k marks.old) c }
+{
+    marks.set(MoveKind::Response, core, memory.has_response(core));
+    marks.set(MoveKind::FromHome, core, memory.has_message(core));
 }
 
 /// Whether the one holds and the other doesn't.

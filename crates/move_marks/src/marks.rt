@@ -2,7 +2,7 @@
 ghost use Rattle.std.specs.Prelude.{◌≡◌, ◌≢◌, ◌==◌, ◌<◌, ◌≤◌, ◌&&◌, ◌||◌, ℕ, false, length, not, slice_index_or};
 ghost use Rattle.rtr_types.specs.CoreSets.{has};
 ghost use Rattle.rtr_types.specs.declared.TheConstants.{CORES_MAX};
-ghost use Rattle.move_marks.specs.Kinds.{marked, marked_at_ports, place_of, set_of};
+ghost use Rattle.move_marks.specs.Kinds.{marked, marked_at_ports, marked_of, place_of, set_of};
 ghost use Rattle.move_marks.specs.declared.marks.MarkedMove.{MarkedMove};
 ghost use Rattle.move_marks.specs.declared.marks.MoveKind.{MoveKind};
 
@@ -119,14 +119,9 @@ impl MoveMarks {
         ensures value { (d : MarkedMove) → result ≡ slice_index_or (marked self) number d }
         ensures within { result.core < CORES_MAX }
     {
-        let own = self.set_of(MoveKind::Own);
-        let many = count(own);
+        let many = self.count_of(MoveKind::Own);
         if number < many {
-            let core = nth(own, number);
-            return MarkedMove {
-                kind: MoveKind::Own,
-                core,
-            };
+            return self.pick_of(MoveKind::Own, number);
         }
         self.pick_at_port(number - many)
     }
@@ -137,29 +132,34 @@ impl MoveMarks {
         ensures value { (d : MarkedMove) → result ≡ slice_index_or (marked_at_ports self) number d }
         ensures within { result.core < CORES_MAX }
     {
-        let requests = self.set_of(MoveKind::Request);
-        let many = count(requests);
-        if number < many {
-            let core = nth(requests, number);
-            return MarkedMove {
-                kind: MoveKind::Request,
-                core,
-            };
+        let requests = self.count_of(MoveKind::Request);
+        if number < requests {
+            return self.pick_of(MoveKind::Request, number);
         }
-        let left = number - many;
-        let responses = self.set_of(MoveKind::Response);
-        let many = count(responses);
-        if left < many {
-            let core = nth(responses, left);
-            return MarkedMove {
-                kind: MoveKind::Response,
-                core,
-            };
+        let left = number - requests;
+        let responses = self.count_of(MoveKind::Response);
+        if left < responses {
+            return self.pick_of(MoveKind::Response, left);
         }
-        let core = nth(self.set_of(MoveKind::FromHome), left - many);
-        MarkedMove {
-            kind: MoveKind::FromHome,
-            core,
-        }
+        self.pick_of(MoveKind::FromHome, left - responses)
+    }
+
+    /// How many moves of the kind are marked.
+    #[inline(always)]
+    fn count_of(self, kind: MoveKind) -> u32
+        ensures { result ≡ length (marked_of kind self) }
+    {
+        count(self.set_of(kind))
+    }
+
+    /// The marked move of this number among those of the kind.
+    #[inline(always)]
+    fn pick_of(self, kind: MoveKind, number: u32) -> MarkedMove
+        requires { number < length (marked_of kind self) }
+        ensures value { (d : MarkedMove) → result ≡ slice_index_or (marked_of kind self) number d }
+        ensures within { result.core < CORES_MAX }
+    {
+        let core = nth(self.set_of(kind), number);
+        MarkedMove { kind, core }
     }
 }

@@ -31,19 +31,20 @@ use Rattle.machine_progress.proofs.Ending.{links_left}
 use Rattle.machine_data.proofs.Final.{all_quiet}
 use Rattle.msi_machine.specs.Writers.{OneWriterEach}
 
-writable_seen : {R : Type 0} (b : ℕ) (line : Line R) → can_write line b ≡ is_writable (line_state b line)
-writable_seen b line = by_test (line.block == b) line.state
+-- what a line allows hangs on the state that the block has in it
+seen_by : {R : Type 0} (allows : LineState → Bool) → allows I ≡ false → (b : ℕ) (line : Line R) →
+    (line.block == b && allows line.state) ≡ allows (line_state b line)
+seen_by allows none b line = by_test (line.block == b) line.state
   where
-    by_test : (t : Bool) (s : LineState) → (t && is_writable s) ≡ is_writable (if t then s else I)
+    by_test : (t : Bool) (s : LineState) → (t && allows s) ≡ allows (if t then s else I)
     by_test true s = refl
-    by_test false s = refl
+    by_test false s = sym none
+
+writable_seen : {R : Type 0} (b : ℕ) (line : Line R) → can_write line b ≡ is_writable (line_state b line)
+writable_seen b line = seen_by is_writable refl b line
 
 readable_seen : {R : Type 0} (b : ℕ) (line : Line R) → can_read line b ≡ is_readable (line_state b line)
-readable_seen b line = by_test (line.block == b) line.state
-  where
-    by_test : (t : Bool) (s : LineState) → (t && is_readable s) ≡ is_readable (if t then s else I)
-    by_test true s = refl
-    by_test false s = refl
+readable_seen b line = seen_by is_readable refl b line
 
 module _ {R K : Type 0} where
   below : (riding : Riding R) (carrying : Carrying K) (s : State R K) (c : ℕ) → MachineHolds riding carrying s →

@@ -1,77 +1,26 @@
--- What stays as it was: what a move doesn't change of each port, of each core, and of what can be done there.
-use Rattle.std.proofs.Common.{◌≡◌, ◌≢◌, ◌∙◌, ap, ℕ, ◌<◌}
-use Rattle.std.proofs.Common.{List, length, nat_lt}
+-- What a move of one core leaves of the others.
+use Rattle.std.proofs.Common.{◌≡◌, ◌≢◌, ℕ, length, nat_lt}
 use Rattle.std.proofs.Common.{◌&&◌}
-use Rattle.std.specs.Prelude.{not, slice_set}
-use Rattle.std.proofs.lemmas.List.{get_or-set_other, get_or-set_same, length-set}
+use Rattle.std.specs.Prelude.{not}
 use Rattle.access_times.specs.Riding.{Riding, Carrying}
-use Rattle.rv_core.specs.declared.core_state.Core.{Core}
 use Rattle.rv_core.specs.States.{starting}
 use Rattle.rv_core.specs.Steps.{need, is_done}
 use Rattle.msi_cache.specs.Lines.{waits}
-use Rattle.msi_memory.specs.declared.port.Port.{Port}
-use Rattle.msi_memory.specs.Acts.{Act, TakeRequest, TakeResponse, TakeMessage, can, can_at, port_of}
-use Rattle.msi_memory.specs.Memories.{no_port, port_at}
-use Rattle.msi_memory.specs.Rests.{requests_at}
-use Rattle.msi_state.specs.declared.moves.Move.{Move}
-use Rattle.msi_state.specs.declared.moves.Move.TheVariants.{Core as CoreMove, Request as RequestMove}
-use Rattle.msi_state.specs.declared.moves.Move.TheVariants.{Response as ResponseMove, FromHome as MessageMove}
-use Rattle.msi_state.specs.Moves.{core_of}
+use Rattle.move_marks.proofs.OnePort.{OneSet, PortMoved, one_other, port_other, same_long}
+use Rattle.msi_state.specs.declared.moves.Move.TheVariants.{Core as CoreMove}
 use Rattle.msi_state.specs.States.{State, core_at}
 use Rattle.msi_state.specs.Steps.{enabled}
-use Rattle.move_marks.proofs.Acts.{can_by, set_elsewhere}
 
--- the state after core c moved at its port, with its core and its port as they are then
+-- the state after core c moved at its port
 pub record MovedAt {R K : Type 0} (s t : State R K) (c : ℕ) : Type 0 where
-  pub core : Core
-  pub port : Port R K
   pub image : t.image ≡ s.image
-  pub cores : t.cores ≡ slice_set s.cores c core
-  pub ports : t.memory.ports ≡ slice_set s.memory.ports c port
-  pub home : t.memory.home ≡ s.memory.home
+  pub cores : OneSet s.cores t.cores c
+  pub memory : PortMoved s.memory t.memory c
 
-module _ {R K : Type 0} (carrying : Carrying K) (s t : State R K) (c : ℕ) (moved : MovedAt s t c) where
-  pub moved_cores : length t.cores ≡ length s.cores
-  moved_cores = ap length moved.cores ∙ length-set s.cores c moved.core
-
-  pub moved_ports : length t.memory.ports ≡ length s.memory.ports
-  moved_ports = ap length moved.ports ∙ length-set s.memory.ports c moved.port
-
-  pub core_now : c < length s.cores → core_at t.cores c ≡ moved.core
-  core_now within = ap (λ (cores : List Core). core_at cores c) moved.cores
-      ∙ get_or-set_same s.cores c moved.core (starting 0 0) within
-
-  pub port_now : c < length s.memory.ports → port_at carrying t.memory.ports c ≡ moved.port
-  port_now within =
-      ap (λ (ports : List (Port R K)). port_at carrying ports c) moved.ports
-      ∙ get_or-set_same s.memory.ports c moved.port (no_port carrying) within
-
-  core_other : (d : ℕ) → d ≢ c → core_at t.cores d ≡ core_at s.cores d
-  core_other d other = ap (λ (cores : List Core). core_at cores d) moved.cores
-      ∙ get_or-set_other s.cores c d moved.core (starting 0 0) other
-
-  port_other : (d : ℕ) → d ≢ c → port_at carrying t.memory.ports d ≡ port_at carrying s.memory.ports d
-  port_other d other =
-      ap (λ (ports : List (Port R K)). port_at carrying ports d) moved.ports
-      ∙ get_or-set_other s.memory.ports c d moved.port (no_port carrying) other
-
-  pub requests_other : (d : ℕ) → d ≢ c → requests_at t.memory.ports d ≡ requests_at s.memory.ports d
-  requests_other d other =
-      ap (λ (ports : List (Port R K)). requests_at ports d) moved.ports
-      ∙ set_elsewhere s.memory.ports c d moved.port other
-
-  can_other : (riding : Riding R) (act : Act R) → port_of act ≢ c →
-      can riding carrying t.memory act ≡ can riding carrying s.memory act
-  can_other riding act other =
-      can_by riding carrying s.memory t.memory act moved_ports (λ within i. can_at riding (moved.home i)
-      (port_other (port_of act) other i) act)
-
-  -- the other cores' moves
-  pub elsewhere : (riding : Riding R) (m : Move) → core_of m ≢ c → enabled riding carrying t m ≡ enabled riding carrying
-      s m
-  elsewhere riding (CoreMove d) other = λ i.
-      nat_lt d (moved_cores i)
-      && (not (is_done (need (moved.image i) (core_other d other i))) && not (waits (port_other d other i).cache))
-  elsewhere riding (RequestMove d) other = can_other riding (TakeRequest d) other
-  elsewhere riding (ResponseMove d) other = can_other riding (TakeResponse d) other
-  elsewhere riding (MessageMove d) other = can_other riding (TakeMessage d) other
+-- another core moves by itself exactly where it did
+pub elsewhere : {R K : Type 0} (riding : Riding R) (carrying : Carrying K) (s t : State R K) (c : ℕ) → MovedAt s t c →
+    (d : ℕ) → d ≢ c → enabled riding carrying t (CoreMove d) ≡ enabled riding carrying s (CoreMove d)
+elsewhere riding carrying s t c moved d other = λ i.
+    nat_lt d (same_long s.cores t.cores c moved.cores i)
+    && (not (is_done (need (moved.image i) (one_other s.cores t.cores c moved.cores (starting 0 0) d other i)))
+    && not (waits (port_other carrying s.memory t.memory c moved.memory d other i).cache))

@@ -21,7 +21,12 @@ use Rattle.machine_invariant.specs.Holds.{MachineHolds}
 use Rattle.machine_invariant.proofs.Stepping.{step_ports}
 use Rattle.machine_progress.proofs.Ending.{moves_left}
 use Rattle.msi_machine.specs.declared.marks.Marks.{Marks}
-use Rattle.msi_machine.specs.Marks.{AllMarked, OthersMarked, is_marked, marked}
+use Rattle.msi_machine.specs.Marks.{AllMarked, is_marked, kind_of, marked}
+use Rattle.rtr_types.specs.CoreSets.{has}
+use Rattle.move_marks.specs.declared.marks.MoveKind.TheVariants.{Own, Request}
+use Rattle.move_marks.specs.declared.marks.MoveMarks.{MoveMarks}
+use Rattle.move_marks.specs.Kinds.{set_of}
+use Rattle.move_marks.specs.Ports.{PortsMarkedBut}
 use Rattle.move_marks.proofs.Acts.{can_past, requests_within}
 use Rattle.move_marks.proofs.Delivered.{false_true, right_of}
 use Rattle.move_marks.proofs.Turned.{none_left}
@@ -69,35 +74,34 @@ module _ {R K : Type 0} where
   -- no request of a core is left open where no core asked
   pub no_asker : (riding : Riding R) (carrying : Carrying K) (rider : R) (s t : State R K) (m : Move) (marks : Marks) →
       MachineHolds riding carrying s → t ≡ step riding carrying rider s m → AllMarked riding carrying t marks →
-      is_marked marks (RequestMove CORES_MAX) ≡ false
+      has (set_of Request marks.moves) CORES_MAX ≡ false
   no_asker riding carrying rider s t m marks holds is all =
-      all.marked (RequestMove CORES_MAX)
+      all.ports.requests CORES_MAX
       ∙ can_past riding carrying t.memory (TakeRequest CORES_MAX)
       (subst (λ (n : ℕ). n ≤ CORES_MAX)
       (sym (ap (λ (x : State R K). length x.memory.ports) is ∙ step_ports riding carrying rider s m))
       holds.memory.cores)
 
-  marked_can : (riding : Riding R) (carrying : Carrying K) (s : State R K) (marks : Marks) (asker : ℕ) →
-      OthersMarked riding carrying s marks asker → is_marked marks (RequestMove asker) ≡ false → (m : Move) →
-      is_marked marks m ≡ true → enabled riding carrying s m ≡ true
-  marked_can riding carrying s marks asker others unmarked (CoreMove d) is =
-      sym (others.marked (CoreMove d) (λ (e : CoreMove d ≡ RequestMove asker). cc)) ∙ is
-  marked_can riding carrying s marks asker others unmarked (ResponseMove d) is =
-      sym (others.marked (ResponseMove d) (λ (e : ResponseMove d ≡ RequestMove asker). cc)) ∙ is
-  marked_can riding carrying s marks asker others unmarked (MessageMove d) is =
-      sym (others.marked (MessageMove d) (λ (e : MessageMove d ≡ RequestMove asker). cc)) ∙ is
-  marked_can riding carrying s marks asker others unmarked (RequestMove d) is = by (cases_eq d asker)
+  marked_can : (riding : Riding R) (carrying : Carrying K) (s : State R K) (marks : MoveMarks) (asker : ℕ) →
+      ((d : ℕ) → has (set_of Own marks) d ≡ enabled riding carrying s (CoreMove d)) →
+      PortsMarkedBut riding carrying s.memory marks asker → has (set_of Request marks) asker ≡ false →
+      (m : Move) → has (set_of (kind_of m) marks) (core_of m) ≡ true → enabled riding carrying s m ≡ true
+  marked_can riding carrying s marks asker own but unmarked (CoreMove d) is = sym (own d) ∙ is
+  marked_can riding carrying s marks asker own but unmarked (ResponseMove d) is = sym (but.responses d) ∙ is
+  marked_can riding carrying s marks asker own but unmarked (MessageMove d) is = sym (but.messages d) ∙ is
+  marked_can riding carrying s marks asker own but unmarked (RequestMove d) is = by (cases_eq d asker)
     where
       by : (d ≡ asker) ⊎ (d ≡ asker → ⊥) → enabled riding carrying s (RequestMove d) ≡ true
       by (inl same) =
-          false_true (sym unmarked ∙ ap (λ (k : ℕ). is_marked marks (RequestMove k)) (sym same) ∙ is)
-      by (inr other) =
-          sym (others.marked (RequestMove d) (λ (e : RequestMove d ≡ RequestMove asker). other (ap core_of e))) ∙ is
+          false_true (sym unmarked ∙ ap (λ (k : ℕ). has (set_of Request marks) k) (sym same) ∙ is)
+      by (inr other) = sym (but.requests d other) ∙ is
 
   pub marked_goes_on : (riding : Riding R) (carrying : Carrying K) (s : State R K) (marks : Marks) (asker : ℕ) →
-      MachineHolds riding carrying s → OthersMarked riding carrying s marks asker →
-      is_marked marks (RequestMove asker) ≡ false → 0 < length (marked marks) → all_done s ≡ false
-  marked_goes_on riding carrying s marks asker holds others unmarked some = by (all_done s) refl
+      MachineHolds riding carrying s →
+      ((d : ℕ) → has (set_of Own marks.moves) d ≡ enabled riding carrying s (CoreMove d)) →
+      PortsMarkedBut riding carrying s.memory marks.moves asker → has (set_of Request marks.moves) asker ≡ false →
+      0 < length (marked marks) → all_done s ≡ false
+  marked_goes_on riding carrying s marks asker holds own but unmarked some = by (all_done s) refl
     where
       by : (done : Bool) → all_done s ≡ done → done ≡ false
       by false is = refl
@@ -107,9 +111,9 @@ module _ {R K : Type 0} where
           (subst (λ (n : ℕ). n ≤ CORES_MAX) holds.ports_there holds.memory.cores) (λ m. refl)
           (λ m past. false_where (is_marked marks m) (λ yes.
           sym (past_none riding carrying s holds.ports_there m past)
-          ∙ marked_can riding carrying s marks asker others unmarked m yes))
+          ∙ marked_can riding carrying s marks.moves asker own but unmarked m yes))
           ∙ filter_fewer (is_marked marks) (enabled riding carrying s)
           (candidates (length s.cores) (4 * length s.cores))
-          (marked_can riding carrying s marks asker others unmarked) (moves_left riding carrying s holds is) in
+          (marked_can riding carrying s marks.moves asker own but unmarked) (moves_left riding carrying s holds is) in
           let long : length (marked marks) ≡ 0 = ap length none in
           absurd (omega arith)

@@ -1,6 +1,6 @@
 -- The marked moves in order: by kind, and in a kind by core. Where each move is marked that passes a test, and no move
 -- passes of a core that isn't there, they are those of all moves that pass.
-use Rattle.std.proofs.Common.{◌≡◌, ◌∙◌, refl, sym, ap, ℕ, ◌+◌, ◌*◌, ◌<◌, ◌≤◌, Bool, false, ◌++◌, arith}
+use Rattle.std.proofs.Common.{◌≡◌, ◌∙◌, sym, ap, ℕ, ◌+◌, ◌*◌, ◌<◌, ◌≤◌, Bool, false, ◌++◌, arith}
 use Rattle.std.specs.Prelude.{map}
 use Rattle.std.specs.List.{filter, range_with_len}
 use Rattle.std.proofs.lemmas.Bool.Decides.{nat_tests}
@@ -15,17 +15,7 @@ use Rattle.msi_state.specs.declared.moves.Move.TheVariants.{Core as CoreMove, Re
 use Rattle.msi_state.specs.declared.moves.Move.TheVariants.{Response as ResponseMove, FromHome as MessageMove}
 use Rattle.msi_state.specs.Moves.{candidate, candidates, core_of}
 use Rattle.msi_machine.specs.declared.marks.Marks.{Marks}
-use Rattle.msi_machine.specs.Marks.{is_marked, kind_of, made_of, marked}
-
--- a move is known by its kind and its core
-by_kind : (m : Move) → made_of (kind_of m) (core_of m) ≡ m
-by_kind (CoreMove c) = refl
-by_kind (RequestMove c) = refl
-by_kind (ResponseMove c) = refl
-by_kind (MessageMove c) = refl
-
-pub same_move : (m n : Move) → kind_of m ≡ kind_of n → core_of m ≡ core_of n → m ≡ n
-same_move m n kinds cores = sym (by_kind m) ∙ (λ i. made_of (kinds i) (cores i)) ∙ by_kind n
+use Rattle.msi_machine.specs.Marks.{is_marked, made_of, marked}
 
 core_at : (cores c : ℕ) → c < cores → candidate cores (0 + c) ≡ CoreMove c
 core_at cores c within = grind (arith, nat_tests)

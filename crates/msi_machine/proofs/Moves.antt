@@ -1,24 +1,23 @@
 -- What each move leaves of cores, ports and what is noted beside them.
-use Rattle.std.proofs.Common.{◌≡◌, ◌≢◌, ◌∙◌, ◌⊎◌, inl, inr, refl, sym, subst, ap, ℕ, ◌<◌, Bool, true, false}
+use Rattle.std.proofs.Common.{◌≡◌, ◌≢◌, ◌∙◌, ◌⊎◌, inl, inr, refl, sym, subst, ap, ℕ, ◌<◌, ◌≤◌, Bool, true, false}
 use Rattle.std.proofs.Common.{List, [], ◌∷◌, length, get_or, Option, Some, None}
-use Rattle.std.specs.Prelude.{is_some, slice_set}
+use Rattle.std.specs.Prelude.{is_some, map, slice_set}
 use Rattle.std.proofs.lemmas.Bool.{cases_eq}
-use Rattle.std.proofs.lemmas.List.{set-get_or}
+use Rattle.std.proofs.lemmas.List.{length-map, set-get_or}
 use Rattle.access_times.specs.Riding.{Riding, Carrying}
 use Rattle.image_mem.specs.Contents.{Contents}
 use Rattle.rtr_types.specs.declared.access.Kind.{Kind}
 use Rattle.rtr_types.specs.declared.instr.Instr.{Instr}
-use Rattle.link_order.specs.Queue.{Queue}
 use Rattle.msi_cache.specs.declared.messages.FromHome.{FromHome}
-use Rattle.msi_cache.specs.declared.messages.Request.{Request}
-use Rattle.msi_cache.specs.declared.messages.Response.{Response}
+use Rattle.msi_cache.specs.declared.messages.Response.{Response as ResponseItem}
+use Rattle.link_order.specs.Queue.{Queue}
 use Rattle.rv_core.specs.declared.core_state.Core.{Core}
 use Rattle.rv_core.specs.States.{starting}
 use Rattle.rv_core.specs.Steps.{need, access_of as need_access}
 use Rattle.msi_memory.specs.declared.port.Mail.{Mail}
 use Rattle.msi_memory.specs.declared.port.Port.{Port}
 use Rattle.msi_memory.specs.Acts.{TakeMessage, TakeResponse, answer_to, can, port_answering, port_hearing, port_taking}
-use Rattle.msi_memory.specs.Acts.{take_request, take_response}
+use Rattle.msi_memory.specs.Acts.{TakeRequest}
 use Rattle.msi_memory.specs.Memories.{Memory, port_at}
 use Rattle.msi_memory.specs.Rests.{OthersRoomy, head_roomy, requests_at}
 use Rattle.msi_memory.proofs.Roomy.{each_roomy}
@@ -36,15 +35,24 @@ use Rattle.machine_invariant.proofs.Kept.{holds_kept}
 use Rattle.machine_invariant.proofs.Stepping.{core_after, core_memory, message_memory, port_told, port_worked}
 use Rattle.msi_machine.specs.declared.marks.Marks.{Marks}
 use Rattle.msi_machine.specs.declared.standing.Standing.{Standing}
-use Rattle.msi_machine.specs.Marks.{AllMarked, OthersMarked, asker_of, is_marked}
-use Rattle.msi_machine.specs.Standings.{NotesFit, StandingsFit, may_work, standing_at}
-use Rattle.move_marks.proofs.Acts.{requests_within, waits_by}
+use Rattle.msi_machine.specs.Marks.{AllMarked, OthersMarked, asker_of}
+use Rattle.msi_machine.specs.Standings.{MoveNoted, NotesFit, StandingsFit, may_work, standing_at}
+use Rattle.rtr_types.specs.CoreSets.{has}
+use Rattle.move_marks.specs.declared.marks.MoveKind.{MoveKind}
+use Rattle.move_marks.specs.declared.marks.MoveKind.TheVariants.{Own, Request, Response, FromHome as FromHomeKind}
+use Rattle.move_marks.specs.declared.marks.MoveMarks.{MoveMarks}
+use Rattle.move_marks.specs.Kinds.{set_of}
+use Rattle.rtr_types.specs.declared.TheConstants.{CORES_MAX}
+use Rattle.move_marks.specs.Ports.{PortsMarked}
+use Rattle.move_marks.proofs.Acts.{can_past, waits_by}
 use Rattle.move_marks.proofs.Delivered.{false_true}
 use Rattle.move_marks.proofs.Following.{one_request}
-use Rattle.move_marks.proofs.Turned.{request_leaves_none, request_stays, response_requests, response_stays}
-use Rattle.msi_machine.proofs.Elsewhere.{MovedAt, moved_cores, moved_ports, port_now, requests_other}
-use Rattle.msi_machine.proofs.Renewed.{core_marked, moved_marked, own_marked}
-use Rattle.msi_machine.proofs.Renewed.{own_request_marked, request_as_before}
+use Rattle.move_marks.proofs.Turned.{PortsStay, request_leaves_none, request_stays, response_requests, response_stays}
+use Rattle.move_marks.proofs.Lateness.{late_marked}
+use Rattle.move_marks.proofs.OnePort.{links_marked, port_renewed, request_as_before, requests_other, requests_same}
+use Rattle.move_marks.proofs.OnePort.{same_long}
+use Rattle.msi_machine.proofs.Elsewhere.{MovedAt}
+use Rattle.msi_machine.proofs.Renewed.{all_others, own_followed, turn_marked}
 use Rattle.msi_machine.proofs.Standings.{moved_stands, stands_at, turned_stands}
 
 one_core : (image : Contents) (c : ℕ) (e : Event) (cores : List Core) → cores_after image c e cores ≡ slice_set cores c
@@ -54,56 +62,71 @@ one_core image c (Retires at) cores = refl
 one_core image c (Accesses a) cores = refl
 
 module _ {R K : Type 0} where
+  -- a move that sets one core, and one port
+  moved_at : (riding : Riding R) (carrying : Carrying K) (rider : R) (s t : State R K) (m : Move) (c : ℕ) →
+      t ≡ step riding carrying rider s m → (core : Core) (port : Port R K) →
+      (step riding carrying rider s m).cores ≡ slice_set s.cores c core →
+      (step riding carrying rider s m).memory ≡ record s.memory { ports = slice_set s.memory.ports c port } →
+      MovedAt s t c
+  moved_at riding carrying rider s t m c is core port cores memory =
+      record {
+        image = ap (λ (x : State R K). x.image) is;
+        cores = record { one = core; is = ap (λ (x : State R K). x.cores) is ∙ cores };
+        memory = record {
+          ports = record {
+            one = port;
+            is = ap (λ (x : State R K). x.memory.ports) is
+                ∙ ap (λ (m : Memory R K). m.ports) memory;
+          };
+          home = ap (λ (x : State R K). x.memory.home) is ∙ ap (λ (m : Memory R K). m.home) memory;
+        };
+      }
+
   -- a core's own move
   pub core_moves : (riding : Riding R) (carrying : Carrying K) (rider : R) (s t : State R K) (c : ℕ) →
       c < length s.memory.ports →
       t ≡ step riding carrying rider s (CoreMove c) → MovedAt s t c
   core_moves riding carrying rider s t c within is =
-      record {
-        core = core_after s.image (event riding carrying s (CoreMove c)) (core_at s.cores c);
-        port = port_worked riding carrying rider (need_access (need s.image (core_at s.cores c)))
-            (event riding carrying s (CoreMove c))
-            (port_at carrying s.memory.ports c);
-        image = ap (λ (x : State R K). x.image) is;
-        cores = ap (λ (x : State R K). x.cores) is ∙ one_core s.image c (event riding carrying s (CoreMove c)) s.cores;
-        ports = ap (λ (x : State R K). x.memory.ports) is
-            ∙ ap (λ (m : Memory R K). m.ports) (core_memory riding carrying rider s c within);
-        home = ap (λ (x : State R K). x.memory.home) is
-            ∙ ap (λ (m : Memory R K). m.home) (core_memory riding carrying rider s c within);
-      }
+      moved_at riding carrying rider s t (CoreMove c) c is
+      (core_after s.image (event riding carrying s (CoreMove c)) (core_at s.cores c))
+      (port_worked riding carrying rider (need_access (need s.image (core_at s.cores c)))
+      (event riding carrying s (CoreMove c)) (port_at carrying s.memory.ports c))
+      (one_core s.image c (event riding carrying s (CoreMove c)) s.cores)
+      (core_memory riding carrying rider s c within)
 
   -- it changes neither the port's responses nor its messages
-  worked_responses : (riding : Riding R) (carrying : Carrying K) (rider : R) (needed : Option (Kind × ℕ)) (e : Event)
-      (p : Port R K) →
-      (port_worked riding carrying rider needed e p).responses ≡ p.responses
-  worked_responses riding carrying rider None Nothing p = refl
-  worked_responses riding carrying rider (Some (kind, word)) Nothing p = refl
-  worked_responses riding carrying rider needed (Retires at) p = refl
-  worked_responses riding carrying rider needed (Accesses a) p = refl
+  abbrev links : Port R K → Queue (Mail (ResponseItem R) K) × Queue (Mail (FromHome R) K)
+  links p = (p.responses, p.messages)
 
-  worked_messages : (riding : Riding R) (carrying : Carrying K) (rider : R) (needed : Option (Kind × ℕ)) (e : Event)
-      (p : Port R K) →
-      (port_worked riding carrying rider needed e p).messages ≡ p.messages
-  worked_messages riding carrying rider None Nothing p = refl
-  worked_messages riding carrying rider (Some (kind, word)) Nothing p = refl
-  worked_messages riding carrying rider needed (Retires at) p = refl
-  worked_messages riding carrying rider needed (Accesses a) p = refl
+  worked_links : (riding : Riding R) (carrying : Carrying K) (rider : R) (needed : Option (Kind × ℕ)) (e : Event)
+      (p : Port R K) → links (port_worked riding carrying rider needed e p) ≡ links p
+  worked_links riding carrying rider None Nothing p = refl
+  worked_links riding carrying rider (Some (kind, word)) Nothing p = refl
+  worked_links riding carrying rider needed (Retires at) p = refl
+  worked_links riding carrying rider needed (Accesses a) p = refl
 
-  pub core_marks : (riding : Riding R) (carrying : Carrying K) (rider : R) (s t : State R K) (old new : Marks) (c : ℕ)
-      (kept : Standing) →
+  pub core_marks : (riding : Riding R) (carrying : Carrying K) (rider : R) (s t : State R K) (old : Marks)
+      (new : MoveMarks) (c : ℕ) (kept : Standing) →
       AllMarked riding carrying s old → t ≡ step riding carrying rider s (CoreMove c) → c < length s.cores →
       c < length s.memory.ports →
-      kept ≡ standing_at carrying t c → new.cores ≡ old.cores →
-      is_marked new (CoreMove c) ≡ may_work kept →
-      ((m : Move) → m ≢ CoreMove c → is_marked new m ≡ is_marked old m) → OthersMarked riding carrying t new c
-  unfolding core_moves
-  core_marks riding carrying rider s t old new c kept all is here port stands cores this others =
-      let needed = need_access (need s.image (core_at s.cores c)) in
-      let e = event riding carrying s (CoreMove c) in
-      let p = port_at carrying s.memory.ports c in
-      core_marked riding carrying s t old new c kept all (core_moves riding carrying rider s t c port is) here port
-      (worked_responses riding carrying rider needed e p) (worked_messages riding carrying rider needed e p) stands
-      cores this others
+      kept ≡ standing_at carrying t c → has (set_of Own new) c ≡ may_work kept →
+      ((k : MoveKind) (d : ℕ) → (k ≡ Own → d ≢ c) → has (set_of k new) d ≡ has (set_of k old.moves) d) →
+      OthersMarked riding carrying t (record old { moves = new }) c
+  unfolding core_moves moved_at
+  core_marks riding carrying rider s t old new c kept all is here port stands this others =
+      let p : Port R K = port_at carrying s.memory.ports c in
+      let moved : MovedAt s t c = core_moves riding carrying rider s t c port is in
+      let same : links moved.memory.ports.one ≡ links p =
+      worked_links riding carrying rider (need_access (need s.image (core_at s.cores c)))
+      (event riding carrying s (CoreMove c)) p in
+      record {
+        cores = all.cores ∙ sym (same_long s.cores t.cores c moved.cores);
+        own = own_followed riding carrying s t old.moves new c kept all.own moved here stands this
+            (λ d other. others Own d (λ same. other));
+        ports = links_marked carrying s.memory t.memory c moved.memory riding old.moves new all.ports port
+            (λ i. (same i).0) (λ i. (same i).1)
+            (λ k port_kind d. others k d (λ own. λ at. port_kind own));
+      }
 
   -- nor, where an instruction retires, its requests
   worked_requests : (riding : Riding R) (carrying : Carrying K) (rider : R) (needed : Option (Kind × ℕ)) (e : Event)
@@ -117,50 +140,49 @@ module _ {R K : Type 0} where
       t ≡ step riding carrying rider s (CoreMove c) → c < length s.memory.ports →
       is_some (instr_of (event riding carrying s (CoreMove c))) ≡ true →
       enabled riding carrying t (RequestMove c) ≡ enabled riding carrying s (RequestMove c)
-  unfolding core_moves
+  unfolding core_moves moved_at
   request_kept riding carrying rider s t c is port some =
-      request_as_before riding carrying s t c (core_moves riding carrying rider s t c port is) port
+      request_as_before carrying s.memory t.memory c (core_moves riding carrying rider s t c port is).memory riding port
       (worked_requests riding carrying rider (need_access (need s.image (core_at s.cores c)))
       (event riding carrying s (CoreMove c)) (port_at carrying s.memory.ports c) some)
 
   -- so no move is left open then
-  pub core_retired_marks : (riding : Riding R) (carrying : Carrying K) (rider : R) (s t : State R K) (old new : Marks)
-      (c : ℕ) (kept : Standing) (retired : Option Instr) →
+  pub core_retired_marks : (riding : Riding R) (carrying : Carrying K) (rider : R) (s t : State R K) (old : Marks)
+      (new : MoveMarks) (c : ℕ) (kept : Standing) (retired : Option Instr) →
       retired ≡ instr_of (event riding carrying s (CoreMove c)) → is_some retired ≡ true →
       AllMarked riding carrying s old → t ≡ step riding carrying rider s (CoreMove c) → c < length s.cores →
       c < length s.memory.ports →
-      kept ≡ standing_at carrying t c → new.cores ≡ old.cores →
-      is_marked new (CoreMove c) ≡ may_work kept →
-      ((m : Move) → m ≢ CoreMove c → is_marked new m ≡ is_marked old m) → AllMarked riding carrying t new
-  core_retired_marks riding carrying rider s t old new c kept retired told some all is here port stands cores
-      this others =
-      own_request_marked riding carrying t new c
-      (core_marks riding carrying rider s t old new c kept all is here port stands cores this others)
-      (others (RequestMove c) (λ (e : RequestMove c ≡ CoreMove c). cc)
-      ∙ all.marked (RequestMove c)
-      ∙ sym (request_kept riding carrying rider s t c is port
-      (subst (λ (o : Option Instr). is_some o ≡ true) told some)))
+      kept ≡ standing_at carrying t c → has (set_of Own new) c ≡ may_work kept →
+      ((k : MoveKind) (d : ℕ) → (k ≡ Own → d ≢ c) → has (set_of k new) d ≡ has (set_of k old.moves) d) →
+      AllMarked riding carrying t (record old { moves = new })
+  core_retired_marks riding carrying rider s t old new c kept retired told some all is here port stands this others =
+      let but : OthersMarked riding carrying t (record old { moves = new }) c =
+      core_marks riding carrying rider s t old new c kept all is here port stands this others in
+      record {
+        cores = but.cores;
+        own = but.own;
+        ports = late_marked riding carrying t.memory new c but.ports
+            (others Request c (λ (e : Request ≡ Own). cc)
+            ∙ all.ports.requests c
+            ∙ sym (request_kept riding carrying rider s t c is port
+            (subst (λ (o : Option Instr). is_some o ≡ true) told some)));
+      }
 
   -- a core takes a message
   pub message_moves : (riding : Riding R) (carrying : Carrying K) (rider : R) (s t : State R K) (c : ℕ) →
       c < length s.memory.ports →
       t ≡ step riding carrying rider s (MessageMove c) → MovedAt s t c
   message_moves riding carrying rider s t c within is =
-      record {
-        core = core_after s.image (event riding carrying s (MessageMove c)) (core_at s.cores c);
-        port = port_told riding carrying rider (event riding carrying s (MessageMove c)) (port_taken riding carrying
-            (port_at carrying s.memory.ports c));
-        image = ap (λ (x : State R K). x.image) is;
-        cores = ap (λ (x : State R K). x.cores) is ∙ one_core s.image c (event riding carrying s (MessageMove c))
-            s.cores;
-        ports = ap (λ (x : State R K). x.memory.ports) is
-            ∙ ap (λ (m : Memory R K). m.ports) (message_memory riding carrying rider s c within);
-        home = ap (λ (x : State R K). x.memory.home) is
-            ∙ ap (λ (m : Memory R K). m.home) (message_memory riding carrying rider s c within);
-      }
+      moved_at riding carrying rider s t (MessageMove c) c is
+      (core_after s.image (event riding carrying s (MessageMove c)) (core_at s.cores c))
+      (port_told riding carrying rider (event riding carrying s (MessageMove c))
+      (port_taken riding carrying (port_at carrying s.memory.ports c)))
+      (one_core s.image c (event riding carrying s (MessageMove c)) s.cores)
+      (message_memory riding carrying rider s c within)
 
   -- it puts down no request
-  answered_requests : (p : Port R K) (answer : Option (Response R)) → (port_answering p answer).requests ≡ p.requests
+  answered_requests : (p : Port R K) (answer : Option (ResponseItem R)) →
+      (port_answering p answer).requests ≡ p.requests
   answered_requests p None = refl
   answered_requests p (Some response) = refl
 
@@ -182,73 +204,71 @@ module _ {R K : Type 0} where
       told_requests riding carrying rider e (port_taken riding carrying p)
       ∙ taken_requests riding carrying p p.messages.items
 
-  pub message_marks : (riding : Riding R) (carrying : Carrying K) (rider : R) (s t : State R K) (old new : Marks)
-      (c : ℕ) (kept : Standing) →
+  pub message_marks : (riding : Riding R) (carrying : Carrying K) (rider : R) (s t : State R K) (old : Marks)
+      (mid new : MoveMarks) (c : ℕ) (kept : Standing) →
       AllMarked riding carrying s old → t ≡ step riding carrying rider s (MessageMove c) → c < length s.cores →
       c < length s.memory.ports →
-      kept ≡ standing_at carrying t c → new.cores ≡ old.cores →
-      is_marked new (CoreMove c) ≡ may_work kept →
-      is_marked new (ResponseMove c) ≡ can riding carrying t.memory (TakeResponse c) →
-      is_marked new (MessageMove c) ≡ can riding carrying t.memory (TakeMessage c) →
-      is_marked new (RequestMove c) ≡ is_marked old (RequestMove c) →
-      ((m : Move) → core_of m ≢ c → is_marked new m ≡ is_marked old m) → AllMarked riding carrying t new
-  unfolding message_moves
-  message_marks riding carrying rider s t old new c kept all is here port stands cores own response message
-      request others =
-      let moved = message_moves riding carrying rider s t c port is in
-      own_request_marked riding carrying t new c
-      (moved_marked riding carrying s t old new c all moved cores
-      (own ∙ own_marked riding carrying t c kept (subst (λ (n : ℕ). c < n) (sym (moved_cores carrying s t c moved))
-      here) stands)
-      response message others)
-      (request ∙ all.marked (RequestMove c)
-      ∙ sym (request_as_before riding carrying s t c moved port
-      (message_requests riding carrying rider (event riding carrying s (MessageMove c))
-      (port_at carrying s.memory.ports c))))
+      kept ≡ standing_at carrying t c → has (set_of Own mid) c ≡ may_work kept →
+      ((k : MoveKind) (d : ℕ) → (k ≡ Own → d ≢ c) → has (set_of k mid) d ≡ has (set_of k old.moves) d) →
+      has (set_of Response new) c ≡ can riding carrying t.memory (TakeResponse c) →
+      has (set_of FromHomeKind new) c ≡ can riding carrying t.memory (TakeMessage c) →
+      ((k : MoveKind) (d : ℕ) → (k ≡ Response → d ≢ c) → (k ≡ FromHomeKind → d ≢ c) →
+      has (set_of k new) d ≡ has (set_of k mid) d) → AllMarked riding carrying t (record old { moves = new })
+  unfolding message_moves moved_at
+  message_marks riding carrying rider s t old mid new c kept all is here port stands own others response message
+      same =
+      let moved : MovedAt s t c = message_moves riding carrying rider s t c port is in
+      let own_same : (d : ℕ) → has (set_of Own new) d ≡ has (set_of Own mid) d =
+      λ d. same Own d (λ (e : Own ≡ Response). cc) (λ (e : Own ≡ FromHomeKind). cc) in
+      record {
+        cores = all.cores ∙ sym (same_long s.cores t.cores c moved.cores);
+        own = own_followed riding carrying s t old.moves new c kept all.own moved here stands (own_same c ∙ own)
+            (λ d other. own_same d ∙ others Own d (λ one. other));
+        ports = late_marked riding carrying t.memory new c
+            (port_renewed carrying s.memory t.memory c moved.memory riding old.moves mid new all.ports
+            (λ k port_kind d. others k d (λ one. λ at. port_kind one)) response message same)
+            (same Request c (λ (e : Request ≡ Response). cc) (λ (e : Request ≡ FromHomeKind). cc)
+            ∙ others Request c (λ (e : Request ≡ Own). cc)
+            ∙ all.ports.requests c
+            ∙ sym (request_as_before carrying s.memory t.memory c moved.memory riding port
+            (message_requests riding carrying rider (event riding carrying s (MessageMove c))
+            (port_at carrying s.memory.ports c))));
+      }
 
   -- ---- a move changes no requests but those of its own core
   requests_stay : (riding : Riding R) (carrying : Carrying K) (rider : R) (s : State R K) (m : Move) (d : ℕ) →
       core_of m < length s.memory.ports →
       d ≢ core_of m → requests_at (step riding carrying rider s m).memory.ports d ≡ requests_at s.memory.ports d
   requests_stay riding carrying rider s (CoreMove c) d within other =
-      requests_other carrying s (step riding carrying rider s (CoreMove c)) c
-      (core_moves riding carrying rider s (step riding carrying rider s (CoreMove c)) c within refl) d other
+      requests_other carrying s.memory (step riding carrying rider s (CoreMove c)).memory c
+      (core_moves riding carrying rider s (step riding carrying rider s (CoreMove c)) c within refl).memory d other
   requests_stay riding carrying rider s (MessageMove c) d within other =
-      requests_other carrying s (step riding carrying rider s (MessageMove c)) c
-      (message_moves riding carrying rider s (step riding carrying rider s (MessageMove c)) c within refl) d other
+      requests_other carrying s.memory (step riding carrying rider s (MessageMove c)).memory c
+      (message_moves riding carrying rider s (step riding carrying rider s (MessageMove c)) c within refl).memory d
+      other
   requests_stay riding carrying rider s (RequestMove c) d within other =
       (request_stays riding carrying s.memory c).requests d other
   requests_stay riding carrying rider s (ResponseMove c) d within other =
       (response_stays riding carrying s.memory c).requests d other
 
   -- and its own stay, or none is left, but where the core asks
-  moved_requests : (carrying : Carrying K) (s t : State R K) (c : ℕ) → (moved : MovedAt s t c) →
-      c < length s.memory.ports → moved.port.requests ≡ (port_at carrying s.memory.ports c).requests →
-      requests_at t.memory.ports c ≡ requests_at s.memory.ports c
-  moved_requests carrying s t c moved within same =
-      requests_within carrying t.memory.ports c
-      (subst (λ (n : ℕ). c < n) (sym (moved_ports carrying s t c moved)) within)
-      ∙ ap (λ (p : Port R K). p.requests.items) (port_now carrying s t c moved within)
-      ∙ ap (λ (q : Queue (Mail (Request R) K)). q.items) same
-      ∙ sym (requests_within carrying s.memory.ports c within)
-
   core_requests : (riding : Riding R) (carrying : Carrying K) (rider : R) (s : State R K) (c : ℕ) →
       c < length s.memory.ports → is_some (instr_of (event riding carrying s (CoreMove c))) ≡ true →
       requests_at (step riding carrying rider s (CoreMove c)).memory.ports c ≡ requests_at s.memory.ports c
-  unfolding core_moves
+  unfolding core_moves moved_at
   core_requests riding carrying rider s c within some =
-      moved_requests carrying s (step riding carrying rider s (CoreMove c)) c
-      (core_moves riding carrying rider s (step riding carrying rider s (CoreMove c)) c within refl) within
+      requests_same carrying s.memory (step riding carrying rider s (CoreMove c)).memory c
+      (core_moves riding carrying rider s (step riding carrying rider s (CoreMove c)) c within refl).memory within
       (worked_requests riding carrying rider (need_access (need s.image (core_at s.cores c)))
       (event riding carrying s (CoreMove c)) (port_at carrying s.memory.ports c) some)
 
   heard_requests : (riding : Riding R) (carrying : Carrying K) (rider : R) (s : State R K) (c : ℕ) →
       c < length s.memory.ports →
       requests_at (step riding carrying rider s (MessageMove c)).memory.ports c ≡ requests_at s.memory.ports c
-  unfolding message_moves
+  unfolding message_moves moved_at
   heard_requests riding carrying rider s c within =
-      moved_requests carrying s (step riding carrying rider s (MessageMove c)) c
-      (message_moves riding carrying rider s (step riding carrying rider s (MessageMove c)) c within refl) within
+      requests_same carrying s.memory (step riding carrying rider s (MessageMove c)).memory c
+      (message_moves riding carrying rider s (step riding carrying rider s (MessageMove c)) c within refl).memory within
       (message_requests riding carrying rider (event riding carrying s (MessageMove c))
       (port_at carrying s.memory.ports c))
 
@@ -314,72 +334,75 @@ module _ {R K : Type 0} where
       subst (λ (k : ℕ). get_or standings k d ≡ standing_at carrying s k) at (kept_before riding carrying s taken
       standings d holds can_be fit)
 
-  pub core_stands : (riding : Riding R) (carrying : Carrying K) (rider : R) (s t : State R K) (taken : Move) (c : ℕ)
-      (standings : List Standing)
-      (kept : Standing) → MachineHolds riding carrying s → enabled riding carrying s taken ≡ true → taken ≡ CoreMove c →
-      StandingsFit s standings →
-      t ≡ step riding carrying rider s (CoreMove c) → kept ≡ standing_at carrying t c →
+  -- a move of one core sets what is kept of it
+  pub kept_moved : (riding : Riding R) (carrying : Carrying K) (s t : State R K) (taken : Move) (c : ℕ)
+      (standings : List Standing) (kept : Standing) → MachineHolds riding carrying s →
+      enabled riding carrying s taken ≡ true → core_of taken ≡ c → StandingsFit s standings →
+      (c < length s.memory.ports → MovedAt s t c) → kept ≡ standing_at carrying t c →
       StandingsFit t (slice_set standings c kept)
-  core_stands riding carrying rider s t taken c standings kept holds can_be at fit is stands =
-      let here : c < length s.cores = subst (λ (m : Move). core_of m < length s.cores) at
+  kept_moved riding carrying s t taken c standings kept holds can_be at fit moved stands =
+      let here : c < length s.cores = subst (λ (k : ℕ). k < length s.cores) at
       (enabled_core riding carrying s taken can_be holds) in
       let port : c < length s.memory.ports = core_port riding carrying s c holds here in
-      moved_stands carrying s t standings c kept (core_moves riding carrying rider s t c port is) fit here port stands
+      moved_stands carrying s t standings c kept (moved port) fit here port stands
 
-  pub message_stands : (riding : Riding R) (carrying : Carrying K) (rider : R) (s t : State R K) (taken : Move) (c : ℕ)
-      (standings : List Standing)
-      (kept : Standing) → MachineHolds riding carrying s → enabled riding carrying s taken ≡ true →
-      taken ≡ MessageMove c → StandingsFit s standings →
-      t ≡ step riding carrying rider s (MessageMove c) → kept ≡ standing_at carrying t c →
-      StandingsFit t (slice_set standings c kept)
-  message_stands riding carrying rider s t taken c standings kept holds can_be at fit is stands =
-      let here : c < length s.cores = subst (λ (m : Move). core_of m < length s.cores) at
-      (enabled_core riding carrying s taken can_be holds) in
-      let port : c < length s.memory.ports = core_port riding carrying s c holds here in
-      moved_stands carrying s t standings c kept (message_moves riding carrying rider s t c port is) fit here port
-      stands
+  -- the home moved, and so did the marks at the ports: no core stands at anything else, and no request is late
+  pub turn_kept : (riding : Riding R) (carrying : Carrying K) (seen now : Machinery R K) → seen ≡ now →
+      MachineHolds riding carrying now.state → {standings : List Standing} → StandingsFit now.state standings →
+      {old : Marks} → AllMarked riding carrying now.state old → {n later : Memory R K} → n ≡ later → {c : ℕ} →
+      PortsStay seen.state.memory later c → {new : MoveMarks} →
+      ((d : ℕ) → has (set_of Own new) d ≡ has (set_of Own old.moves) d) → PortsMarked riding carrying n new →
+      MoveNoted riding carrying (record seen.state { memory = n }) standings (record old { moves = new }) CORES_MAX
+  turn_kept riding carrying seen now view holds {standings} fit {old} all {n} {later} is stays {new} own ports =
+      let marked : AllMarked riding carrying (record seen.state { memory = n }) (record old { moves = new }) =
+      turn_marked riding carrying seen.state n old new
+      (subst (λ (m : Machinery R K). AllMarked riding carrying m.state old) (sym view) all) caches own ports in
+      record {
+        stands = turned_stands seen.state n standings (waits_by n.ports seen.state.memory.ports caches)
+            (subst (λ (m : Machinery R K). StandingsFit m.state standings) (sym view) fit);
+        marked = all_others riding carrying (record seen.state { memory = n }) (record old { moves = new }) marked
+            CORES_MAX;
+        unmarked = ports.requests CORES_MAX
+            ∙ can_past riding carrying n (TakeRequest CORES_MAX)
+            (subst (λ (k : ℕ). k ≤ CORES_MAX) (sym long)
+            (subst (λ (m : Machinery R K). length m.state.memory.ports ≤ CORES_MAX) (sym view) holds.memory.cores));
+      }
+    where
+      caches : map (λ (p : Port R K). p.cache) n.ports ≡ map (λ (p : Port R K). p.cache) seen.state.memory.ports
+      caches = ap (λ (x : Memory R K). map (λ (p : Port R K). p.cache) x.ports) is ∙ stays.caches
 
-  pub request_stands : (riding : Riding R) (carrying : Carrying K) (rider : R) (s t : State R K) (c : ℕ)
-      (standings : List Standing) →
-      t ≡ step riding carrying rider s (RequestMove c) → StandingsFit s standings → StandingsFit t standings
-  request_stands riding carrying rider s t c standings is fit =
-      subst (λ (x : State R K). StandingsFit x standings) (sym is)
-      (turned_stands s (take_request riding carrying s.memory c) standings
-      (waits_by (take_request riding carrying s.memory c).ports s.memory.ports
-      (request_stays riding carrying s.memory c).caches) fit)
-
-  pub response_stands : (riding : Riding R) (carrying : Carrying K) (rider : R) (s t : State R K) (c : ℕ)
-      (standings : List Standing) →
-      t ≡ step riding carrying rider s (ResponseMove c) → StandingsFit s standings → StandingsFit t standings
-  response_stands riding carrying rider s t c standings is fit =
-      subst (λ (x : State R K). StandingsFit x standings) (sym is)
-      (turned_stands s (take_response riding carrying s.memory c) standings
-      (waits_by (take_response riding carrying s.memory c).ports s.memory.ports
-      (response_stays riding carrying s.memory c).caches) fit)
+      long : length n.ports ≡ length seen.state.memory.ports
+      long = sym (length-map n.ports (λ (p : Port R K). p.cache)) ∙ (λ i. length (caches i))
+          ∙ length-map seen.state.memory.ports (λ (p : Port R K). p.cache)
 
   -- a machine's notes follow a move
   pub notes_kept : (riding : Riding R) (carrying : Carrying K) (old new : Machinery R K) (m : Move)
       (standings kept : List Standing) (marks : Marks)
       (asker : ℕ) (retired : Option Instr) → heads_roomy old ≡ true → MachineHolds riding carrying old.state →
       enabled riding carrying old.state m ≡ true →
-      StepsTo riding carrying old.state new.state m → new.rooms ≡ old.rooms → StandingsFit new.state kept →
-      standings ≡ kept →
-      OthersMarked riding carrying new.state marks asker → is_marked marks (RequestMove asker) ≡ false →
-      asker ≡ asker_of m retired →
+      StepsTo riding carrying old.state new.state m → new.rooms ≡ old.rooms → standings ≡ kept →
+      MoveNoted riding carrying new.state kept marks asker → asker ≡ asker_of m retired →
       retired ≡ instr_of (event riding carrying old.state m) →
       NotesFit riding carrying new standings marks asker
-  notes_kept riding carrying old new m standings kept marks asker retired roomy holds can_be is same fit all others
-      unmarked asks told =
+  notes_kept riding carrying old new m standings kept marks asker retired roomy holds can_be is same all noted asks
+      told =
       let rider : R = rider_left riding carrying old.state new.state m in
       let here : core_of m < length old.state.memory.ports =
       core_port riding carrying old.state (core_of m) holds (enabled_core riding carrying old.state m can_be holds) in
+      let after : MachineHolds riding carrying new.state =
+      subst (λ (s : State R K). MachineHolds riding carrying s) (sym is) (holds_kept riding carrying old.state m rider
+      can_be holds) in
       record {
-        holds = subst (λ (s : State R K). MachineHolds riding carrying s) (sym is) (holds_kept riding carrying old.state
-            m rider can_be holds);
-        stands = subst (λ (xs : List Standing). StandingsFit new.state xs) (sym all) fit;
-        marked = others;
-        unmarked = unmarked;
-        roomy = subst (λ (c : ℕ). OthersRoomy new.state.memory.ports c new.rooms)
-            (sym (asks ∙ ap (asker_of m) told))
-            (others_roomy riding carrying rider old new m holds here roomy is same);
+        holds = after;
+        stands = subst (λ (xs : List Standing). StandingsFit new.state xs) (sym all) noted.stands;
+        own = noted.marked.own;
+        ports = record {
+          long = noted.marked.cores ∙ sym after.ports_there;
+          marked = noted.marked.ports;
+          past = λ out. noted.unmarked;
+          roomy = subst (λ (c : ℕ). OthersRoomy new.state.memory.ports c new.rooms)
+              (sym (asks ∙ ap (asker_of m) told))
+              (others_roomy riding carrying rider old new m holds here roomy is same);
+        };
+        unmarked = noted.unmarked;
       }

@@ -1,60 +1,32 @@
--- Room was made for the request of the core that asked, and it was marked where the home can take it: nothing is left
--- open.
-use Rattle.std.proofs.Common.{◌≡◌, ◌≢◌, ◌∙◌, ap, sym, subst, ℕ, ◌<◌, ◌≤◌, Bool, true, List, length}
+-- Room was made for the request of the core that asked: what is noted fits still.
+use Rattle.std.proofs.Common.{◌≡◌, ◌∙◌, ap, sym, subst, ℕ, false}
+use Rattle.std.proofs.Common.{List}
 use Rattle.access_times.specs.Riding.{Riding, Carrying}
-use Rattle.rtr_types.specs.declared.TheConstants.{CORES_MAX}
-use Rattle.msi_cache.specs.declared.messages.Request.{Request}
-use Rattle.msi_memory.specs.declared.port.Mail.{Mail}
-use Rattle.msi_memory.specs.declared.port.Port.{Port}
-use Rattle.msi_memory.specs.Acts.{TakeRequest, can, head_free}
-use Rattle.msi_memory.specs.Memories.{Memory}
-use Rattle.msi_memory.specs.Rests.{OthersRoomy, are_heads_roomy, requests_at}
-use Rattle.msi_memory.proofs.Roomy.{each_roomy, none_made, past_ports}
-use Rattle.msi_state.specs.declared.moves.Move.{Move}
-use Rattle.msi_state.specs.declared.moves.Move.TheVariants.{Request as RequestMove}
-use Rattle.msi_state.specs.Rests.{heads_roomy}
+use Rattle.rtr_types.specs.CoreSets.{has}
+use Rattle.move_marks.specs.declared.marks.MoveKind.TheVariants.{Own, Request}
+use Rattle.move_marks.specs.declared.marks.MoveMarks.{MoveMarks}
+use Rattle.move_marks.specs.Kinds.{set_of}
+use Rattle.move_marks.specs.Ports.{PortsNoted}
+use Rattle.machine_invariant.specs.Holds.{MachineHolds}
+use Rattle.msi_state.specs.declared.moves.Move.TheVariants.{Core as CoreMove}
 use Rattle.msi_state.specs.States.{Machinery, State}
+use Rattle.msi_state.specs.Steps.{enabled}
 use Rattle.msi_machine.specs.declared.marks.Marks.{Marks}
 use Rattle.msi_machine.specs.declared.standing.Standing.{Standing}
-use Rattle.msi_machine.specs.Marks.{AllMarked, is_marked}
-use Rattle.msi_machine.specs.Standings.{NotesFit}
-use Rattle.move_marks.proofs.Acts.{can_here, can_past, requests_within}
-use Rattle.msi_machine.proofs.Renewed.{asker_marked}
+use Rattle.msi_machine.specs.Standings.{NotesFit, StandingsFit}
 
-module _ {R K : Type 0} where
-  -- the home can take the core's oldest request exactly where that one's block is free
-  pub head_can : (riding : Riding R) (carrying : Carrying K) (m : Memory R K) (c : ℕ) → c < length m.ports →
-      head_free (requests_at m.ports c) riding m.home ≡ can riding carrying m (TakeRequest c)
-  head_can riding carrying m c within =
-      ap (λ (xs : List (Mail (Request R) K)). head_free xs riding m.home) (requests_within carrying m.ports c within)
-      ∙ sym (can_here riding carrying m (TakeRequest c) within)
-
-  -- each head's block has room where each but that of a core that isn't there has
-  pub all_past : (ports : List (Port R K)) (core : ℕ) (rooms : List Bool) → OthersRoomy ports core rooms →
-      length ports ≤ core →
-      are_heads_roomy ports rooms ≡ true
-  all_past ports core rooms others past = (none_made ports core rooms others (past_ports ports core past)).all
-
-  -- what is noted fits then, and no core is left out
-  pub room_made : (riding : Riding R) (carrying : Carrying K) (old new : Machinery R K) (standings : List Standing)
-      (before after : Marks) (asker : ℕ) →
-      NotesFit riding carrying old standings before asker → new.state ≡ old.state → heads_roomy new ≡ true →
-      after.cores ≡ before.cores → is_marked after (RequestMove asker) ≡ can riding carrying old.state.memory
-      (TakeRequest asker) →
-      ((m : Move) → m ≢ RequestMove asker → is_marked after m ≡ is_marked before m) →
-      NotesFit riding carrying new standings after CORES_MAX
-  room_made riding carrying old new standings before after asker fit same roomy cores asked others =
-      let all : AllMarked riding carrying old.state after =
-      asker_marked riding carrying old.state before after asker fit.marked cores asked others in
-      let kept : NotesFit riding carrying (record old { rooms = new.rooms }) standings after CORES_MAX =
-      record {
-        holds = fit.holds;
-        stands = fit.stands;
-        marked = record { cores = all.cores; marked = λ m other. all.marked m };
-        unmarked = all.marked (RequestMove CORES_MAX)
-            ∙ can_past riding carrying old.state.memory (TakeRequest CORES_MAX) fit.holds.memory.cores;
-        roomy = λ c other. each_roomy old.state.memory.ports new.rooms
-            (subst (λ (s : State R K). are_heads_roomy s.memory.ports new.rooms ≡ true) same roomy) c;
-      } in
-      subst (λ (s : State R K). NotesFit riding carrying (record new { state = s }) standings after CORES_MAX)
-      (sym same) kept
+pub room_made : {R K : Type 0} (riding : Riding R) (carrying : Carrying K) (old new : Machinery R K)
+    (standings : List Standing) (before : Marks) (after : MoveMarks) (asker late : ℕ) →
+    NotesFit riding carrying old standings before asker → new.state ≡ old.state →
+    PortsNoted riding carrying new.state.memory new.rooms before.cores after late →
+    ((c : ℕ) → has (set_of Own after) c ≡ has (set_of Own before.moves) c) →
+    (has (set_of Request before.moves) asker ≡ false → has (set_of Request after) late ≡ false) →
+    NotesFit riding carrying new standings (record before { moves = after }) late
+room_made {R} {K} riding carrying old new standings before after asker late fit same ports own unmarked =
+    record {
+      holds = subst (λ (s : State R K). MachineHolds riding carrying s) (sym same) fit.holds;
+      stands = subst (λ (s : State R K). StandingsFit s standings) (sym same) fit.stands;
+      own = λ c. own c ∙ fit.own c ∙ ap (λ (s : State R K). enabled riding carrying s (CoreMove c)) (sym same);
+      ports = ports;
+      unmarked = unmarked fit.unmarked;
+    }

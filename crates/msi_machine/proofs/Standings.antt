@@ -15,7 +15,8 @@ use Rattle.msi_memory.specs.Memories.{Memory, no_port, port_at}
 use Rattle.msi_state.specs.States.{State, all_done, core_at}
 use Rattle.msi_machine.specs.declared.standing.Standing.{Standing}
 use Rattle.msi_machine.specs.Standings.{StandingsFit, next_in, next_of, standing_at}
-use Rattle.msi_machine.proofs.Elsewhere.{MovedAt, core_now, port_now}
+use Rattle.move_marks.proofs.OnePort.{one_now, port_now}
+use Rattle.msi_machine.proofs.Elsewhere.{MovedAt}
 
 module _ {R K : Type 0} where
   pub standings_long : (s : State R K) (standings : List Standing) → StandingsFit s standings →
@@ -55,15 +56,15 @@ module _ {R K : Type 0} where
         next = map-set next_of standings c kept
             ∙ (λ i. slice_set (fit.next i) c (next_of (stands i)))
             ∙ (λ i. slice_set (map (next_in (image i)) s.cores) c
-            (next_in t.image (core_now carrying s t c moved here i)))
-            ∙ sym (map-set (next_in t.image) s.cores c moved.core)
-            ∙ ap (map (next_in t.image)) (sym moved.cores);
+            (next_in t.image (one_now s.cores t.cores c moved.cores (starting 0 0) here i)))
+            ∙ sym (map-set (next_in t.image) s.cores c moved.cores.one)
+            ∙ ap (map (next_in t.image)) (sym moved.cores.is);
         waits = map-set (λ (x : Standing). x.waits) standings c kept
             ∙ (λ i. slice_set (fit.waits i) c (stands i).waits)
             ∙ ap (λ (p : Port R K). slice_set (map (λ (q : Port R K). waits q.cache) s.memory.ports) c (waits p.cache))
-            (port_now carrying s t c moved port)
-            ∙ sym (map-set (λ (p : Port R K). waits p.cache) s.memory.ports c moved.port)
-            ∙ ap (map (λ (p : Port R K). waits p.cache)) (sym moved.ports);
+            (port_now carrying s.memory t.memory c moved.memory port)
+            ∙ sym (map-set (λ (p : Port R K). waits p.cache) s.memory.ports c moved.memory.ports.one)
+            ∙ ap (map (λ (p : Port R K). waits p.cache)) (sym moved.memory.ports.is);
       }
     where
       image : s.image ≡ t.image

@@ -1,5 +1,5 @@
 -- Which moves can be made, one bit a core in a set for each kind of move.
-use Rattle.std.specs.Prelude.{◌≡◌, ◌≢◌, ℕ, Bool, List, length, map, Option, Some, None}
+use Rattle.std.specs.Prelude.{◌≡◌, ℕ, Bool, List, length, map, Option, Some, None}
 use Rattle.access_times.specs.Riding.{Riding, Carrying}
 use Rattle.rtr_types.specs.CoreSets.{has}
 use Rattle.rtr_types.specs.declared.TheConstants.{CORES_MAX}
@@ -8,6 +8,7 @@ use Rattle.move_marks.specs.declared.marks.MarkedMove.{MarkedMove}
 use Rattle.move_marks.specs.declared.marks.MoveKind.{MoveKind}
 use Rattle.move_marks.specs.declared.marks.MoveKind.TheVariants.{Own, Request, Response, FromHome}
 use Rattle.move_marks.specs.Kinds.{marked as marked_in, set_of}
+use Rattle.move_marks.specs.Ports.{PortsMarked, PortsMarkedBut}
 use Rattle.msi_state.specs.declared.moves.Move.{Move}
 use Rattle.msi_state.specs.declared.moves.Move.TheVariants.{Core as CoreMove, Request as RequestMove}
 use Rattle.msi_state.specs.declared.moves.Move.TheVariants.{Response as ResponseMove, FromHome as MessageMove}
@@ -53,10 +54,12 @@ module _ {R K : Type 0} where
   -- exactly the moves that can be made are marked
   pub record AllMarked (riding : Riding R) (carrying : Carrying K) (s : State R K) (marks : Marks) : Type 0 where
     pub cores : marks.cores ≡ length s.cores
-    pub marked : (m : Move) → is_marked marks m ≡ enabled riding carrying s m
+    pub own : (c : ℕ) → has (set_of Own marks.moves) c ≡ enabled riding carrying s (CoreMove c)
+    pub ports : PortsMarked riding carrying s.memory marks.moves
 
   -- so is it but perhaps for this core's oldest request, which it put down last
   pub record OthersMarked (riding : Riding R) (carrying : Carrying K) (s : State R K) (marks : Marks) (asker : ℕ)
       : Type 0 where
     pub cores : marks.cores ≡ length s.cores
-    pub marked : (m : Move) → m ≢ RequestMove asker → is_marked marks m ≡ enabled riding carrying s m
+    pub own : (c : ℕ) → has (set_of Own marks.moves) c ≡ enabled riding carrying s (CoreMove c)
+    pub ports : PortsMarkedBut riding carrying s.memory marks.moves asker

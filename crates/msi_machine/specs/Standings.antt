@@ -1,6 +1,7 @@
 -- What the cores stand at and whether their ports wait, from which the moves that can be made are found.
 use Rattle.std.specs.Prelude.{◌≡◌, ℕ, Bool, false, List, map, slice_index_or, not, ◌&&◌, Option}
 use Rattle.access_times.specs.Riding.{Riding, Carrying}
+use Rattle.rtr_types.specs.CoreSets.{has}
 use Rattle.image_mem.specs.Contents.{Contents}
 use Rattle.rv_decode.specs.declared.op.Op.{Op}
 use Rattle.rv_core.specs.declared.core_state.Core.{Core}
@@ -8,14 +9,16 @@ use Rattle.rv_core.specs.declared.core_state.Need.{Need}
 use Rattle.rv_core.specs.Steps.{need, instruction_at, is_done}
 use Rattle.msi_cache.specs.Lines.{waits}
 use Rattle.msi_memory.specs.Memories.{port_at}
-use Rattle.msi_memory.specs.Rests.{OthersRoomy}
-use Rattle.msi_state.specs.declared.moves.Move.{Move}
-use Rattle.msi_state.specs.declared.moves.Move.TheVariants.{Core as CoreMove, Request as RequestMove}
+use Rattle.move_marks.specs.declared.marks.MoveKind.TheVariants.{Own, Request}
+use Rattle.move_marks.specs.Kinds.{set_of}
+use Rattle.move_marks.specs.Ports.{PortsNoted}
+use Rattle.msi_state.specs.declared.moves.Move.TheVariants.{Core as CoreMove}
 use Rattle.msi_state.specs.States.{Machinery, State, core_at}
+use Rattle.msi_state.specs.Steps.{enabled}
 use Rattle.machine_invariant.specs.Holds.{MachineHolds}
 use Rattle.msi_machine.specs.declared.marks.Marks.{Marks}
 use Rattle.msi_machine.specs.declared.standing.Standing.{Standing}
-use Rattle.msi_machine.specs.Marks.{OthersMarked, is_marked}
+use Rattle.msi_machine.specs.Marks.{OthersMarked}
 
 -- a core's next instruction and what that needs, beside whether its port waits
 abbrev pub standing_with : Contents → Core → Bool → Standing
@@ -32,10 +35,9 @@ next_in image core = (need image core, instruction_at image core.pc)
 abbrev pub may_work : Standing → Bool
 may_work s = not (is_done s.need) && not s.waits
 
--- the move can be made where cores stand so and nothing is under way: it is a core's own
-abbrev pub may_begin : List Standing → Move → Bool
-may_begin standings (CoreMove c) = slice_index_or (map may_work standings) c false
-may_begin standings _ = false
+-- the core may move by itself where cores stand so
+abbrev pub may_begin : List Standing → ℕ → Bool
+may_begin standings c = slice_index_or (map may_work standings) c false
 
 module _ {R K : Type 0} where
   -- what core c stands at
@@ -48,6 +50,13 @@ module _ {R K : Type 0} where
     pub next : map next_of standings ≡ map (next_in s.image) s.cores
     pub waits : map (λ x. x.waits) standings ≡ map (λ p. waits p.cache) s.memory.ports
 
+  -- what is noted beside the state after a move fits, in which this core asked, if one did; its request isn't marked
+  pub record MoveNoted (riding : Riding R) (carrying : Carrying K) (s : State R K) (standings : List Standing)
+      (marks : Marks) (asker : ℕ) : Type 0 where
+    pub stands : StandingsFit s standings
+    pub marked : OthersMarked riding carrying s marks asker
+    pub unmarked : has (set_of Request marks.moves) asker ≡ false
+
   -- the state has the machine's invariant, and what a machine notes beside it fits: what each core stands at, which
   -- moves can be made, and the one core that asked last, for whose oldest request neither is noted whether it can be
   -- taken nor is there room for sure; it isn't marked
@@ -55,6 +64,6 @@ module _ {R K : Type 0} where
       (marks : Marks) (asker : ℕ) : Type 0 where
     pub holds : MachineHolds riding carrying m.state
     pub stands : StandingsFit m.state standings
-    pub marked : OthersMarked riding carrying m.state marks asker
-    pub unmarked : is_marked marks (RequestMove asker) ≡ false
-    pub roomy : OthersRoomy m.state.memory.ports asker m.rooms
+    pub own : (c : ℕ) → has (set_of Own marks.moves) c ≡ enabled riding carrying m.state (CoreMove c)
+    pub ports : PortsNoted riding carrying m.state.memory m.rooms marks.cores marks.moves asker
+    pub unmarked : has (set_of Request marks.moves) asker ≡ false

@@ -9,7 +9,6 @@
 #![tactic(auto)]
 
 mod machine;
-mod marking;
 mod marks;
 mod moving;
 mod parts;

@@ -27,6 +27,7 @@ use crate::parts::Parts;
 use crate::standing::{Standing, are_done, first_marks, first_standings};
 use access_times::{Carry, Clerk, Rider};
 use image_mem::Image;
+use move_marks::{make_room, with_late};
 use msi_state::Move;
 use rtr_types::{BLOCK_WORDS, CORES_MAX, Instr, Params};
 use rv_core::Core;
@@ -137,14 +138,14 @@ impl<R: Rider, K: Carry> Machine<R, K> {
         ensures rooms { RoomsMade self.old.state.memory.ports self.old.rooms self.new.rooms }
         ensures ok { OnOk result (heads_roomy self.new ≡ true) }
     {
-        let asker = self.asker;
-        if (asker as u32) < self.marks.cores {
-            let parts = &mut self.parts;
-            let can = parts.memory.make_room(asker)?;
-            self.marks.set(Move::Request(asker), can);
-            self.asker = CORES_MAX;
-        }
-        Ok(())
+        let parts = &mut self.parts;
+        let cores = self.marks.cores;
+        make_room(
+            &mut parts.memory,
+            cores,
+            &mut self.marks.moves,
+            &mut self.asker,
+        )
     }
 
     /// Whether the home has room for the block of each request link's head.
@@ -190,14 +191,11 @@ impl<R: Rider, K: Carry> Machine<R, K> {
         ensures all { AllMarked R.riding K.carrying self.now.state result }
         ensures moves { marked result ≡ moves R.riding K.carrying self.now.state }
     {
-        let mut marks = self.marks;
+        let parts = &self.parts;
+        let Marks { cores, moves } = self.marks;
         // nobody looked yet whether the block is free that the asker's request is for
-        if (self.asker as u32) < marks.cores {
-            let parts = &self.parts;
-            let can = parts.memory.has_free_head(self.asker);
-            marks.set(Move::Request(self.asker), can);
-        }
-        marks
+        let moves = with_late(&parts.memory, cores, moves, self.asker);
+        Marks { cores, moves }
     }
 
     /// The words of a block of the memory at the end: the owner's where a cache owns the block, else the home's.

@@ -1,13 +1,13 @@
 //! Which moves can be made, one bit a core in a set for each kind of move.
-ghost use Rattle.std.specs.Prelude.{◌≡◌, ◌≢◌, ◌==◌, ◌<◌, false, length, slice_index_or};
-ghost use Rattle.rtr_types.specs.declared.TheConstants.{CORES_MAX};
+ghost use Rattle.std.specs.Prelude.{◌≡◌, ◌==◌, ◌<◌, ℕ, false, length, slice_index_or};
+ghost use Rattle.rtr_types.specs.CoreSets.{has};
+ghost use Rattle.move_marks.specs.Kinds.{set_of};
+ghost use Rattle.move_marks.specs.declared.marks.MoveKind.{MoveKind};
 ghost use Rattle.msi_state.specs.declared.moves.Move.{Move};
-ghost use Rattle.msi_machine.specs.Marks.{is_marked, kind_of, marked, move_of};
-ghost use Rattle.msi_state.specs.Moves.{core_of};
+ghost use Rattle.msi_machine.specs.Marks.{marked, move_of};
 
 use move_marks::{MarkedMove, MoveKind, MoveMarks};
 use msi_state::Move;
-use rtr_types::CORES_MAX;
 
 /// Which of the moves of a machine of so many cores are marked.
 #[derive(Clone, Copy)]
@@ -20,22 +20,12 @@ impl Marks {
     /// No move is marked.
     pub(crate) fn none(cores: u32) -> Marks
         ensures cores { result.cores ≡ cores }
-        ensures none { (m : Move) → is_marked result m ≡ false }
+        ensures none { (kind : MoveKind) (c : ℕ) → has (set_of kind result.moves) c ≡ false }
     {
         Marks {
             cores,
             moves: MoveMarks::none(),
         }
-    }
-
-    /// Marks the move where it can be made, and takes its mark away elsewhere.
-    pub(crate) fn set(&mut self, taken: Move, can: bool)
-        requires { core_of taken < CORES_MAX }
-        ensures cores { self.new.cores ≡ self.old.cores }
-        ensures this { is_marked self.new taken ≡ can }
-        ensures others { (m : Move) → m ≢ taken → is_marked self.new m ≡ is_marked self.old m }
-    {
-        self.moves.set(kind_of(taken), taken.core(), can);
     }
 
     /// Whether no move is marked.
@@ -58,18 +48,6 @@ impl Marks {
         ensures { (d : Move) → result ≡ slice_index_or (marked self) number d }
     {
         move_of(self.moves.pick(number))
-    }
-}
-
-/// The move's kind.
-fn kind_of(taken: Move) -> MoveKind
-    ensures { result ≡ kind_of taken }
-{
-    match taken {
-        Move::Core(_) => MoveKind::Own,
-        Move::Request(_) => MoveKind::Request,
-        Move::Response(_) => MoveKind::Response,
-        Move::FromHome(_) => MoveKind::FromHome,
     }
 }
 

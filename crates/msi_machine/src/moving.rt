@@ -1,20 +1,22 @@
 //! Each kind of move, with what is noted beside the state.
 ghost use Rattle.std.specs.Prelude.{◌≡◌, IsTrue, false};
+ghost use Rattle.rtr_types.specs.CoreSets.{has};
 ghost use Rattle.rtr_types.specs.declared.TheConstants.{CORES_MAX};
 ghost use Rattle.machine_invariant.specs.Holds.{MachineHolds};
-ghost use Rattle.msi_machine.specs.Marks.{AllMarked, OthersMarked, asker_of, is_marked};
-ghost use Rattle.msi_machine.specs.Standings.{StandingsFit, standing_at};
+ghost use Rattle.move_marks.specs.Kinds.{set_of};
+ghost use Rattle.move_marks.specs.declared.marks.MoveKind.TheVariants.{Request};
+ghost use Rattle.msi_machine.specs.Marks.{AllMarked, OthersMarked, asker_of};
+ghost use Rattle.msi_machine.specs.Standings.{MoveNoted, StandingsFit, standing_at};
 ghost use Rattle.msi_state.specs.declared.moves.Move.{Move};
 ghost use Rattle.msi_state.specs.Events.{instr_of};
 ghost use Rattle.msi_state.specs.Rests.{heads_roomy};
 ghost use Rattle.msi_state.specs.Steps.{AcceptsNext, StepsTo, TellsOf, enabled, event};
 
-use crate::marking::mark_core;
 use crate::marks::Marks;
 use crate::parts::Parts;
 use crate::standing::Standing;
 use access_times::{Carry, Clerk, Rider};
-use move_marks::mark_turn;
+use move_marks::{MoveKind, mark_port, take_request, take_response};
 use msi_state::Move;
 use rtr_types::{CORES_MAX, Instr};
 
@@ -41,20 +43,18 @@ impl<R: Rider, K: Carry> Parts<R, K> {
         ensures retired { result ≡ instr_of (event R.riding K.carrying self.old.state taken) }
         ensures told { TellsOf C.told_local C.told_touch R.riding K.carrying self.old.state self.new.state
             taken clerk.old clerk.new }
-        ensures stands { StandingsFit self.new.state standings.new }
         ensures asker { asker.new ≡ asker_of taken result }
-        ensures marked { OthersMarked R.riding K.carrying self.new.state marks.new asker.new }
-        ensures unmarked { is_marked marks.new (Move.Request asker.new) ≡ false }
+        ensures noted { MoveNoted R.riding K.carrying self.new.state standings.new marks.new asker.new }
     {
         *asker = CORES_MAX;
         match taken {
             Move::Core(c) => self.move_core(c, &mut standings[c as usize], marks, asker, clerk),
             Move::Request(c) => {
-                self.take_request(c, marks);
+                take_request(&mut self.memory, c, marks.cores, &mut marks.moves);
                 None
             }
             Move::Response(c) => {
-                self.take_response(c, marks);
+                take_response(&mut self.memory, c, marks.cores, &mut marks.moves);
                 None
             }
             Move::FromHome(c) => self.take_message(c, &mut standings[c as usize], marks, clerk),
@@ -84,10 +84,10 @@ impl<R: Rider, K: Carry> Parts<R, K> {
         ensures renewed { standing.new ≡ standing_at K.carrying self.new.state c }
         ensures asker { asker.new ≡ asker_of (Move.Core c) result }
         ensures marked { OthersMarked R.riding K.carrying self.new.state marks.new asker.new }
-        ensures unmarked { is_marked marks.new (Move.Request asker.new) ≡ false }
+        ensures unmarked { has (set_of Request marks.new.moves) asker.new ≡ false }
     {
         let retired = self.work(c, standing, clerk);
-        marks.set(Move::Core(c), standing.may_move());
+        marks.moves.set(MoveKind::Own, c, standing.may_move());
         if retired.is_none() {
             *asker = c;
         }
@@ -116,38 +116,8 @@ impl<R: Rider, K: Carry> Parts<R, K> {
         ensures marked { AllMarked R.riding K.carrying self.new.state marks.new }
     {
         let retired = self.receive(c, standing, clerk);
-        mark_core(&self.memory, c, *standing, marks);
+        marks.moves.set(MoveKind::Own, c, standing.may_move());
+        mark_port(&self.memory, c, &mut marks.moves);
         retired
-    }
-
-    /// The home takes core `c`'s oldest request.
-    fn take_request(&mut self, c: u8, marks: &mut Marks)
-        requires holds { MachineHolds R.riding K.carrying self.old.state }
-        requires enabled { IsTrue (enabled R.riding K.carrying self.old.state (Move.Request c)) }
-        requires marked { AllMarked R.riding K.carrying self.old.state marks.old }
-        requires roomy { IsTrue (heads_roomy self.old) }
-        ensures state { StepsTo R.riding K.carrying self.old.state self.new.state (Move.Request c) }
-        ensures rooms { self.new.rooms ≡ self.old.rooms }
-        ensures marked { AllMarked R.riding K.carrying self.new.state marks.new }
-    {
-        // a request is taken only where its block is free, and a response only where it isn't
-        let turn = self.memory.take_request(c);
-        mark_turn(&self.memory, marks.cores, turn, true, &mut marks.moves);
-        // its link has room for one request, so none is left
-        marks.set(Move::Request(c), false);
-    }
-
-    /// The home takes core `c`'s oldest response.
-    fn take_response(&mut self, c: u8, marks: &mut Marks)
-        requires holds { MachineHolds R.riding K.carrying self.old.state }
-        requires enabled { IsTrue (enabled R.riding K.carrying self.old.state (Move.Response c)) }
-        requires marked { AllMarked R.riding K.carrying self.old.state marks.old }
-        ensures state { StepsTo R.riding K.carrying self.old.state self.new.state (Move.Response c) }
-        ensures rooms { self.new.rooms ≡ self.old.rooms }
-        ensures marked { AllMarked R.riding K.carrying self.new.state marks.new }
-    {
-        let turn = self.memory.take_response(c);
-        marks.set(Move::Response(c), self.memory.has_response(c));
-        mark_turn(&self.memory, marks.cores, turn, false, &mut marks.moves);
     }
 }

@@ -1,14 +1,16 @@
 //! What a core stands at, and whether its port waits.
-ghost use Rattle.std.specs.Prelude.{◌≡◌, ◌≤◌, ◌&&◌, IfOk, false, length, map, not};
+ghost use Rattle.std.specs.Prelude.{◌≡◌, ◌≢◌, ◌≤◌, ◌&&◌, ℕ, IfOk, false, length, map, not};
 ghost use Rattle.std.specs.List.{list_all};
 ghost use Rattle.rv_core.specs.Steps.{is_done};
+ghost use Rattle.rtr_types.specs.CoreSets.{has};
 ghost use Rattle.rtr_types.specs.declared.TheConstants.{CORES_MAX};
-ghost use Rattle.msi_machine.specs.Marks.{is_marked};
+ghost use Rattle.move_marks.specs.Kinds.{set_of};
+ghost use Rattle.move_marks.specs.declared.marks.MoveKind.{MoveKind};
+ghost use Rattle.move_marks.specs.declared.marks.MoveKind.TheVariants.{Own};
 ghost use Rattle.msi_machine.specs.Standings.{may_begin, standing_with};
-ghost use Rattle.msi_state.specs.declared.moves.Move.{Move};
 
 use crate::marks::Marks;
-use msi_state::Move;
+use move_marks::MoveKind;
 use rtr_types::CORES_MAX;
 use rv_core::{Core, Need, Program};
 use rv_decode::Op;
@@ -80,11 +82,12 @@ pub(crate) fn are_done(standings: &[Standing]) -> bool
 pub(crate) fn first_marks(standings: &[Standing]) -> Marks
     requires few { length standings.now ≤ CORES_MAX }
     ensures cores { result.cores ≡ length standings.now }
-    ensures marked { (m : Move) → is_marked result m ≡ may_begin standings.now m }
+    ensures own { (c : ℕ) → has (set_of Own result.moves) c ≡ may_begin standings.now c }
+    ensures others { (kind : MoveKind) → kind ≢ Own → (c : ℕ) → has (set_of kind result.moves) c ≡ false }
 {
     let mut marks = Marks::none(standings.len() as u32);
     for (c, standing) in standings.iter().enumerate() {
-        marks.set(Move::Core(c as u8), standing.may_move());
+        marks.moves.set(MoveKind::Own, c as u8, standing.may_move());
     }
     marks
 }

@@ -3,6 +3,10 @@ use Rattle.std.proofs.Common.{◌≡◌, ◌∙◌, refl, sym, subst, ap, ℕ, �
 use Rattle.std.proofs.lemmas.List.{length-set}
 use Rattle.access_times.specs.Riding.{Riding, Carrying}
 use Rattle.rtr_types.specs.declared.access.Kind.{Kind}
+use Rattle.link_order.specs.Queue.{Queue}
+use Rattle.msi_cache.specs.declared.messages.FromHome.{FromHome}
+use Rattle.msi_cache.specs.declared.messages.Response.{Response}
+use Rattle.msi_memory.specs.declared.port.Mail.{Mail}
 use Rattle.msi_memory.specs.declared.port.Port.{Port}
 use Rattle.msi_memory.specs.Acts.{
   Act,
@@ -112,48 +116,25 @@ module _ {R K : Type 0} where
       ∙ ap (λ (q : Port R K). with_port m c (rest q)) (port_there carrying m c p within)
 
   -- ---- asking and telling change neither the port's responses nor its messages
+  abbrev pub links : Port R K → Queue (Mail (Response R) K) × Queue (Mail (FromHome R) K)
+  links p = (p.responses, p.messages)
 
-  told_responses : (riding : Riding R) (carrying : Carrying K) (c : ℕ) (rider : R) (list : List Told) (p : Port R K) →
-      (port_acts riding carrying (acts_told c rider list) p).responses ≡ p.responses
-  told_responses riding carrying c rider [] p = refl
-  told_responses riding carrying c rider (Alone at ∷ list) p =
-      told_responses riding carrying c rider list (port_retiring carrying p at)
-  told_responses riding carrying c rider (Ordered a ∷ list) p = told_responses riding carrying c rider list _
-  told_responses riding carrying c rider (Logged at word value ∷ list) p =
-      told_responses riding carrying c rider list (port_retiring carrying p at)
+  told_links : (riding : Riding R) (carrying : Carrying K) (c : ℕ) (rider : R) (list : List Told) (p : Port R K) →
+      links (port_acts riding carrying (acts_told c rider list) p) ≡ links p
+  told_links riding carrying c rider [] p = refl
+  told_links riding carrying c rider (Alone at ∷ list) p =
+      told_links riding carrying c rider list (port_retiring carrying p at)
+  told_links riding carrying c rider (Ordered a ∷ list) p = told_links riding carrying c rider list _
+  told_links riding carrying c rider (Logged at word value ∷ list) p =
+      told_links riding carrying c rider list (port_retiring carrying p at)
 
-  told_messages : (riding : Riding R) (carrying : Carrying K) (c : ℕ) (rider : R) (list : List Told) (p : Port R K) →
-      (port_acts riding carrying (acts_told c rider list) p).messages ≡ p.messages
-  told_messages riding carrying c rider [] p = refl
-  told_messages riding carrying c rider (Alone at ∷ list) p =
-      told_messages riding carrying c rider list (port_retiring carrying p at)
-  told_messages riding carrying c rider (Ordered a ∷ list) p = told_messages riding carrying c rider list _
-  told_messages riding carrying c rider (Logged at word value ∷ list) p =
-      told_messages riding carrying c rider list (port_retiring carrying p at)
-
-  pub own_responses : (riding : Riding R) (carrying : Carrying K) (c : ℕ) (rider : R) (wanted : Option (Kind × ℕ))
-      (e : Event) (list : List Told)
-      (p : Port R K) → (port_acts riding carrying (acts_asking c wanted e ++ acts_told c rider list)
-      p).responses ≡ p.responses
-  own_responses riding carrying c rider None Nothing list p = told_responses riding carrying c rider list p
-  own_responses riding carrying c rider (Some (kind, word)) Nothing list p =
-      told_responses riding carrying c rider list _
-  own_responses riding carrying c rider wanted (Executes at) list p = told_responses riding carrying c rider list p
-  own_responses riding carrying c rider wanted (Buffers at pending) list p =
-      told_responses riding carrying c rider list p
-  own_responses riding carrying c rider wanted (Performs a) list p = told_responses riding carrying c rider list p
-  own_responses riding carrying c rider wanted (Drains a) list p = told_responses riding carrying c rider list p
-  own_responses riding carrying c rider wanted (Logs at word value) list p =
-      told_responses riding carrying c rider list p
-
-  pub own_messages : (riding : Riding R) (carrying : Carrying K) (c : ℕ) (rider : R) (wanted : Option (Kind × ℕ))
-      (e : Event) (list : List Told)
-      (p : Port R K) → (port_acts riding carrying (acts_asking c wanted e ++ acts_told c rider list)
-      p).messages ≡ p.messages
-  own_messages riding carrying c rider None Nothing list p = told_messages riding carrying c rider list p
-  own_messages riding carrying c rider (Some (kind, word)) Nothing list p = told_messages riding carrying c rider list _
-  own_messages riding carrying c rider wanted (Executes at) list p = told_messages riding carrying c rider list p
-  own_messages riding carrying c rider wanted (Buffers at pending) list p = told_messages riding carrying c rider list p
-  own_messages riding carrying c rider wanted (Performs a) list p = told_messages riding carrying c rider list p
-  own_messages riding carrying c rider wanted (Drains a) list p = told_messages riding carrying c rider list p
-  own_messages riding carrying c rider wanted (Logs at word value) list p = told_messages riding carrying c rider list p
+  pub own_links : (riding : Riding R) (carrying : Carrying K) (c : ℕ) (rider : R) (wanted : Option (Kind × ℕ))
+      (e : Event) (list : List Told) (p : Port R K) →
+      links (port_acts riding carrying (acts_asking c wanted e ++ acts_told c rider list) p) ≡ links p
+  own_links riding carrying c rider None Nothing list p = told_links riding carrying c rider list p
+  own_links riding carrying c rider (Some (kind, word)) Nothing list p = told_links riding carrying c rider list _
+  own_links riding carrying c rider wanted (Executes at) list p = told_links riding carrying c rider list p
+  own_links riding carrying c rider wanted (Buffers at pending) list p = told_links riding carrying c rider list p
+  own_links riding carrying c rider wanted (Performs a) list p = told_links riding carrying c rider list p
+  own_links riding carrying c rider wanted (Drains a) list p = told_links riding carrying c rider list p
+  own_links riding carrying c rider wanted (Logs at word value) list p = told_links riding carrying c rider list p

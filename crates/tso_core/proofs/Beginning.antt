@@ -1,5 +1,5 @@
 -- What is noted at the start: nothing is pending or under way, and each core whose program isn't done is marked.
-use Rattle.std.proofs.Common.{◌≡◌, ◌∙◌, ◌⊎◌, inl, inr, refl, sym, subst, ap, ℕ, zero, suc, ◌<◌, ◌≤◌, Bool, true}
+use Rattle.std.proofs.Common.{◌≡◌, ◌≢◌, ◌∙◌, ◌⊎◌, inl, inr, refl, sym, subst, ap, ℕ, ◌<◌, ◌≤◌, Bool, true}
 use Rattle.std.proofs.Common.{false, List, [], length, get_or}
 use Rattle.std.proofs.Common.{replicate, nat_lt, zero-add, ◌&&◌, ◌||◌, ◌/◌}
 use Rattle.std.specs.Prelude.{map, not}
@@ -15,26 +15,23 @@ use Rattle.rv_core.specs.declared.core_state.Need.TheVariants.{Local, Load, Stor
 use Rattle.rv_core.specs.Steps.{is_done, need}
 use Rattle.msi_cache.specs.Lines.{waits}
 use Rattle.msi_memory.specs.declared.port.Port.{Port}
-use Rattle.msi_memory.specs.Acts.{TakeMessage, TakeRequest, TakeResponse, allows, can, can_at, port_of, Act}
-use Rattle.msi_memory.specs.Memories.{no_port, port_at, port_start}
-use Rattle.msi_memory.specs.Rests.{head_roomy, requests_at}
-use Rattle.tso_state.specs.declared.moves.Move.{Move}
-use Rattle.tso_state.specs.declared.moves.Move.TheVariants.{
-  Core as CoreMove,
-  Order as OrderMove,
-  Request as RequestMove,
-}
-use Rattle.tso_state.specs.declared.moves.Move.TheVariants.{Response as ResponseMove, FromHome as MessageMove}
+use Rattle.msi_memory.specs.Acts.{allows}
+use Rattle.msi_memory.specs.Memories.{port_at, port_start}
+use Rattle.rtr_types.specs.CoreSets.{has}
+use Rattle.move_marks.specs.declared.marks.MoveKind.{MoveKind}
+use Rattle.move_marks.specs.declared.marks.MoveKind.TheVariants.{Own}
+use Rattle.move_marks.specs.Kinds.{set_of}
+use Rattle.move_marks.specs.Ports.{PortsNoted}
+use Rattle.move_marks.proofs.Idle.{idle_noted, port_idle}
+use Rattle.tso_state.specs.declared.moves.Move.TheVariants.{Core as CoreMove, Order as OrderMove}
 use Rattle.tso_state.specs.States.{BufferedCore, State, buffered_start, core_at, state_start}
 use Rattle.tso_state.specs.Steps.{can_execute, can_order, case_holds, enabled, is_fence}
 use Rattle.tso_invariant.specs.Holds.{TsoHolds}
 use Rattle.tso_core.specs.declared.marks.Marks.{Marks}
 use Rattle.tso_core.specs.declared.standing.Standing.{Standing}
 use Rattle.tso_core.specs.Machineries.{Machinery}
-use Rattle.tso_core.specs.Marks.{is_marked}
 use Rattle.tso_core.specs.Standings.{NotesFit, may_begin, standing_with}
 use Rattle.move_marks.proofs.Delivered.{below_is, past_is, split}
-use Rattle.move_marks.proofs.Acts.{can_here, can_past}
 use Rattle.tso_core.proofs.Standings.{standings_long}
 
 or_true : (a w : Bool) → w ≡ false → (a || not w) ≡ true
@@ -60,34 +57,6 @@ module _ {R K : Type 0} where
   first_case (Amo word) fence riding p still = ap not still
   first_case (Done stop) fence riding p still = refl
 
-  -- nothing is on its way
-  port_idle : {X : Type 0} (f : Port R K → X) (x : X) (riding : Riding R) (carrying : Carrying K) (cores c : ℕ) →
-      f (port_start riding carrying) ≡ x →
-      f (no_port carrying) ≡ x → f (port_at carrying (replicate cores (port_start riding carrying)) c) ≡ x
-  port_idle f x riding carrying zero c first none = none
-  port_idle f x riding carrying (suc cores) zero first none = first
-  port_idle f x riding carrying (suc cores) (suc c) first none = port_idle f x riding carrying cores c first none
-
-  no_requests : (riding : Riding R) (carrying : Carrying K) (cores c : ℕ) →
-      requests_at (replicate cores (port_start riding carrying)) c ≡ []
-  no_requests riding carrying zero c = refl
-  no_requests riding carrying (suc cores) zero = refl
-  no_requests riding carrying (suc cores) (suc c) = no_requests riding carrying cores c
-
-  idle : (riding : Riding R) (carrying : Carrying K) (image : Contents) (cores limit : ℕ) (act : Act R) →
-      can_at riding (state_start riding carrying image cores limit).memory.home
-      (port_at carrying (replicate cores (port_start riding carrying)) (port_of act)) act ≡ false →
-      can riding carrying (state_start riding carrying image cores limit).memory act ≡ false
-  idle riding carrying image cores limit act none =
-      by (split (port_of act) (length (state_start riding carrying image cores limit).memory.ports))
-    where
-      by : (port_of act < length (state_start riding carrying image cores limit).memory.ports)
-          ⊎ (length (state_start riding carrying image cores limit).memory.ports ≤ port_of act) →
-          can riding carrying (state_start riding carrying image cores limit).memory act ≡ false
-      by (inl within) = can_here riding carrying (state_start riding carrying image cores limit).memory act within
-          ∙ none
-      by (inr past) = can_past riding carrying (state_start riding carrying image cores limit).memory act past
-
   -- ---- the cores at the start
   module _ (riding : Riding R) (carrying : Carrying K) (image : Contents) (cores limit : ℕ) where
     first : State R K
@@ -106,8 +75,8 @@ module _ {R K : Type 0} where
         (buffered_start 0 0) within (zero-add d)
 
     -- a core may begin where it can move
-    begins : (d : ℕ) → may_begin (map (λ (t : BufferedCore). standing_with image t.core) cores_first)
-        (CoreMove d) ≡ enabled riding carrying first (CoreMove d)
+    begins : (d : ℕ) → may_begin (map (λ (t : BufferedCore). standing_with image t.core) cores_first) d
+        ≡ enabled riding carrying first (CoreMove d)
     unfolding cores_first first
     begins d = by (split d cores)
       where
@@ -118,7 +87,7 @@ module _ {R K : Type 0} where
         p = port_at carrying (replicate cores (port_start riding carrying)) d
 
         still : waits p.cache ≡ false
-        still = port_idle (λ (q : Port R K). waits q.cache) false riding carrying cores d refl refl
+        still = port_idle riding carrying (λ (q : Port R K). waits q.cache) false cores d refl refl
 
         can_first : (t : BufferedCore) → t ≡ buffered_start d limit → not (is_done (need image t.core)) ≡ can_execute
             image riding t p
@@ -174,53 +143,31 @@ module _ {R K : Type 0} where
       (marks : Marks) → m.state ≡ state_start riding carrying image cores limit → TsoHolds riding carrying m.state →
       standings ≡ map (λ (t : BufferedCore). standing_with image t.core) m.state.cores →
       marks.cores ≡ length standings →
-      ((x : Move) → is_marked marks x ≡ may_begin standings x) → NotesFit riding carrying m standings marks 0
+      ((c : ℕ) → has (set_of Own marks.moves) c ≡ may_begin standings c) → ((c : ℕ) → has marks.orders c ≡ false) →
+      ((k : MoveKind) → k ≢ Own → (c : ℕ) → has (set_of k marks.moves) c ≡ false) →
+      NotesFit riding carrying m standings marks 0
   unfolding cores_first first
-  notes_begin riding carrying image cores limit m standings marks is holds made count marked =
+  notes_begin riding carrying image cores limit m standings marks is holds made count own orders none =
       record {
         holds = holds;
         stands = fit;
-        marked = record {
+        cores = record {
           cores = count ∙ standings_long m.state standings fit;
-          marked =
-              λ x other. every x;
+          own = λ c. own c
+              ∙ ap (λ (xs : List Standing). may_begin xs c) (made
+              ∙ ap (λ (s : State R K). map (λ (t : BufferedCore). standing_with image t.core) s.cores) is)
+              ∙ begins riding carrying image cores limit c
+              ∙ ap (λ (s : State R K). enabled riding carrying s (CoreMove c)) (sym is);
+          orders = λ c. orders c ∙ sym (ap (λ (s : State R K). enabled riding carrying s (OrderMove c)) is
+              ∙ nothing_orders riding carrying image cores limit c);
         };
-        past = λ out. every (RequestMove 0)
-            ∙ can_past riding carrying m.state.memory (TakeRequest 0)
-            (subst (λ (n : ℕ). n ≤ 0) (sym holds.ports_there) out);
-        roomy = λ c other. ap (λ (s : State R K). head_roomy (requests_at s.memory.ports c) m.rooms) is
-            ∙ ap (λ items. head_roomy items m.rooms) (no_requests riding carrying cores c);
+        ports = subst (λ (s : State R K). PortsNoted riding carrying s.memory m.rooms marks.cores marks.moves 0)
+            (sym is)
+            (idle_noted riding carrying image cores m.rooms marks.cores marks.moves 0
+            (count ∙ standings_long m.state standings fit ∙ sym holds.ports_there
+            ∙ ap (λ (s : State R K). length s.memory.ports) is) none);
       }
     where
       fit : standings ≡ map (λ (t : BufferedCore). standing_with m.state.image t.core) m.state.cores
       fit = made ∙ ap (λ (s : State R K). map (λ (t : BufferedCore). standing_with s.image t.core) m.state.cores)
           (sym is)
-
-      none : (act : Act R) → can_at riding (state_start riding carrying image cores limit).memory.home
-          (port_at carrying (replicate cores (port_start riding carrying)) (port_of act)) act ≡ false →
-          false ≡ can riding carrying m.state.memory act
-      none act out =
-          sym (ap (λ (s : State R K). can riding carrying s.memory act) is
-          ∙ idle riding carrying image cores limit act out)
-
-      every : (x : Move) → is_marked marks x ≡ enabled riding carrying m.state x
-      every (CoreMove d) =
-          marked (CoreMove d)
-          ∙ ap (λ (xs : List Standing). may_begin xs (CoreMove d)) (made
-          ∙ ap (λ (s : State R K). map (λ (t : BufferedCore). standing_with image t.core)
-          s.cores) is)
-          ∙ begins riding carrying image cores limit d
-          ∙ ap (λ (s : State R K). enabled riding carrying s (CoreMove d)) (sym is)
-      every (OrderMove d) =
-          marked (OrderMove d) ∙ sym (ap (λ (s : State R K). enabled riding carrying s (OrderMove d)) is
-          ∙ nothing_orders riding carrying image cores limit d)
-      every (RequestMove d) = marked (RequestMove d) ∙ none (TakeRequest d)
-          (port_idle (λ p. can_at riding (state_start riding carrying image cores limit).memory.home p (TakeRequest d))
-          false riding carrying cores d refl refl)
-      every (ResponseMove d) = marked (ResponseMove d) ∙ none (TakeResponse d)
-          (port_idle (λ p. can_at riding (state_start riding carrying image cores limit).memory.home p (TakeResponse d))
-          false riding carrying cores d
-          refl refl)
-      every (MessageMove d) = marked (MessageMove d) ∙ none (TakeMessage d)
-          (port_idle (λ p. can_at riding (state_start riding carrying image cores limit).memory.home p (TakeMessage d))
-          false riding carrying cores d refl refl)

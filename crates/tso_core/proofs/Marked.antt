@@ -6,11 +6,7 @@ use Rattle.std.specs.Prelude.{map}
 use Rattle.std.specs.List.{filter, range_with_len}
 use Rattle.std.proofs.lemmas.Bool.Decides.{nat_tests}
 use Rattle.std.proofs.lemmas.List.{length-append, length-map}
-use Rattle.rtr_types.specs.CoreSets.{has, no_cores}
-use Rattle.rtr_types.proofs.Members.{has-no_cores}
 use Rattle.rtr_types.specs.declared.TheConstants.{CORES_MAX}
-use Rattle.rtr_types.specs.declared.core_set.CoreSet.{CoreSet}
-use Rattle.move_marks.specs.declared.marks.MoveKind.{MoveKind}
 use Rattle.move_marks.specs.declared.marks.MoveKind.TheVariants.{Own, Request, Response, FromHome}
 use Rattle.move_marks.specs.Kinds.{marked as marked_in, marked_at_ports, set_of}
 use Rattle.move_marks.specs.Members.{members}
@@ -24,15 +20,6 @@ use Rattle.tso_state.specs.declared.moves.Move.TheVariants.{FromHome as MessageM
 use Rattle.tso_state.specs.Moves.{candidate, candidates, core_of}
 use Rattle.tso_core.specs.declared.marks.Marks.{Marks}
 use Rattle.tso_core.specs.Marks.{is_marked, made_of, marked, marked_past_own, move_of}
-
--- nothing is marked where no set has a core
-pub none_marked : (marks : Marks) → ((k : MoveKind) (c : ℕ) → has (set_of k marks.moves) c ≡ false) →
-    marks.orders ≡ no_cores → (m : Move) → is_marked marks m ≡ false
-none_marked marks none empty (CoreMove c) = none Own c
-none_marked marks none empty (OrderMove c) = ap (λ (s : CoreSet). has s c) empty ∙ has-no_cores c
-none_marked marks none empty (RequestMove c) = none Request c
-none_marked marks none empty (ResponseMove c) = none Response c
-none_marked marks none empty (MessageMove c) = none FromHome c
 
 -- how many are marked
 pub past_own_long : (marks : Marks) →

@@ -1,5 +1,6 @@
 -- What each move leaves of cores, ports and what is noted beside them.
-use Rattle.std.proofs.Common.{◌≡◌, ◌≢◌, ◌∙◌, refl, sym, subst, ap, ℕ, ◌<◌, true, List, length, get_or, arith}
+use Rattle.std.proofs.Common.{◌≡◌, ◌≢◌, ◌∙◌, refl, sym, subst, ap, ℕ, ◌<◌, ◌≤◌, true, List, length, get_or}
+use Rattle.std.proofs.Common.{arith}
 use Rattle.std.specs.Prelude.{slice_set}
 use Rattle.std.proofs.lemmas.List.{get_or_read, set-get_or}
 use Rattle.access_times.specs.Riding.{Riding, Carrying}
@@ -11,12 +12,9 @@ use Rattle.msi_memory.specs.Rests.{OthersRoomy, head_roomy, requests_at}
 use Rattle.msi_memory.proofs.Roomy.{each_roomy}
 use Rattle.msi_laws.proofs.Spaces.{no_requests}
 use Rattle.tso_state.specs.declared.moves.Move.{Move}
-use Rattle.tso_state.specs.declared.moves.Move.TheVariants.{
-  Core as CoreMove,
-  Order as OrderMove,
-  Request as RequestMove,
-}
-use Rattle.tso_state.specs.declared.moves.Move.TheVariants.{Response as ResponseMove, FromHome as MessageMove}
+use Rattle.tso_state.specs.declared.moves.Move.TheVariants.{Core as CoreMove, Order as OrderMove}
+use Rattle.tso_state.specs.declared.moves.Move.TheVariants.{Request as RequestMove, Response as ResponseMove}
+use Rattle.tso_state.specs.declared.moves.Move.TheVariants.{FromHome as MessageMove}
 use Rattle.tso_state.specs.Moves.{core_of}
 use Rattle.tso_state.specs.States.{BufferedCore, State, buffered_start, core_at}
 use Rattle.tso_state.specs.Steps.{acts, acts_told, can_order, core_left, enabled, event, head_access, step, told}
@@ -25,25 +23,26 @@ use Rattle.tso_invariant.proofs.Kept.{core_port, enabled_core, holds_kept, step_
 use Rattle.tso_core.specs.declared.marks.Marks.{Marks}
 use Rattle.tso_core.specs.declared.standing.Standing.{Standing}
 use Rattle.tso_core.specs.Machineries.{Machinery, heads_roomy}
-use Rattle.tso_core.specs.Marks.{AllMarked, OthersMarked, is_marked}
+use Rattle.tso_core.specs.Marks.{AllMarked, CoresMarked, OthersMarked}
 use Rattle.tso_core.specs.Moving.{StepsTo, rider_left}
-use Rattle.tso_core.specs.Standings.{NotesFit, StandingsFit, may_execute, standing_at}
+use Rattle.tso_core.specs.Standings.{NotesFit, OwnMarked, StandingsFit, may_execute, standing_at}
 use Rattle.tso_core.specs.Workings.{MayAsk}
-use Rattle.tso_core.proofs.AtPort.{
-  AreHere,
-  acts_here,
-  asking_here,
-  here_append,
-  own_messages,
-  own_responses,
-  port_acts,
-  telling_here,
-}
-use Rattle.tso_core.proofs.Elsewhere.{MovedAt, moved_cores, requests_other}
-use Rattle.tso_core.proofs.Heads.{order_standing}
-use Rattle.tso_core.proofs.Renewed.{core_marked, moved_marked, order_marked, own_marked}
-use Rattle.tso_core.proofs.Standings.{moved_stands, stands_at}
+use Rattle.rtr_types.specs.CoreSets.{has}
+use Rattle.rtr_types.specs.declared.TheConstants.{CORES_MAX}
+use Rattle.move_marks.specs.declared.marks.MoveKind.{MoveKind}
+use Rattle.move_marks.specs.declared.marks.MoveKind.TheVariants.{Own, Response, FromHome}
+use Rattle.move_marks.specs.declared.marks.MoveMarks.{MoveMarks}
+use Rattle.move_marks.specs.Kinds.{set_of}
+use Rattle.move_marks.specs.Ports.{PortsMarkedBut}
+use Rattle.move_marks.proofs.Following.{each}
+use Rattle.move_marks.proofs.OnePort.{links_marked, port_renewed, requests_other, same_long}
 use Rattle.move_marks.proofs.Turned.{request_stays, response_stays}
+use Rattle.tso_core.proofs.AtPort.{AreHere, acts_here, asking_here, here_append, links, own_links, port_acts}
+use Rattle.tso_core.proofs.AtPort.{telling_here}
+use Rattle.tso_core.proofs.Elsewhere.{MovedAt, order_elsewhere, own_elsewhere}
+use Rattle.tso_core.proofs.Heads.{order_standing}
+use Rattle.tso_core.proofs.Renewed.{order_marked, own_marked}
+use Rattle.tso_core.proofs.Standings.{moved_stands, stands_at}
 
 module _ {R K : Type 0} where
   -- ---- a core's own move, the ordering of an access, and a message
@@ -88,12 +87,16 @@ module _ {R K : Type 0} where
   moves_by riding carrying rider s t m within here is cores =
       let memory = memory_is riding carrying rider s t m within here is in
       record {
-        core = core_left riding carrying s m;
-        port = port_acts riding carrying (acts riding carrying rider s m) (port_at carrying s.memory.ports (core_of m));
         image = ap (λ (x : State R K). x.image) is;
-        cores = ap (λ (x : State R K). x.cores) is ∙ cores;
-        ports = ap (λ (n : Memory R K). n.ports) memory;
-        home = ap (λ (n : Memory R K). n.home) memory;
+        cores = record { one = core_left riding carrying s m; is = ap (λ (x : State R K). x.cores) is ∙ cores };
+        memory = record {
+          ports = record {
+            one = port_acts riding carrying (acts riding carrying rider s m)
+                (port_at carrying s.memory.ports (core_of m));
+            is = ap (λ (n : Memory R K). n.ports) memory;
+          };
+          home = ap (λ (n : Memory R K). n.home) memory;
+        };
       }
 
   pub core_moves : (riding : Riding R) (carrying : Carrying K) (rider : R) (s t : State R K) (c : ℕ) →
@@ -114,77 +117,47 @@ module _ {R K : Type 0} where
   message_moves riding carrying rider s t c within is =
       moves_by riding carrying rider s t (MessageMove c) within (message_here riding carrying rider s c) is refl
 
-  -- ---- the marks after them
+  -- a core's own move and an ordering change neither the port's responses nor its messages
+  pub record OwnMoved (carrying : Carrying K) (s t : State R K) (c : ℕ) : Type 0 where
+    pub moved : MovedAt s t c
+    pub same : links moved.memory.ports.one ≡ links (port_at carrying s.memory.ports c)
 
-  pub core_marks : (riding : Riding R) (carrying : Carrying K) (rider : R) (s t : State R K) (old new : Marks) (c : ℕ)
-      (kept : Standing) →
-      AllMarked riding carrying s old → t ≡ step riding carrying rider s (CoreMove c) → c < length s.cores →
-      c < length s.memory.ports →
-      kept ≡ standing_at t c → new.cores ≡ old.cores →
-      is_marked new (CoreMove c) ≡ may_execute riding kept (core_at t.cores c) (port_at carrying t.memory.ports c) →
-      is_marked new (OrderMove c) ≡ can_order (core_at t.cores c).queue riding (port_at carrying t.memory.ports c) →
-      ((m : Move) → m ≢ CoreMove c → m ≢ OrderMove c → is_marked new m ≡ is_marked old m) →
-      OthersMarked riding carrying t new c
+  pub core_moved : (riding : Riding R) (carrying : Carrying K) (rider : R) (s t : State R K) (c : ℕ) →
+      c < length s.memory.ports → t ≡ step riding carrying rider s (CoreMove c) → OwnMoved carrying s t c
   unfolding core_moves moves_by
-  core_marks riding carrying rider s t old new c kept all is here port stands cores this order others =
-      let wanted = need_access (need s.image (core_at s.cores c).core) in
-      let e = event riding carrying s (CoreMove c) in
-      let list = told riding carrying s (CoreMove c) in
-      let p = port_at carrying s.memory.ports c in
-      core_marked riding carrying s t old new c kept all (core_moves riding carrying rider s t c port is) here port
-      (own_responses riding carrying c rider wanted e list p) (own_messages riding carrying c rider wanted e list p)
-      stands cores this order others
+  core_moved riding carrying rider s t c port is =
+      record {
+        moved = core_moves riding carrying rider s t c port is;
+        same = own_links riding carrying c rider (need_access (need s.image (core_at s.cores c).core))
+            (event riding carrying s (CoreMove c)) (told riding carrying s (CoreMove c))
+            (port_at carrying s.memory.ports c);
+      }
 
-  pub order_marks : (riding : Riding R) (carrying : Carrying K) (rider : R) (s t : State R K) (old new : Marks) (c : ℕ)
-      (kept : Standing) →
-      AllMarked riding carrying s old → t ≡ step riding carrying rider s (OrderMove c) → c < length s.cores →
-      c < length s.memory.ports →
-      kept ≡ standing_at t c → new.cores ≡ old.cores →
-      is_marked new (CoreMove c) ≡ may_execute riding kept (core_at t.cores c) (port_at carrying t.memory.ports c) →
-      is_marked new (OrderMove c) ≡ can_order (core_at t.cores c).queue riding (port_at carrying t.memory.ports c) →
-      ((m : Move) → m ≢ CoreMove c → m ≢ OrderMove c → is_marked new m ≡ is_marked old m) →
-      OthersMarked riding carrying t new c
+  pub order_moved : (riding : Riding R) (carrying : Carrying K) (rider : R) (s t : State R K) (c : ℕ) →
+      c < length s.memory.ports → t ≡ step riding carrying rider s (OrderMove c) → OwnMoved carrying s t c
   unfolding order_moves moves_by
-  order_marks riding carrying rider s t old new c kept all is here port stands cores this order others =
-      let wanted = head_access (core_at s.cores c).queue in
-      let e = event riding carrying s (OrderMove c) in
-      let list = told riding carrying s (OrderMove c) in
-      let p = port_at carrying s.memory.ports c in
-      core_marked riding carrying s t old new c kept all (order_moves riding carrying rider s t c port is) here port
-      (own_responses riding carrying c rider wanted e list p) (own_messages riding carrying c rider wanted e list p)
-      stands cores this order others
-
-  pub message_marks : (riding : Riding R) (carrying : Carrying K) (rider : R) (s t : State R K) (old new : Marks)
-      (c : ℕ) (kept : Standing) →
-      AllMarked riding carrying s old → t ≡ step riding carrying rider s (MessageMove c) → c < length s.cores →
-      c < length s.memory.ports →
-      kept ≡ standing_at t c → new.cores ≡ old.cores →
-      is_marked new (CoreMove c) ≡ may_execute riding kept (core_at t.cores c) (port_at carrying t.memory.ports c) →
-      is_marked new (OrderMove c) ≡ can_order (core_at t.cores c).queue riding (port_at carrying t.memory.ports c) →
-      is_marked new (ResponseMove c) ≡ can riding carrying t.memory (TakeResponse c) →
-      is_marked new (MessageMove c) ≡ can riding carrying t.memory (TakeMessage c) →
-      ((m : Move) → core_of m ≢ c → is_marked new m ≡ is_marked old m) → OthersMarked riding carrying t new c
-  message_marks riding carrying rider s t old new c kept all is here port stands cores own order response message
-      others =
-      let moved = message_moves riding carrying rider s t c port is in
-      let there = subst (λ (n : ℕ). c < n) (sym (moved_cores carrying s t c moved)) here in
-      moved_marked riding carrying s t old new c all moved cores (own
-      ∙ own_marked riding carrying t c kept there stands)
-      (order ∙ order_marked riding carrying t c there) response message others
+  order_moved riding carrying rider s t c port is =
+      record {
+        moved = order_moves riding carrying rider s t c port is;
+        same = own_links riding carrying c rider (head_access (core_at s.cores c).queue)
+            (event riding carrying s (OrderMove c)) (told riding carrying s (OrderMove c))
+            (port_at carrying s.memory.ports c);
+      }
 
   -- ---- a move changes no requests but those of its own core
   requests_stay : (riding : Riding R) (carrying : Carrying K) (rider : R) (s : State R K) (m : Move) (d : ℕ) →
       core_of m < length s.memory.ports →
       d ≢ core_of m → requests_at (step riding carrying rider s m).memory.ports d ≡ requests_at s.memory.ports d
   requests_stay riding carrying rider s (CoreMove c) d within other =
-      requests_other carrying s (step riding carrying rider s (CoreMove c)) c
-      (core_moves riding carrying rider s (step riding carrying rider s (CoreMove c)) c within refl) d other
+      requests_other carrying s.memory (step riding carrying rider s (CoreMove c)).memory c
+      (core_moves riding carrying rider s (step riding carrying rider s (CoreMove c)) c within refl).memory d other
   requests_stay riding carrying rider s (OrderMove c) d within other =
-      requests_other carrying s (step riding carrying rider s (OrderMove c)) c
-      (order_moves riding carrying rider s (step riding carrying rider s (OrderMove c)) c within refl) d other
+      requests_other carrying s.memory (step riding carrying rider s (OrderMove c)).memory c
+      (order_moves riding carrying rider s (step riding carrying rider s (OrderMove c)) c within refl).memory d other
   requests_stay riding carrying rider s (MessageMove c) d within other =
-      requests_other carrying s (step riding carrying rider s (MessageMove c)) c
-      (message_moves riding carrying rider s (step riding carrying rider s (MessageMove c)) c within refl) d other
+      requests_other carrying s.memory (step riding carrying rider s (MessageMove c)).memory c
+      (message_moves riding carrying rider s (step riding carrying rider s (MessageMove c)) c within refl).memory d
+      other
   requests_stay riding carrying rider s (RequestMove c) d within other =
       (request_stays riding carrying s.memory c).requests d other
   requests_stay riding carrying rider s (ResponseMove c) d within other =
@@ -262,16 +235,30 @@ module _ {R K : Type 0} where
       let rider : R = rider_left riding carrying old.state new.state m in
       let here : core_of m < length old.state.memory.ports =
       core_port riding carrying old.state (core_of m) holds (enabled_core riding carrying old.state m can_be holds) in
+      let after : TsoHolds riding carrying new.state =
+      subst (λ (s : State R K). TsoHolds riding carrying s) (sym is) (holds_kept riding carrying old.state m rider
+      can_be holds) in
       let cores : length new.state.cores ≡ length old.state.cores =
       ap (λ (t : State R K). length t.cores) is ∙ step_cores riding carrying rider old.state m in
       record {
-        holds = subst (λ (s : State R K). TsoHolds riding carrying s) (sym is) (holds_kept riding carrying old.state m
-            rider can_be holds);
+        holds = after;
         stands = subst (λ (xs : List Standing). StandingsFit new.state xs) (sym all) fit;
-        marked = subst (λ (c : ℕ). OthersMarked riding carrying new.state marks c) (sym mine) others;
-        past = λ out. absurd (omega (arith, out, mine, cores, enabled_core riding carrying old.state m can_be holds));
-        roomy = subst (λ (c : ℕ). OthersRoomy new.state.memory.ports c new.rooms) (sym mine)
-            (others_roomy riding carrying rider old new m here roomy is same);
+        cores = others.cores;
+        ports = record {
+          long = others.cores.cores ∙ sym after.ports_there;
+          marked = subst (λ (c : ℕ). PortsMarkedBut riding carrying new.state.memory marks.moves c) (sym mine)
+              others.ports;
+          past = λ out. absurd (omega (
+            arith,
+            out,
+            mine,
+            cores,
+            after.ports_there,
+            enabled_core riding carrying old.state m can_be holds,
+          ));
+          roomy = subst (λ (c : ℕ). OthersRoomy new.state.memory.ports c new.rooms) (sym mine)
+              (others_roomy riding carrying rider old new m here roomy is same);
+        };
       }
 
   -- ---- what is seen of the machine after a move that can be made
@@ -290,6 +277,12 @@ module _ {R K : Type 0} where
     pub port_before : c < length s.memory.ports
     port_before = core_port riding carrying s c holds core_before
 
+    pub core_few : c < CORES_MAX
+    core_few =
+        let few : length s.memory.ports ≤ CORES_MAX = holds.memory.cores in
+        let there : c < length s.memory.ports = port_before in
+        omega arith
+
     core_after : c < length now.state.cores
     core_after = subst (λ (n : ℕ). c < n)
         (sym (ap (λ (t : State R K). length t.cores) is
@@ -298,6 +291,9 @@ module _ {R K : Type 0} where
     pub port_seen : c < length seen.state.memory.ports
     port_seen = subst (λ (x : Machinery R K). c < length x.state.memory.ports) (sym view)
         (core_port riding carrying now.state c after core_after)
+
+    pub ports_few : length seen.state.memory.ports ≤ CORES_MAX
+    ports_few = subst (λ (x : Machinery R K). length x.state.memory.ports ≤ CORES_MAX) (sym view) after.memory.cores
 
     -- the core that is found in its place
     pub core_seen : (t : BufferedCore) → t ≡ get_or seen.state.cores c t → t ≡ core_at now.state.cores c
@@ -325,6 +321,56 @@ module _ {R K : Type 0} where
         ≡ can_order (core_at now.state.cores c).queue riding (port_at carrying now.state.memory.ports c)
     orders_seen t read = λ i. can_order (core_seen t read i).queue riding (port_at carrying (view i).state.memory.ports
         c)
+
+    -- and was marked
+    module _ (kept : Standing) (t : BufferedCore) (old new : Marks) (read : t ≡ get_or seen.state.cores c t)
+        (stands : kept ≡ standing_at now.state c) (all : AllMarked riding carrying s old)
+        (marked : OwnMarked riding (port_at carrying seen.state.memory.ports c) t kept c old new) where
+      cores_marked : MovedAt s now.state c → CoresMarked riding carrying now.state new
+      cores_marked moved =
+          record {
+            cores = marked.cores ∙ all.cores.cores ∙ sym (same_long s.cores now.state.cores c moved.cores);
+            own = each (λ d. has (set_of Own new.moves) d) (λ d. enabled riding carrying now.state (CoreMove d)) c
+                (marked.own ∙ executes_seen kept t read
+                ∙ own_marked riding carrying now.state c kept core_after stands)
+                (λ d other. marked.others Own d (λ one. other) ∙ all.cores.own d
+                ∙ sym (own_elsewhere riding carrying s now.state c d moved other));
+            orders = each (λ d. has new.orders d) (λ d. enabled riding carrying now.state (OrderMove d)) c
+                (marked.order ∙ orders_seen t read ∙ order_marked riding carrying now.state c core_after)
+                (λ d other. marked.orders d other ∙ all.cores.orders d
+                ∙ sym (order_elsewhere riding carrying s now.state c d moved other));
+          }
+
+      pub own_marks : OwnMoved carrying s now.state c → OthersMarked riding carrying now.state new c
+      own_marks own =
+          record {
+            cores = cores_marked own.moved;
+            ports = links_marked carrying s.memory now.state.memory c own.moved.memory riding old.moves new.moves
+                all.ports port_before (λ i. (own.same i).0) (λ i. (own.same i).1)
+                (λ k port d. marked.others k d (λ one. λ at. port one));
+          }
+
+      -- where the port's marks are renewed behind them
+      pub port_marks : MovedAt s now.state c → (later : MoveMarks) →
+          has (set_of Response later) c ≡ can riding carrying seen.state.memory (TakeResponse c) →
+          has (set_of FromHome later) c ≡ can riding carrying seen.state.memory (TakeMessage c) →
+          ((k : MoveKind) (d : ℕ) → (k ≡ Response → d ≢ c) → (k ≡ FromHome → d ≢ c) →
+          has (set_of k later) d ≡ has (set_of k new.moves) d) →
+          OthersMarked riding carrying now.state (record new { moves = later }) c
+      port_marks moved later response message kept_marks =
+          let here : CoresMarked riding carrying now.state new = cores_marked moved in
+          record {
+            cores = record {
+              cores = here.cores;
+              own = λ d. kept_marks Own d (λ (e : Own ≡ Response). cc) (λ (e : Own ≡ FromHome). cc) ∙ here.own d;
+              orders = here.orders;
+            };
+            ports = port_renewed carrying s.memory now.state.memory c moved.memory riding old.moves new.moves later
+                all.ports (λ k port d. marked.others k d (λ one. λ at. port one))
+                (response ∙ ap (λ (x : Machinery R K). can riding carrying x.state.memory (TakeResponse c)) view)
+                (message ∙ ap (λ (x : Machinery R K). can riding carrying x.state.memory (TakeMessage c)) view)
+                kept_marks;
+          }
 
   -- a port that doesn't wait has room for a request
   pub room_still : (riding : Riding R) (carrying : Carrying K) (s : State R K) (m : Move) (c : ℕ) →

@@ -7,7 +7,8 @@ use Rattle.image_mem.specs.Contents.{Contents}
 use Rattle.tso_state.specs.States.{BufferedCore, State, buffered_start}
 use Rattle.tso_core.specs.declared.standing.Standing.{Standing}
 use Rattle.tso_core.specs.Standings.{StandingsFit, standing_at, standing_with}
-use Rattle.tso_core.proofs.Elsewhere.{MovedAt, core_now}
+use Rattle.move_marks.proofs.OnePort.{one_now}
+use Rattle.tso_core.proofs.Elsewhere.{MovedAt}
 
 -- what is kept of a core with its pending accesses
 abbrev pub kept_of : Contents → BufferedCore → Standing
@@ -32,9 +33,10 @@ module _ {R K : Type 0} where
       StandingsFit t (slice_set standings c kept)
   moved_stands carrying s t standings c kept moved fit here stands =
       (λ i. slice_set (fit i) c (stands i))
-      ∙ (λ i. slice_set (map (kept_of (image i)) s.cores) c (kept_of t.image (core_now carrying s t c moved here i)))
-      ∙ sym (map-set (kept_of t.image) s.cores c moved.core)
-      ∙ ap (map (kept_of t.image)) (sym moved.cores)
+      ∙ (λ i. slice_set (map (kept_of (image i)) s.cores) c (kept_of t.image
+      (one_now s.cores t.cores c moved.cores (buffered_start 0 0) here i)))
+      ∙ sym (map-set (kept_of t.image) s.cores c moved.cores.one)
+      ∙ ap (map (kept_of t.image)) (sym moved.cores.is)
     where
       image : s.image ≡ t.image
       image = sym moved.image

@@ -1,5 +1,5 @@
 -- Which moves can be made, one bit a core in a set for each kind of move.
-use Rattle.std.specs.Prelude.{◌≡◌, ◌≢◌, ℕ, Bool, List, ◌++◌, length, map}
+use Rattle.std.specs.Prelude.{◌≡◌, ℕ, Bool, List, ◌++◌, length, map}
 use Rattle.access_times.specs.Riding.{Riding, Carrying}
 use Rattle.rtr_types.specs.CoreSets.{has}
 use Rattle.move_marks.specs.declared.marks.MarkedMove.{MarkedMove}
@@ -7,6 +7,7 @@ use Rattle.move_marks.specs.declared.marks.MoveKind.{MoveKind}
 use Rattle.move_marks.specs.declared.marks.MoveKind.TheVariants.{Own, Request, Response, FromHome}
 use Rattle.move_marks.specs.Kinds.{marked_at_ports, set_of}
 use Rattle.move_marks.specs.Members.{members}
+use Rattle.move_marks.specs.Ports.{PortsMarked, PortsMarkedBut}
 use Rattle.tso_state.specs.declared.moves.Move.{Move}
 use Rattle.tso_state.specs.declared.moves.Move.TheVariants.{Core as CoreMove, Order as OrderMove}
 use Rattle.tso_state.specs.declared.moves.Move.TheVariants.{Request as RequestMove, Response as ResponseMove}
@@ -42,13 +43,19 @@ abbrev pub marked : Marks → List Move
 marked marks = map (λ c. CoreMove c) (members (set_of Own marks.moves)) ++ marked_past_own marks
 
 module _ {R K : Type 0} where
+  -- of so many cores exactly those are marked that can move, and that can order their oldest pending access
+  pub record CoresMarked (riding : Riding R) (carrying : Carrying K) (s : State R K) (marks : Marks) : Type 0 where
+    pub cores : marks.cores ≡ length s.cores
+    pub own : (c : ℕ) → has (set_of Own marks.moves) c ≡ enabled riding carrying s (CoreMove c)
+    pub orders : (c : ℕ) → has marks.orders c ≡ enabled riding carrying s (OrderMove c)
+
   -- exactly the moves that can be made are marked
   pub record AllMarked (riding : Riding R) (carrying : Carrying K) (s : State R K) (marks : Marks) : Type 0 where
-    pub cores : marks.cores ≡ length s.cores
-    pub marked : (m : Move) → is_marked marks m ≡ enabled riding carrying s m
+    pub cores : CoresMarked riding carrying s marks
+    pub ports : PortsMarked riding carrying s.memory marks.moves
 
   -- so is it but perhaps for this core's oldest request, whose block may be another than it was
   pub record OthersMarked (riding : Riding R) (carrying : Carrying K) (s : State R K) (marks : Marks) (mover : ℕ)
       : Type 0 where
-    pub cores : marks.cores ≡ length s.cores
-    pub marked : (m : Move) → m ≢ RequestMove mover → is_marked marks m ≡ enabled riding carrying s m
+    pub cores : CoresMarked riding carrying s marks
+    pub ports : PortsMarkedBut riding carrying s.memory marks.moves mover

@@ -1,34 +1,45 @@
 -- What the cores stand at, and what a machine notes beside its state.
-use Rattle.std.specs.Prelude.{◌≡◌, ◌≤◌, ℕ, Bool, false, List, length, map, slice_index_or, not, ◌&&◌}
+use Rattle.std.specs.Prelude.{◌≡◌, ◌≢◌, ℕ, Bool, false, List, map, slice_index_or, not, ◌&&◌}
 use Rattle.access_times.specs.Riding.{Riding, Carrying}
 use Rattle.image_mem.specs.Contents.{Contents}
+use Rattle.rtr_types.specs.CoreSets.{has}
 use Rattle.rv_core.specs.declared.core_state.Core.{Core}
 use Rattle.rv_core.specs.Steps.{need, instruction_at, is_done}
 use Rattle.msi_memory.specs.declared.port.Port.{Port}
-use Rattle.msi_memory.specs.Rests.{OthersRoomy}
-use Rattle.tso_state.specs.declared.moves.Move.{Move}
-use Rattle.tso_state.specs.declared.moves.Move.TheVariants.{Core as CoreMove, Request as RequestMove}
+use Rattle.move_marks.specs.declared.marks.MoveKind.{MoveKind}
+use Rattle.move_marks.specs.declared.marks.MoveKind.TheVariants.{Own}
+use Rattle.move_marks.specs.Kinds.{set_of}
+use Rattle.move_marks.specs.Ports.{PortsNoted}
 use Rattle.tso_state.specs.States.{BufferedCore, State, core_at}
-use Rattle.tso_state.specs.Steps.{case_holds, is_fence_op, is_next}
+use Rattle.tso_state.specs.Steps.{can_order, case_holds, is_fence_op, is_next}
 use Rattle.tso_invariant.specs.Holds.{TsoHolds}
 use Rattle.tso_core.specs.declared.marks.Marks.{Marks}
 use Rattle.tso_core.specs.declared.standing.Standing.{Standing}
 use Rattle.tso_core.specs.Machineries.{Machinery}
-use Rattle.tso_core.specs.Marks.{OthersMarked, is_marked}
+use Rattle.tso_core.specs.Marks.{CoresMarked}
 
 -- a core's next instruction beside what that needs
 abbrev pub standing_with : Contents → Core → Standing
 standing_with image core = record { need = need image core; op = instruction_at image core.pc }
 
--- the move can be made where cores stand so and nothing is pending or under way: it is a core's own
-abbrev pub may_begin : List Standing → Move → Bool
-may_begin standings (CoreMove c) = slice_index_or (map (λ s. not (is_done s.need)) standings) c false
-may_begin standings _ = false
+-- the core may move by itself where cores stand so and nothing is pending or under way
+abbrev pub may_begin : List Standing → ℕ → Bool
+may_begin standings c = slice_index_or (map (λ s. not (is_done s.need)) standings) c false
 
 module _ {R K : Type 0} where
   -- a core that stands so can execute its next instruction at this port, or ask for the block that this needs
   abbrev pub may_execute : Riding R → Standing → BufferedCore → Port R K → Bool
   may_execute riding s t p = not (is_next t.asker) && case_holds s.need (is_fence_op s.op) riding t.queue p
+
+  -- what core c, which stands so at this port, can do by itself is marked anew, and nothing else is
+  pub record OwnMarked (riding : Riding R) (p : Port R K) (t : BufferedCore) (standing : Standing) (c : ℕ)
+      (old new : Marks) : Type 0 where
+    pub cores : new.cores ≡ old.cores
+    pub own : has (set_of Own new.moves) c ≡ may_execute riding standing t p
+    pub order : has new.orders c ≡ can_order t.queue riding p
+    pub orders : (d : ℕ) → d ≢ c → has new.orders d ≡ has old.orders d
+    pub others : (kind : MoveKind) (d : ℕ) → (kind ≡ Own → d ≢ c)
+        → has (set_of kind new.moves) d ≡ has (set_of kind old.moves) d
 
   -- what core c stands at
   abbrev pub standing_at : State R K → ℕ → Standing
@@ -45,6 +56,5 @@ module _ {R K : Type 0} where
       (marks : Marks) (mover : ℕ) : Type 0 where
     pub holds : TsoHolds riding carrying m.state
     pub stands : StandingsFit m.state standings
-    pub marked : OthersMarked riding carrying m.state marks mover
-    pub past : length m.state.cores ≤ mover → is_marked marks (RequestMove mover) ≡ false
-    pub roomy : OthersRoomy m.state.memory.ports mover m.rooms
+    pub cores : CoresMarked riding carrying m.state marks
+    pub ports : PortsNoted riding carrying m.state.memory m.rooms marks.cores marks.moves mover

@@ -27,6 +27,7 @@ use crate::parts::Parts;
 use crate::standing::{Standing, first_marks, first_standings};
 use access_times::{Carry, Rider};
 use image_mem::Image;
+use move_marks::{make_room, with_late};
 use rtr_types::{BLOCK_WORDS, CORES_MAX, Params};
 use rv_core::Core;
 use std::alloc::{AllocError, Global};
@@ -129,14 +130,14 @@ impl<R: Rider, K: Carry> BufferedMachine<R, K> {
         ensures rooms { RoomsMade self.old.state.memory.ports self.old.rooms self.new.rooms }
         ensures ok { OnOk result (heads_roomy self.new ≡ true) }
     {
-        let mover = self.mover;
-        if (mover as u32) < self.marks.cores {
-            let parts = &mut self.parts;
-            let can = parts.memory.make_room(mover)?;
-            self.marks.set(Move::Request(mover), can);
-            self.mover = CORES_MAX;
-        }
-        Ok(())
+        let parts = &mut self.parts;
+        let cores = self.marks.cores;
+        make_room(
+            &mut parts.memory,
+            cores,
+            &mut self.marks.moves,
+            &mut self.mover,
+        )
     }
 
     /// Whether the home has room for the block of each request link's head.
@@ -184,14 +185,19 @@ impl<R: Rider, K: Carry> BufferedMachine<R, K> {
         ensures all { AllMarked R.riding K.carrying self.now.state result }
         ensures moves { marked result ≡ moves R.riding K.carrying self.now.state }
     {
-        let mut marks = self.marks;
+        let parts = &self.parts;
+        let Marks {
+            cores,
+            orders,
+            moves,
+        } = self.marks;
         // no move asked the home about the block of the mover's oldest request yet
-        if (self.mover as u32) < marks.cores {
-            let parts = &self.parts;
-            let can = parts.memory.has_free_head(self.mover);
-            marks.set(Move::Request(self.mover), can);
+        let moves = with_late(&parts.memory, cores, moves, self.mover);
+        Marks {
+            cores,
+            orders,
+            moves,
         }
-        marks
     }
 
     /// The words of a block of the memory at the end: the owner's where a cache owns the block, else the home's.

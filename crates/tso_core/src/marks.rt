@@ -1,12 +1,13 @@
 //! Which moves can be made, one bit a core in a set for each kind of move.
-ghost use Rattle.std.specs.Prelude.{◌≡◌, ◌≢◌, ◌<◌, false, length, slice_index_or};
-ghost use Rattle.rtr_types.specs.declared.TheConstants.{CORES_MAX};
+ghost use Rattle.std.specs.Prelude.{◌≡◌, ◌<◌, ℕ, false, length, slice_index_or};
+ghost use Rattle.rtr_types.specs.CoreSets.{has};
+ghost use Rattle.move_marks.specs.Kinds.{set_of};
+ghost use Rattle.move_marks.specs.declared.marks.MoveKind.{MoveKind};
 ghost use Rattle.tso_state.specs.declared.moves.Move.{Move};
-ghost use Rattle.tso_core.specs.Marks.{is_marked, marked, marked_past_own, move_of};
-ghost use Rattle.tso_state.specs.Moves.{core_of};
+ghost use Rattle.tso_core.specs.Marks.{marked, marked_past_own, move_of};
 
-use move_marks::{MarkedMove, MoveKind, MoveMarks, count, nth, set_to};
-use rtr_types::{CORES_MAX, CoreSet};
+use move_marks::{MarkedMove, MoveKind, MoveMarks, count, nth};
+use rtr_types::CoreSet;
 use tso_state::Move;
 
 /// Which of the moves of a machine of so many cores are marked: at which cores the oldest pending access can be
@@ -22,28 +23,13 @@ impl Marks {
     /// No move is marked.
     pub(crate) fn none(cores: u32) -> Marks
         ensures cores { result.cores ≡ cores }
-        ensures none { (m : Move) → is_marked result m ≡ false }
+        ensures orders { (c : ℕ) → has result.orders c ≡ false }
+        ensures none { (kind : MoveKind) (c : ℕ) → has (set_of kind result.moves) c ≡ false }
     {
         Marks {
             cores,
             orders: CoreSet::empty(),
             moves: MoveMarks::none(),
-        }
-    }
-
-    /// Marks the move where it can be made, and takes its mark away elsewhere.
-    pub(crate) fn set(&mut self, taken: Move, can: bool)
-        requires { core_of taken < CORES_MAX }
-        ensures cores { self.new.cores ≡ self.old.cores }
-        ensures this { is_marked self.new taken ≡ can }
-        ensures others { (m : Move) → m ≢ taken → is_marked self.new m ≡ is_marked self.old m }
-    {
-        match taken {
-            Move::Core(c) => self.moves.set(MoveKind::Own, c, can),
-            Move::Order(c) => self.orders = set_to(self.orders, c, can),
-            Move::Request(c) => self.moves.set(MoveKind::Request, c, can),
-            Move::Response(c) => self.moves.set(MoveKind::Response, c, can),
-            Move::FromHome(c) => self.moves.set(MoveKind::FromHome, c, can),
         }
     }
 

@@ -9,12 +9,12 @@ ghost use Rattle.tso_core.specs.Marks.{AllMarked, OthersMarked};
 ghost use Rattle.tso_core.specs.Moving.{AcceptsOf, StepsTo, TellsOf};
 ghost use Rattle.tso_core.specs.Standings.{StandingsFit, standing_at};
 
-use crate::marking::{mark_core, mark_own};
+use crate::marking::mark_own;
 use crate::marks::Marks;
 use crate::parts::Parts;
 use crate::standing::Standing;
 use access_times::{Carry, Rider};
-use move_marks::mark_turn;
+use move_marks::{mark_port, take_request, take_response};
 use tso_clerk::TsoClerk;
 use tso_state::Move;
 
@@ -45,8 +45,8 @@ impl<R: Rider, K: Carry> Parts<R, K> {
         match taken {
             Move::Core(c) => self.move_core(c, &mut standings[c as usize], marks, clerk),
             Move::Order(c) => self.move_order(c, standings[c as usize], marks, clerk),
-            Move::Request(c) => self.take_request(c, marks),
-            Move::Response(c) => self.take_response(c, marks),
+            Move::Request(c) => take_request(&mut self.memory, c, marks.cores, &mut marks.moves),
+            Move::Response(c) => take_response(&mut self.memory, c, marks.cores, &mut marks.moves),
             Move::FromHome(c) => self.take_message(c, &mut standings[c as usize], marks, clerk),
         }
     }
@@ -122,37 +122,7 @@ impl<R: Rider, K: Carry> Parts<R, K> {
         ensures marked { OthersMarked R.riding K.carrying self.new.state marks.new c }
     {
         self.receive(c, standing, clerk);
-        mark_core(&self.memory, c, &self.cores[c as usize], *standing, marks);
-    }
-
-    /// The home takes core `c`'s oldest request.
-    fn take_request(&mut self, c: u8, marks: &mut Marks)
-        requires holds { TsoHolds R.riding K.carrying self.old.state }
-        requires enabled { IsTrue (enabled R.riding K.carrying self.old.state (Move.Request c)) }
-        requires marked { AllMarked R.riding K.carrying self.old.state marks.old }
-        requires roomy { IsTrue (heads_roomy self.old) }
-        ensures state { StepsTo R.riding K.carrying self.old.state self.new.state (Move.Request c) }
-        ensures rooms { self.new.rooms ≡ self.old.rooms }
-        ensures marked { OthersMarked R.riding K.carrying self.new.state marks.new c }
-    {
-        // a request is taken only where its block is free, and a response only where it isn't
-        let turn = self.memory.take_request(c);
-        mark_turn(&self.memory, marks.cores, turn, true, &mut marks.moves);
-        // its link has room for one request, so none is left
-        marks.set(Move::Request(c), false);
-    }
-
-    /// The home takes core `c`'s oldest response.
-    fn take_response(&mut self, c: u8, marks: &mut Marks)
-        requires holds { TsoHolds R.riding K.carrying self.old.state }
-        requires enabled { IsTrue (enabled R.riding K.carrying self.old.state (Move.Response c)) }
-        requires marked { AllMarked R.riding K.carrying self.old.state marks.old }
-        ensures state { StepsTo R.riding K.carrying self.old.state self.new.state (Move.Response c) }
-        ensures rooms { self.new.rooms ≡ self.old.rooms }
-        ensures marked { OthersMarked R.riding K.carrying self.new.state marks.new c }
-    {
-        let turn = self.memory.take_response(c);
-        marks.set(Move::Response(c), self.memory.has_response(c));
-        mark_turn(&self.memory, marks.cores, turn, false, &mut marks.moves);
+        mark_own(&self.memory, c, &self.cores[c as usize], *standing, marks);
+        mark_port(&self.memory, c, &mut marks.moves);
     }
 }

@@ -1,19 +1,21 @@
 //! What a core stands at.
-ghost use Rattle.std.specs.Prelude.{◌≡◌, ◌≤◌, IfOk, length, map};
+ghost use Rattle.std.specs.Prelude.{◌≡◌, ◌≢◌, ◌≤◌, ℕ, IfOk, false, length, map};
+ghost use Rattle.rtr_types.specs.CoreSets.{has};
 ghost use Rattle.rtr_types.specs.declared.TheConstants.{CORES_MAX};
-ghost use Rattle.tso_core.specs.Marks.{is_marked};
+ghost use Rattle.move_marks.specs.Kinds.{set_of};
+ghost use Rattle.move_marks.specs.declared.marks.MoveKind.{MoveKind};
+ghost use Rattle.move_marks.specs.declared.marks.MoveKind.TheVariants.{Own};
 ghost use Rattle.tso_core.specs.Standings.{may_begin, standing_with};
-ghost use Rattle.tso_state.specs.declared.moves.Move.{Move};
 ghost use Rattle.tso_state.specs.Steps.{is_fence_op};
 ghost use Rattle.rv_core.specs.Steps.{is_done};
 
 use crate::marks::Marks;
 use crate::station::Station;
+use move_marks::MoveKind;
 use rtr_types::CORES_MAX;
 use rv_core::{Core, Need, Program};
 use rv_decode::Op;
 use std::alloc::{AllocError, Global};
-use tso_state::Move;
 
 /// A core's next instruction, and what that needs. It is kept beside each core, so that an instruction is decoded
 /// once.
@@ -63,11 +65,15 @@ pub(crate) fn first_standings(
 pub(crate) fn first_marks(standings: &[Standing]) -> Marks
     requires few { length standings.now ≤ CORES_MAX }
     ensures cores { result.cores ≡ length standings.now }
-    ensures marked { (m : Move) → is_marked result m ≡ may_begin standings.now m }
+    ensures own { (c : ℕ) → has (set_of Own result.moves) c ≡ may_begin standings.now c }
+    ensures orders { (c : ℕ) → has result.orders c ≡ false }
+    ensures others { (kind : MoveKind) → kind ≢ Own → (c : ℕ) → has (set_of kind result.moves) c ≡ false }
 {
     let mut marks = Marks::none(standings.len() as u32);
     for (c, standing) in standings.iter().enumerate() {
-        marks.set(Move::Core(c as u8), !standing.need.is_done());
+        marks
+            .moves
+            .set(MoveKind::Own, c as u8, !standing.need.is_done());
     }
     marks
 }

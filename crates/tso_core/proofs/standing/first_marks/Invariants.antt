@@ -1,11 +1,15 @@
-use Rattle.std.proofs.Common.{◌≡◌, length, take}
-use Rattle.tso_core.specs.Marks.{is_marked}
+use Rattle.std.proofs.Common.{◌≡◌, ◌≢◌, ℕ, false, length, take}
+use Rattle.rtr_types.specs.CoreSets.{has}
+use Rattle.move_marks.specs.declared.marks.MoveKind.{MoveKind}
+use Rattle.move_marks.specs.declared.marks.MoveKind.TheVariants.{Own}
+use Rattle.move_marks.specs.Kinds.{set_of}
 use Rattle.tso_core.specs.Standings.{may_begin}
-use Rattle.tso_state.specs.declared.moves.Move.{Move}
 use Rattle.tso_core.proofs.standing.first_marks.Given as goal
 
 abbrev pub invariant-loop-c : goal.invariant-loop-c
 invariant-loop-c l = record {
   cores : l.marks.cores ≡ length l.standings;
-  marked : (m : Move) → is_marked l.marks m ≡ may_begin (take l.c l.standings) m;
+  own : (k : ℕ) → has (set_of Own l.marks.moves) k ≡ may_begin (take l.c l.standings) k;
+  orders : (k : ℕ) → has l.marks.orders k ≡ false;
+  others : (kind : MoveKind) → kind ≢ Own → (k : ℕ) → has (set_of kind l.marks.moves) k ≡ false;
 }

@@ -17,18 +17,13 @@ returns-then-not-is_empty-clause-done g c =
     let s : State g.row.R.Denot g.row.K.Denot = c.self.inside.parts.state in
     let more : all_done s ≡ false =
     marked_goes_on g.R.Rider.riding g.K.Carry.carrying s c.self.inside.marks c.self.inside.asker
-    c.self.invariant.holds c.self.invariant.marked c.self.invariant.unmarked
+    c.self.invariant.holds c.self.invariant.own c.self.invariant.ports.marked c.self.invariant.unmarked
     (some_there (length (marked c.self.inside.marks)) (sym c.is_empty.ensures ∙ c.if-not-is_empty.true)) in
     rw (← c.self.view_is) (sym more)
 
 pub returns-then-not-is_empty-clause-plain : goal.returns-then-not-is_empty-clause-plain
 returns-then-not-is_empty-clause-plain g c =
-    let s : State g.row.R.Denot g.row.K.Denot = c.self.inside.parts.state in
-    let more : all_done s ≡ false =
-    marked_goes_on g.R.Rider.riding g.K.Carry.carrying s c.self.inside.marks c.self.inside.asker
-    c.self.invariant.holds c.self.invariant.marked c.self.invariant.unmarked
-    (some_there (length (marked c.self.inside.marks)) (sym c.is_empty.ensures ∙ c.if-not-is_empty.true)) in
-    rw (← c.self.view_is) (sym more ∙ plain_done s)
+    returns-then-not-is_empty-clause-done g c ∙ plain_done c.args.self.now.state
 
 pub returns-clause-done : goal.returns-clause-done
 returns-clause-done g c =
@@ -38,12 +33,7 @@ returns-clause-done g c =
     ∙ ap (λ (m : Machinery g.row.R.Denot g.row.K.Denot). all_done m.state) c.self.view_is
 
 pub returns-clause-plain : goal.returns-clause-plain
-returns-clause-plain g c =
-    let s : State g.row.R.Denot g.row.K.Denot = c.self.inside.parts.state in
-    let done : c.are_done.result ≡ all_done s =
-    c.are_done.ensures ∙ done_stands s c.self.inside.standings.items c.as_slice.result.now c.as_slice.ensures.value
-    c.self.invariant.stands in
-    rw (← c.self.view_is) (done ∙ plain_done s)
+returns-clause-plain g c = returns-clause-done g c ∙ plain_done c.args.self.now.state
 
 pub returns-clause-links : goal.returns-clause-links
 returns-clause-links g c = λ e.

@@ -25,10 +25,7 @@ returns-clause-value g c = λ slot low.
 
 pub returns-clause-plain : goal.returns-clause-plain
 returns-clause-plain g c = λ slot low.
-    c.final_words.ensures slot low
-    ∙ ap (λ (m : Machinery g.row.R.Denot g.row.K.Denot). slice_index (final_words g.R.Rider.riding g.K.Carry.carrying
-    m.state c.args.block) slot)
-    (c.parts.view_is ∙ c.self.view_is)
+    returns-clause-value g c slot low
     ∙ ap (λ (words : List ℕ). slice_index words slot) (plain_words g.R.Rider.riding g.K.Carry.carrying
     c.args.self.now.state c.args.block)
 

@@ -1,49 +1,28 @@
-use Rattle.std.proofs.Common.{◌≡◌, ◌∙◌, ◌<◌, ◌≤◌, ap, sym, subst, length, ℕ, true}
-use Rattle.msi_laws.proofs.Ready.{memory_ready}
-use Rattle.msi_memory.specs.Acts.{head_free}
+use Rattle.std.proofs.Common.{◌≡◌, ◌∙◌, ap}
 use Rattle.msi_memory.specs.Memories.{Memory}
-use Rattle.msi_memory.specs.Rests.{requests_at}
-use Rattle.msi_state.specs.Rests.{heads_roomy}
-use Rattle.msi_state.specs.States.{Machinery, State}
-use Rattle.msi_machine.proofs.Roomed.{all_past, head_can, room_made}
+use Rattle.msi_state.specs.States.{Machinery}
+use Rattle.msi_machine.proofs.Roomed.{room_made}
 use Rattle.msi_machine.proofs.machine.Machine.make_room.Goals as goal
 
-pub make_room-requires-clause-heads : goal.make_room-requires-clause-heads
-make_room-requires-clause-heads g c =
-    let fit = (memory_ready g.R.Rider.riding g.K.Carry.carrying c.self.inside.parts.state.memory
-    c.self.invariant.holds.memory).heads in
+pub make_room-requires-clause-holds : goal.make_room-requires-clause-holds
+make_room-requires-clause-holds g c =
+    let fit = c.self.invariant.holds.memory in
     rw (← c.parts.view_is) at fit
 
-pub invariant_of-self-then-asker-self : goal.invariant_of-self-then-asker-self
-invariant_of-self-then-asker-self g c =
-    let asker : ℕ = c.self.inside.asker in
-    let s : State g.row.R.Denot g.row.K.Denot = c.self.inside.parts.state in
-    let here : asker < length s.memory.ports =
-    subst (λ (n : ℕ). asker < n) (c.self.invariant.marked.cores ∙ sym c.self.invariant.holds.ports_there)
-    c.if-asker-self.true in
+pub make_room-requires-clause-noted : goal.make_room-requires-clause-noted
+make_room-requires-clause-noted g c =
+    let fit = c.self.invariant.ports in
+    rw (← c.parts.view_is) at fit
+
+pub invariant_of-self : goal.invariant_of-self
+invariant_of-self g c =
     room_made g.R.Rider.riding g.K.Carry.carrying c.self.inside.parts _ c.self.inside.standings.items
-    c.self.inside.marks c.set.new.self asker
-    c.self.invariant
+    c.self.inside.marks c.make_room.new.marks c.self.inside.asker c.make_room.new.late c.self.invariant
     (ap (λ (m : Memory g.row.R.Denot g.row.K.Denot). record {
       image = c.parts.inside.program;
-      cores =
-          c.parts.inside.cores.items;
+      cores = c.parts.inside.cores.items;
       memory = m;
     })
-    c.in_ok-can.ensures.memory
+    c.make_room.ensures.memory
     ∙ ap (λ (m : Machinery g.row.R.Denot g.row.K.Denot). m.state) c.parts.view_is)
-    c.in_ok-can.ensures.ok c.set.ensures.cores
-    (c.set.ensures.this ∙ c.in_ok-can.ensures.free
-    ∙ ap (λ (m : Machinery g.row.R.Denot g.row.K.Denot). head_free (requests_at m.state.memory.ports asker)
-    g.R.Rider.riding m.state.memory.home)
-    c.parts.view_is
-    ∙ head_can g.R.Rider.riding g.K.Carry.carrying s.memory asker here) c.set.ensures.others
-
-pub returns-else-asker-self-clause-ok : goal.returns-else-asker-self-clause-ok
-returns-else-asker-self-clause-ok g c =
-    let s : State g.row.R.Denot g.row.K.Denot = c.self.inside.parts.state in
-    let past : length s.memory.ports ≤ c.self.inside.asker =
-    subst (λ (n : ℕ). n ≤ c.self.inside.asker) (c.self.invariant.marked.cores ∙ sym c.self.invariant.holds.ports_there)
-    c.if-asker-self.false in
-    subst (λ (m : Machinery g.row.R.Denot g.row.K.Denot). heads_roomy m ≡ true) c.self.view_is
-    (all_past s.memory.ports c.self.inside.asker c.self.inside.parts.rooms c.self.invariant.roomy past)
+    c.make_room.ensures.noted c.make_room.ensures.own c.make_room.ensures.unmarked

@@ -49,7 +49,8 @@ invariant_of-result g c =
     ∙ ap (λ (x : Contents). map (λ (core : Core). standing_with x core false) c.as_slice.result.now) image
     ∙ ap (map (λ (core : Core). standing_with c.args.image core false)) cores)
     (c.first_marks-marks.ensures.cores ∙ ap (λ (xs : List Standing). length xs) c.as_slice-2.ensures.value)
-    (λ m. c.first_marks-marks.ensures.marked m ∙ ap (λ (xs : List Standing). may_begin xs m) c.as_slice-2.ensures.value)
+    (λ k. c.first_marks-marks.ensures.own k ∙ ap (λ (xs : List Standing). may_begin xs k) c.as_slice-2.ensures.value)
+    c.first_marks-marks.ensures.others
 
 pub returns-clause-plain : goal.returns-clause-plain
 returns-clause-plain g c =

@@ -52,7 +52,7 @@ invariant_of-self g c =
     c.self.invariant.holds c.requires.more c.all_marks-marks.ensures.moves c.count.ensures c.pick-taken.ensures in
     let roomy = rw (← c.self.view_is) at c.requires.roomy in
     let long : length c.make_move-retired.new.standings ≡ c.self.inside.standings.len =
-    standings_long t c.make_move-retired.new.standings c.make_move-retired.ensures.stands
+    standings_long t c.make_move-retired.new.standings c.make_move-retired.ensures.noted.stands
     ∙ ap (λ (x : State g.row.R.Denot g.row.K.Denot). length x.cores) c.make_move-retired.ensures.state
     ∙ step_cores g.R.Rider.riding g.K.Carry.carrying (rider_left g.R.Rider.riding g.K.Carry.carrying s t
     c.pick-taken.result) s c.pick-taken.result
@@ -60,13 +60,10 @@ invariant_of-self g c =
     ∙ ap (λ (xs : List Standing). length xs) (sym c.as_mut_slice-standings.ensures.value)
     ∙ c.as_mut_slice-standings.ensures.len in
     notes_kept g.R.Rider.riding g.K.Carry.carrying c.self.inside.parts c.make_move-retired.new.self c.pick-taken.result
-    _ c.make_move-retired.new.standings
-    c.make_move-retired.new.marks c.make_move-retired.new.asker c.make_move-retired.result roomy
-    c.self.invariant.holds can_be
-    c.make_move-retired.ensures.state
-    c.make_move-retired.ensures.rooms c.make_move-retired.ensures.stands
-    (with_items_is c.self.inside.standings c.make_move-retired.new.standings long) c.make_move-retired.ensures.marked
-    c.make_move-retired.ensures.unmarked c.make_move-retired.ensures.asker c.make_move-retired.ensures.retired
+    _ c.make_move-retired.new.standings c.make_move-retired.new.marks c.make_move-retired.new.asker
+    c.make_move-retired.result roomy c.self.invariant.holds can_be c.make_move-retired.ensures.state
+    c.make_move-retired.ensures.rooms (with_items_is c.self.inside.standings c.make_move-retired.new.standings long)
+    c.make_move-retired.ensures.noted c.make_move-retired.ensures.asker c.make_move-retired.ensures.retired
 
 pub returns-clause-taken : goal.returns-clause-taken
 returns-clause-taken g c =

@@ -1,10 +1,14 @@
 -- What is kept of the cores follows each move.
-use Rattle.std.proofs.Common.{ap}
-use Rattle.msi_state.specs.declared.moves.Move.TheVariants.{Core, FromHome, Request, Response}
+use Rattle.std.proofs.Common.{ap, ℕ}
+use Rattle.rtr_types.specs.declared.TheConstants.{CORES_MAX}
+use Rattle.move_marks.proofs.Turned.{request_stays, response_stays}
+use Rattle.msi_state.specs.declared.moves.Move.TheVariants.{FromHome}
 use Rattle.msi_state.specs.Moves.{core_of}
+use Rattle.msi_state.specs.States.{State}
 use Rattle.msi_state.specs.Steps.{rider_left}
 use Rattle.msi_machine.proofs.Ended.{no_asker}
-use Rattle.msi_machine.proofs.Moves.{core_stands, kept_here, message_stands, request_stands, response_stands}
+use Rattle.msi_machine.proofs.Moves.{core_moves, kept_here, kept_moved, message_moves, turn_kept}
+use Rattle.msi_machine.proofs.Renewed.{all_others}
 use Rattle.msi_machine.proofs.parts.Parts.make_move.Goals as goal
 
 pub move_core-requires-clause-stands : goal.move_core-requires-clause-stands
@@ -19,59 +23,45 @@ take_message-requires-clause-stands g c =
     c.args.standings.now _ c.requires.holds
     c.requires.enabled (ap core_of c.in-FromHome.is) c.requires.stands
 
-pub returns-in-Core-clause-stands : goal.returns-in-Core-clause-stands
-returns-in-Core-clause-stands g c =
-    core_stands g.R.Rider.riding g.K.Carry.carrying
-    (rider_left g.R.Rider.riding g.K.Carry.carrying c.args.self.now.state c.move_core.new.self.state (Core c.in-Core.c))
-    c.args.self.now.state c.move_core.new.self.state c.args.taken c.in-Core.c c.args.standings.now
-    c.move_core.new.standing c.requires.holds
-    c.requires.enabled c.in-Core.is c.requires.stands c.move_core.ensures.state c.move_core.ensures.renewed
+pub returns-in-Core-clause-noted : goal.returns-in-Core-clause-noted
+returns-in-Core-clause-noted g c =
+    record {
+      stands = kept_moved g.R.Rider.riding g.K.Carry.carrying c.args.self.now.state c.move_core.new.self.state
+          c.args.taken c.in-Core.c c.args.standings.now c.move_core.new.standing c.requires.holds c.requires.enabled
+          (ap core_of c.in-Core.is) c.requires.stands
+          (λ port. core_moves g.R.Rider.riding g.K.Carry.carrying _ c.args.self.now.state c.move_core.new.self.state
+          c.in-Core.c port c.move_core.ensures.state) c.move_core.ensures.renewed;
+      marked = c.move_core.ensures.marked;
+      unmarked = c.move_core.ensures.unmarked;
+    }
 
-pub returns-in-Request-clause-stands : goal.returns-in-Request-clause-stands
-returns-in-Request-clause-stands g c =
-    request_stands g.R.Rider.riding g.K.Carry.carrying
-    (rider_left g.R.Rider.riding g.K.Carry.carrying c.args.self.now.state c.take_request.new.self.state
-    (Request c.in-Request.c))
-    c.args.self.now.state c.take_request.new.self.state c.in-Request.c c.args.standings.now c.take_request.ensures.state
-    c.requires.stands
+pub returns-in-FromHome-clause-noted : goal.returns-in-FromHome-clause-noted
+returns-in-FromHome-clause-noted g c =
+    let s : State g.row.R.Denot g.row.K.Denot = c.args.self.now.state in
+    let t : State g.row.R.Denot g.row.K.Denot = c.take_message.new.self.state in
+    let core : ℕ = c.in-FromHome.c in
+    record {
+      stands = kept_moved g.R.Rider.riding g.K.Carry.carrying s t c.args.taken core c.args.standings.now
+          c.take_message.new.standing c.requires.holds c.requires.enabled (ap core_of c.in-FromHome.is)
+          c.requires.stands (λ port. message_moves g.R.Rider.riding g.K.Carry.carrying _ s t core port
+          c.take_message.ensures.state) c.take_message.ensures.renewed;
+      marked = all_others g.R.Rider.riding g.K.Carry.carrying t c.take_message.new.marks c.take_message.ensures.marked
+          CORES_MAX;
+      unmarked = no_asker g.R.Rider.riding g.K.Carry.carrying
+          (rider_left g.R.Rider.riding g.K.Carry.carrying s t (FromHome core)) s t (FromHome core)
+          c.take_message.new.marks c.requires.holds c.take_message.ensures.state c.take_message.ensures.marked;
+    }
 
-pub returns-in-Response-clause-stands : goal.returns-in-Response-clause-stands
-returns-in-Response-clause-stands g c =
-    response_stands g.R.Rider.riding g.K.Carry.carrying
-    (rider_left g.R.Rider.riding g.K.Carry.carrying c.args.self.now.state c.take_response.new.self.state
-    (Response c.in-Response.c))
-    c.args.self.now.state c.take_response.new.self.state c.in-Response.c c.args.standings.now
-    c.take_response.ensures.state c.requires.stands
+pub returns-in-Request-clause-noted : goal.returns-in-Request-clause-noted
+returns-in-Request-clause-noted g c =
+    turn_kept g.R.Rider.riding g.K.Carry.carrying _ c.args.self.now c.self.view_is c.requires.holds c.requires.stands
+    c.requires.marked c.take_request.ensures.memory
+    (request_stays g.R.Rider.riding g.K.Carry.carrying c.self.inside.memory.memory c.in-Request.c)
+    c.take_request.ensures.own c.take_request.ensures.marked
 
-pub returns-in-FromHome-clause-stands : goal.returns-in-FromHome-clause-stands
-returns-in-FromHome-clause-stands g c =
-    message_stands g.R.Rider.riding g.K.Carry.carrying
-    (rider_left g.R.Rider.riding g.K.Carry.carrying c.args.self.now.state c.take_message.new.self.state
-    (FromHome c.in-FromHome.c))
-    c.args.self.now.state c.take_message.new.self.state c.args.taken c.in-FromHome.c c.args.standings.now
-    c.take_message.new.standing c.requires.holds
-    c.requires.enabled c.in-FromHome.is c.requires.stands c.take_message.ensures.state c.take_message.ensures.renewed
-
-pub returns-in-Request-clause-unmarked : goal.returns-in-Request-clause-unmarked
-returns-in-Request-clause-unmarked g c =
-    no_asker g.R.Rider.riding g.K.Carry.carrying
-    (rider_left g.R.Rider.riding g.K.Carry.carrying c.args.self.now.state c.take_request.new.self.state
-    (Request c.in-Request.c))
-    c.args.self.now.state c.take_request.new.self.state (Request c.in-Request.c) c.take_request.new.marks
-    c.requires.holds c.take_request.ensures.state c.take_request.ensures.marked
-
-pub returns-in-Response-clause-unmarked : goal.returns-in-Response-clause-unmarked
-returns-in-Response-clause-unmarked g c =
-    no_asker g.R.Rider.riding g.K.Carry.carrying
-    (rider_left g.R.Rider.riding g.K.Carry.carrying c.args.self.now.state c.take_response.new.self.state
-    (Response c.in-Response.c))
-    c.args.self.now.state c.take_response.new.self.state (Response c.in-Response.c) c.take_response.new.marks
-    c.requires.holds c.take_response.ensures.state c.take_response.ensures.marked
-
-pub returns-in-FromHome-clause-unmarked : goal.returns-in-FromHome-clause-unmarked
-returns-in-FromHome-clause-unmarked g c =
-    no_asker g.R.Rider.riding g.K.Carry.carrying
-    (rider_left g.R.Rider.riding g.K.Carry.carrying c.args.self.now.state c.take_message.new.self.state
-    (FromHome c.in-FromHome.c))
-    c.args.self.now.state c.take_message.new.self.state (FromHome c.in-FromHome.c) c.take_message.new.marks
-    c.requires.holds c.take_message.ensures.state c.take_message.ensures.marked
+pub returns-in-Response-clause-noted : goal.returns-in-Response-clause-noted
+returns-in-Response-clause-noted g c =
+    turn_kept g.R.Rider.riding g.K.Carry.carrying _ c.args.self.now c.self-in-Response.view_is c.requires.holds
+    c.requires.stands c.requires.marked c.take_response.ensures.memory
+    (response_stays g.R.Rider.riding g.K.Carry.carrying c.self-in-Response.inside.memory.memory c.in-Response.c)
+    c.take_response.ensures.own c.take_response.ensures.marked

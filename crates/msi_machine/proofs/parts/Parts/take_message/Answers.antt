@@ -28,10 +28,9 @@ returns-clause-marked g c =
     let can_then : Act g.row.R.Denot → Machinery g.row.R.Denot g.row.K.Denot → Bool =
     λ act m. can g.R.Rider.riding g.K.Carry.carrying m.state.memory act in
     message_marks g.R.Rider.riding g.K.Carry.carrying (rider_left g.R.Rider.riding g.K.Carry.carrying s t
-    (FromHome c.args.c)) s t c.args.marks.now
-    c.mark_core.new.marks c.args.c c.receive-retired.new.standing c.requires.marked c.receive-retired.ensures.state here
+    (FromHome c.args.c)) s t c.args.marks.now c.set.new.self c.mark_port.new.marks c.args.c
+    c.receive-retired.new.standing c.requires.marked c.receive-retired.ensures.state here
     (core_port g.R.Rider.riding g.K.Carry.carrying s c.args.c c.requires.holds here) c.receive-retired.ensures.renewed
-    c.mark_core.ensures.cores c.mark_core.ensures.own
-    (c.mark_core.ensures.response ∙ ap (can_then (TakeResponse c.args.c)) c.self.view_is)
-    (c.mark_core.ensures.message ∙ ap (can_then (TakeMessage c.args.c)) c.self.view_is) c.mark_core.ensures.request
-    c.mark_core.ensures.others
+    (c.set.ensures.this ∙ c.may_move.ensures) c.set.ensures.others
+    (c.mark_port.ensures.response ∙ ap (can_then (TakeResponse c.args.c)) c.self.view_is)
+    (c.mark_port.ensures.message ∙ ap (can_then (TakeMessage c.args.c)) c.self.view_is) c.mark_port.ensures.others

@@ -1,7 +1,8 @@
-use Rattle.tso_core.proofs.Marked.{none_marked}
+use Rattle.std.proofs.Common.{◌∙◌, ap}
+use Rattle.rtr_types.proofs.Members.{has-no_cores}
+use Rattle.rtr_types.specs.CoreSets.{has}
+use Rattle.rtr_types.specs.declared.core_set.CoreSet.{CoreSet}
 use Rattle.tso_core.proofs.marks.Marks.none.Goals as goal
 
-pub returns-clause-none : goal.returns-clause-none
-returns-clause-none c =
-    none_marked (record { cores = c.args.cores; orders = c.empty.result; moves = c.none.result }) c.none.ensures
-    c.empty.ensures
+pub returns-clause-orders : goal.returns-clause-orders
+returns-clause-orders c = λ k. ap (λ (s : CoreSet). has s k) c.empty.ensures ∙ has-no_cores k

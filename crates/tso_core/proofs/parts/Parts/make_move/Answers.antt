@@ -1,9 +1,12 @@
 -- What is kept of the cores follows each move.
+use Rattle.std.proofs.Common.{◌∙◌, sym}
 use Rattle.rv_core.specs.declared.core_state.Need.TheVariants.{Local}
 use Rattle.std.specs.Prelude.{None}
 use Rattle.tso_state.specs.declared.moves.Move.TheVariants.{Core, Order, FromHome}
+use Rattle.move_marks.proofs.Turned.{request_stays, response_stays}
 use Rattle.tso_core.specs.Moving.{rider_left}
 use Rattle.tso_core.proofs.Moves.{core_stands, message_stands, order_stands}
+use Rattle.tso_core.proofs.Renewed.{turn_kept}
 use Rattle.tso_core.proofs.parts.Parts.make_move.Goals as goal
 
 pub returns-in-Core-clause-stands : goal.returns-in-Core-clause-stands
@@ -34,3 +37,29 @@ returns-in-FromHome-clause-stands g c =
     c.args.self.now.state c.take_message.new.self.state c.args.taken c.in-FromHome.c c.args.standings.now
     c.take_message.new.standing c.requires.holds
     c.requires.enabled c.in-FromHome.is c.requires.stands c.take_message.ensures.state c.take_message.ensures.renewed
+
+pub returns-in-Request-clause-marked : goal.returns-in-Request-clause-marked
+returns-in-Request-clause-marked g c =
+    turn_kept g.R.Rider.riding g.K.Carry.carrying _ c.args.self.now c.self.view_is _ c.requires.marked
+    c.take_request.ensures.memory
+    (request_stays g.R.Rider.riding g.K.Carry.carrying c.self.inside.memory.memory c.in-Request.c)
+    c.take_request.ensures.own c.take_request.ensures.marked
+
+pub returns-in-Response-clause-marked : goal.returns-in-Response-clause-marked
+returns-in-Response-clause-marked g c =
+    turn_kept g.R.Rider.riding g.K.Carry.carrying _ c.args.self.now c.self-in-Response.view_is _ c.requires.marked
+    c.take_response.ensures.memory
+    (response_stays g.R.Rider.riding g.K.Carry.carrying c.self-in-Response.inside.memory.memory c.in-Response.c)
+    c.take_response.ensures.own c.take_response.ensures.marked
+
+pub take_request-requires-clause-cores : goal.take_request-requires-clause-cores
+take_request-requires-clause-cores g c =
+    let all = rw (← c.self.view_is) at c.requires.marked in
+    let holds = rw (← c.self.view_is) at c.requires.holds in
+    all.cores.cores ∙ sym holds.ports_there
+
+pub take_response-requires-clause-cores : goal.take_response-requires-clause-cores
+take_response-requires-clause-cores g c =
+    let all = rw (← c.self-in-Response.view_is) at c.requires.marked in
+    let holds = rw (← c.self-in-Response.view_is) at c.requires.holds in
+    all.cores.cores ∙ sym holds.ports_there
