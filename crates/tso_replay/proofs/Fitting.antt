@@ -1,20 +1,55 @@
 -- The play with given values of any list of cores has its plan's cores and memory: no place changes how many there
 -- are. Its
 -- loads are of words of that memory, since each access is.
-use Rattle.std.proofs.Common.{◌∙◌, ℕ, ◌+◌, List, [], ◌∷◌}
-use Rattle.std.proofs.Common.{length, refl}
-use Rattle.std.specs.Prelude.{Option}
-use Rattle.std.proofs.lemmas.List.Elements.{All-nil, All-replicate, All-set}
+use Rattle.std.proofs.Common.{◌∙◌, inl, inr, ◌⊎◌, ℕ, ◌+◌, ◌<◌, ◌≤◌, Bool, true, false, cond, List, [], ◌∷◌, ◌++◌}
+use Rattle.std.proofs.Common.{length, refl, sym, subst}
+use Rattle.std.specs.Prelude.{All, Option, Some, None, slice_index_or}
+use Rattle.std.proofs.lemmas.Bool.{cases_lt}
+use Rattle.std.proofs.lemmas.List.{get_or_past}
+use Rattle.std.proofs.lemmas.List.Elements.{All-get_or, All-nil, All-push, All-replicate, All-set}
+use Rattle.rtr_types.specs.Accesses.{is_read}
+use Rattle.rv_core.specs.declared.outcome.LoadNote.{LoadNote}
 use Rattle.rv_core.specs.declared.outcome.Outcome.{Outcome}
 use Rattle.replay_core.specs.Plans.{Plan}
-use Rattle.replay_core.specs.Play.{Given, core_at, given_next, loads_at, need_at, old_given}
+use Rattle.replay_core.specs.Play.{Given, Use, core_at, given_next, loads_after, loads_at, need_at, old_given}
 use Rattle.replay_core.specs.Play.{place_given}
 use Rattle.replay_core.specs.Play.{start, use_of, valued_place, valued_play}
+use Rattle.replay_core.specs.Answers.{UsesWithin}
 use Rattle.replay_core.proofs.Places.{place_given_law, start_known}
 use Rattle.replay_core.proofs.Steps.{used_within}
 use Rattle.replay_audit.specs.Laws.{OutcomeFits}
-use Rattle.replay_audit.proofs.Fitting.{AllWithin, Within, no_notes, noted, own}
 use Rattle.tso_replay.specs.Laws.{ValuedFitsLaw}
+
+-- each load is of a word below this one
+abbrev Within : ℕ → LoadNote → Type 0
+Within words note = note.word < words
+
+abbrev AllWithin : ℕ → List LoadNote → Type 0
+AllWithin words notes = All (Within words) notes
+
+noted : (used : Use) (words : ℕ) (old : List LoadNote) (count value : ℕ) → UsesWithin used words → AllWithin words old →
+    AllWithin words (loads_after used old count value)
+noted None words old count value lt h = h
+noted (Some used) words old count value lt h = by (is_read used.0)
+  where
+    note : LoadNote
+    note = record { count = count; word = used.1; value = value }
+
+    by : (b : Bool) → AllWithin words (cond b (old ++ note ∷ []) old)
+    by true = All-push (Within words) old note h lt
+    by false = h
+
+abbrev no_notes : List LoadNote
+no_notes = []
+
+own : (words c : ℕ) (lists : List (List LoadNote)) → All (AllWithin words) lists →
+    AllWithin words (slice_index_or lists c no_notes)
+own words c lists h = by (cases_lt c (length lists))
+  where
+    by : (c < length lists) ⊎ (length lists ≤ c) → AllWithin words (slice_index_or lists c no_notes)
+    by (inl lt) = All-get_or (AllWithin words) lists c no_notes lt h
+    by (inr le) = subst (λ (l : List LoadNote). AllWithin words l) (sym (get_or_past lists c no_notes le))
+        (All-nil (Within words))
 
 -- a place keeps each of these
 place_fits : (p : Plan) (s : Outcome) (c : ℕ) (given : Option ℕ) → OutcomeFits p s
