@@ -18,13 +18,13 @@ use Rattle.replay_core.proofs.Steps.{used_within}
 use Rattle.replay_audit.specs.Laws.{OutcomeFits, ReplayFitsLaw}
 
 -- each load is of a word below this one
-abbrev pub Within : ℕ → LoadNote → Type 0
+abbrev Within : ℕ → LoadNote → Type 0
 Within words note = note.word < words
 
-abbrev pub AllWithin : ℕ → List LoadNote → Type 0
+abbrev AllWithin : ℕ → List LoadNote → Type 0
 AllWithin words notes = All (Within words) notes
 
-pub noted : (used : Use) (words : ℕ) (old : List LoadNote) (count value : ℕ) → UsesWithin used words → AllWithin words old →
+noted : (used : Use) (words : ℕ) (old : List LoadNote) (count value : ℕ) → UsesWithin used words → AllWithin words old →
     AllWithin words (loads_after used old count value)
 noted None words old count value lt h = h
 noted (Some used) words old count value lt h = by (is_read used.0)
@@ -36,10 +36,10 @@ noted (Some used) words old count value lt h = by (is_read used.0)
     by true = All-push (Within words) old note h lt
     by false = h
 
-abbrev pub no_notes : List LoadNote
+abbrev no_notes : List LoadNote
 no_notes = []
 
-pub own : (words c : ℕ) (lists : List (List LoadNote)) → All (AllWithin words) lists →
+own : (words c : ℕ) (lists : List (List LoadNote)) → All (AllWithin words) lists →
     AllWithin words (slice_index_or lists c no_notes)
 own words c lists h = by (cases_lt c (length lists))
   where
