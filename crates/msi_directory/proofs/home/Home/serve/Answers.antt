@@ -27,7 +27,8 @@ invariant_of-self g c =
     fits_after (home_of c.self.inside.opening c.self.inside.fresh c.self.inside.kept) _ c.self.view_is
     g.R.Rider.riding.fresh (request_deed g.R.Rider.riding c.args.from (request_seen c.args.request)) c.requires.within _
     (c.block.ensures ∙ seen_request_block c.args.request) _ c.find-place.ensures _ _ _
-    c.serve.ensures (λ e. request_keeps_fit g.R.Rider.riding e c.args.from (request_seen c.args.request) c.requires.from)
+    c.serve.ensures (λ e. request_keeps_fit g.R.Rider.riding e c.args.from (request_seen c.args.request)
+    c.requires.from)
     c.self.invariant
 
 pub returns : goal.returns
