@@ -47,11 +47,13 @@ static ROWS: [Row; 9] = [
     run!("run" =>),
     run!("run --loads --words 32" => words: 32, loads: true),
     run!("run --cores 16 --limit=1 --loads" => cores: 16, limit: 1, loads: true),
-    run!("run --words=262144 --choices 00ff1a --limit 1000000" => limit: 1_000_000, words: 262_144, choices: &[0, 255, 26]),
+    run!("run --words=262144 --choices 00ff1a --limit 1000000" =>
+        limit: 1_000_000, words: 262_144, choices: &[0, 255, 26]),
     // Four million instructions together.
     run!("run --limit 250000 --cores 16" => cores: 16, limit: 250_000),
     run!("run --cores=4 --limit=1000000" => cores: 4, limit: 1_000_000),
-    run!("run --choices=07 --seed 18446744073709551615 --cores=2" => cores: 2, choices: &[7], seed: 18_446_744_073_709_551_615),
+    run!("run --choices=07 --seed 18446744073709551615 --cores=2" =>
+        cores: 2, choices: &[7], seed: 18_446_744_073_709_551_615),
     run!("run --elf --loads" => loads: true, elf: true),
     run!("run --words 32 --choices 07 --elf" => words: 32, choices: &[7], elf: true),
 ];
@@ -433,7 +435,8 @@ fn words_that_mean_a_run_of_buffered_cores(rt: HostRuntime) -> Result<(), Fail> 
 
 static BUFFERED_RECORDS: [Row; 2] = [
     run!("tsorecord" =>),
-    run!("tsorecord --choices=07ff --words 262144 --seed 18446744073709551615 --cores 2" => cores: 2, words: 262_144, choices: &[7, 255], seed: 18_446_744_073_709_551_615),
+    run!("tsorecord --choices=07ff --words 262144 --seed 18446744073709551615 --cores 2" =>
+        cores: 2, words: 262_144, choices: &[7, 255], seed: 18_446_744_073_709_551_615),
 ];
 
 /// Whether the command records the row's run of cores with store buffers.
