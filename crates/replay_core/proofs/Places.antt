@@ -134,7 +134,7 @@ kept-core given p s c i of keeps below = elim (ℕ_discrete i c) [
   | no ne ↦ ap of ((place_given_law p s c given).other_cores i ne)
 ]
 
-bumped : (given : Option ℕ) (p : Plan) (f : ℕ → ℕ) (s : Outcome) (c : ℕ) → counts_in s ≡ f → c < length s.cores →
+pub bumped : (given : Option ℕ) (p : Plan) (f : ℕ → ℕ) (s : Outcome) (c : ℕ) → counts_in s ≡ f → c < length s.cores →
     (i : ℕ) → counts_in (place_given p s c given) i ≡ bump f c i
 bumped given p f s c is below i = elim (ℕ_discrete i c) [
   | yes e ↦

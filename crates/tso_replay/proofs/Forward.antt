@@ -1,7 +1,7 @@
 -- Conflicts go forward in the list that is played.
-use Rattle.std.proofs.Common.{inl, inr, ◌≡◌, ◌≢◌, ◌⊎◌, ◌∙◌, ℕ, ◌+◌, ◌<◌, ◌≤◌, List, [], ◌∷◌, ◌++◌, length, refl, sym}
+use Rattle.std.proofs.Common.{inl, inr, ◌≡◌, ◌⊎◌, ◌∙◌, ℕ, ◌+◌, ◌<◌, ◌≤◌, List, [], ◌∷◌, ◌++◌, length, refl, sym}
 use Rattle.std.proofs.Common.{ap, subst, arith}
-use Rattle.std.specs.Prelude.{Option, Some, None}
+use Rattle.std.specs.Prelude.{Some, None}
 use Rattle.std.proofs.Math.Path.{fun_ext}
 use Rattle.rtr_types.specs.declared.access.Access.{Access}
 use Rattle.rtr_types.specs.declared.instr.Edge.{Edge}
@@ -9,16 +9,13 @@ use Rattle.rtr_types.specs.declared.instr.Instr.{Instr}
 use Rattle.clock_core.specs.Order.{Among}
 use Rattle.conflict_edge.specs.Conflicts.{ConflictPair, StandsIn}
 use Rattle.conflict_edge.proofs.Standing.{stands_which}
-use native.Mathlib.Decide.{ℕ_discrete}
-use Rattle.rv_core.specs.declared.core_state.Core.{Core}
-use Rattle.rv_core.proofs.LawLemmas.{count_law}
 use Rattle.rv_core.specs.declared.outcome.Outcome.{Outcome}
 use Rattle.replay_core.specs.Orders.{bump, counts, nought, counts_in}
 use Rattle.replay_core.specs.Plans.{Plan}
-use Rattle.replay_core.specs.Play.{Given, Use, accesses_by, core_at, given_next, instr, old_given, place_given, start}
+use Rattle.replay_core.specs.Play.{Given, Use, accesses_by, core_at, given_next, instr, start}
 use Rattle.replay_core.specs.Play.{valued_place, valued_play, valued_touch, valued_accesses_from}
-use Rattle.replay_core.proofs.Counts.{bump_here, bump_else, bump_more, bump_same, counts_more}
-use Rattle.replay_core.proofs.Places.{place_given_law, start_known}
+use Rattle.replay_core.proofs.Counts.{bump_here, bump_more, bump_same, counts_more}
+use Rattle.replay_core.proofs.Places.{bumped, place_given_law, start_known}
 use Rattle.replay_audit.proofs.Pairs.{Apart, both_left, both_right, across, pairs_which, ends}
 use Rattle.replay_audit.proofs.Swaps.{one_at, valued_use, valued_old, valued_new, valued_touch_is}
 use Rattle.tso_replay.specs.Laws.{Inside, GoesForward, ConflictsForwardLaw}
@@ -27,21 +24,6 @@ use Rattle.tso_replay.specs.Laws.{Inside, GoesForward, ConflictsForwardLaw}
 pub record Counted (p : Plan) (f : ℕ → ℕ) (s : Outcome) : Type 0 where
   pub counts_are : counts_in s ≡ f
   pub cores : length s.cores ≡ length p.totals
-
-bumped : (g : Option ℕ) (p : Plan) (f : ℕ → ℕ) (s : Outcome) (c : ℕ) → counts_in s ≡ f → c < length s.cores → (i : ℕ) →
-    counts_in (place_given p s c g) i ≡ bump f c i
-bumped g p f s c is below i = elim (ℕ_discrete i c) [
-  | yes e ↦
-      let here : counts_in (place_given p s c g) c ≡ counts_in s c + 1 =
-      ap (λ (k : Core). k.count) ((place_given_law p s c g).core below)
-      ∙ count_law p.image (core_at s c) (old_given p s c g) in
-      let there = subst (λ (x : ℕ). counts_in (place_given p s c g) x ≡ counts_in s x + 1) (sym e) here in
-      let more = bump_same f c i e in
-      let same = ap (λ (h : ℕ → ℕ). h i) is in
-      omega arith
-  | no ne ↦ ap (λ (k : Core). k.count) ((place_given_law p s c g).other_cores i ne) ∙ ap (λ (h : ℕ → ℕ). h i) is
-      ∙ sym (bump_else f c i ne)
-]
 
 module _ (given : Given) (p : Plan) where
   counted-place : (f : ℕ → ℕ) (s : Outcome) (c : ℕ) → Counted p f s → c < length p.totals →
