@@ -29,7 +29,7 @@ use Rattle.msi_state.specs.States.{State, PlainState, core_at, all_done}
 use Rattle.msi_state.specs.Steps.{enabled, event}
 use Rattle.machine_invariant.specs.Holds.{MachineHolds}
 use Rattle.machine_invariant.proofs.Begins.{chosen_enabled, holds_run}
-use Rattle.machine_progress.proofs.Ending.{links_left}
+use Rattle.machine_invariant.proofs.Ended.{links_left}
 use Rattle.machine_data.specs.Coherent.{Coherent, memory_after}
 use Rattle.machine_data.specs.LastValues.{last_value, memory_left, EachFindsLast}
 use Rattle.machine_data.proofs.Final.{final_current}

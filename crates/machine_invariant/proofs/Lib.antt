@@ -4,3 +4,4 @@ pub mod Happening
 pub mod Awaits
 pub mod Kept
 pub mod Begins
+pub mod Ended

@@ -27,7 +27,7 @@ use Rattle.msi_laws.specs.Sights.{line_state}
 use Rattle.msi_laws.proofs.KindsShown.{blocks_hold}
 use Rattle.msi_state.specs.States.{State, all_done}
 use Rattle.machine_invariant.specs.Holds.{MachineHolds}
-use Rattle.machine_progress.proofs.Ending.{links_left}
+use Rattle.machine_invariant.proofs.Ended.{links_left}
 use Rattle.machine_data.proofs.Final.{all_quiet}
 use Rattle.msi_machine.specs.Writers.{OneWriterEach}
 

@@ -13,9 +13,9 @@ use Rattle.state_text.specs.declared.exit.Exit.{Exit}
 use Rattle.state_text.specs.declared.exit.Exit.TheVariants as exits
 use Rattle.tool_words.specs.declared.command.RunWords.{RunWords}
 use Rattle.tool_words.specs.declared.command.Command.TheVariants.{TsoRecord, TsoReplay}
-use Rattle.tso_answers.specs.Schedules.{tso_recording_of}
-use Rattle.tso_answers.proofs.Logged.{logged_law}
-use Rattle.tso_answers.proofs.Schedules.{held as run_held, replayed as run_replayed}
+use Rattle.tso_recordings.specs.Schedules.{tso_recording_of}
+use Rattle.tso_recordings.proofs.Logged.{logged_law}
+use Rattle.tso_recordings.proofs.Schedules.{held as run_held, replayed as run_replayed}
 use Rattle.tso_bound.specs.Ends.{end_of}
 use Rattle.tso_bound.proofs.Ends.{end_done, run_ends}
 use Rattle.tso_codec.specs.declared.recording.TsoRecording.{TsoRecording}

@@ -39,8 +39,8 @@ use Rattle.replay_audit.specs.Audits.{AuditRefuses, EveryOrderAgrees, IsInstrOf}
 use Rattle.replay_audit.specs.Determinate.{IsDeterminate, low_outcome}
 use Rattle.cut_replay.specs.ClosedCuts.{IsGreatestWithout, IsLeastWith}
 use Rattle.cut_replay.specs.CutStates.{IsStateAt}
-use Rattle.tso_answers.specs.Logged.{AreLogged}
-use Rattle.tso_answers.specs.Schedules.{IsHeld, tso_order_of, tso_recording_of}
+use Rattle.tso_recordings.specs.Logged.{AreLogged}
+use Rattle.tso_recordings.specs.Schedules.{IsHeld, tso_order_of, tso_recording_of}
 use Rattle.tso_bound.specs.Ends.{end_of as tso_end_of}
 use Rattle.tso_codec.specs.declared.recording.TsoRecording.{TsoRecording}
 use Rattle.tso_outcome.specs.Outcomes.{tso_outcome_of}

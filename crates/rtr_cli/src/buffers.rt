@@ -4,7 +4,7 @@ ghost use Rattle.replay_core.specs.Plans.{recorded_image};
 ghost use Rattle.rtr_types.specs.Parameters.{Fits};
 ghost use Rattle.state_text.specs.States.{IsOutcomeOf, state_lines};
 ghost use Rattle.tool_words.specs.declared.command.Command.TheVariants.{TsoRecord, TsoRun};
-ghost use Rattle.tso_answers.specs.Schedules.{tso_recording_of};
+ghost use Rattle.tso_recordings.specs.Schedules.{tso_recording_of};
 ghost use Rattle.tso_codec.specs.Spelling.{tso_spelling};
 ghost use Rattle.tso_codec.specs.Validity.{IsTso, plain_of};
 ghost use Rattle.tso_outcome.specs.Outcomes.{tso_outcome_of};

@@ -4,7 +4,7 @@ use Rattle.access_times.specs.Riding.{none_carrying, none_riding}
 use Rattle.machine_bound.proofs.Ends.{InRange, end_in_time, run_ends}
 use Rattle.machine_bound.specs.Ends.{end_of}
 use Rattle.machine_data.proofs.Remembers.{each_finds_last, final_values}
-use Rattle.machine_progress.proofs.Ending.{links_left}
+use Rattle.machine_invariant.proofs.Ended.{links_left}
 use Rattle.machine_progress.proofs.Rested.{rows_there, rooms_there}
 use Rattle.machine_progress.proofs.Stuck.{some_move}
 use Rattle.machine_invariant.proofs.Begins.{holds_run}

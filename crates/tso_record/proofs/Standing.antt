@@ -32,7 +32,7 @@ use Rattle.tso_state.specs.Steps.{event, step, told}
 use Rattle.tso_times.specs.Timed.{ordering_port}
 use Rattle.tso_told.specs.Played.{AreInside}
 use Rattle.tso_codec.specs.declared.recording.TsoRecording.{TsoRecording}
-use Rattle.tso_answers.specs.Schedules.{tso_recording_of}
+use Rattle.tso_recordings.specs.Schedules.{tso_recording_of}
 use Rattle.tso_record.specs.Clerks.{Noted, values_told}
 use Rattle.run_steps.specs.Ways.{IsUnderWay}
 use Rattle.tso_record.specs.Standing.{RecordsAt, last_lists}

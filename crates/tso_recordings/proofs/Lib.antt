@@ -5,3 +5,5 @@ pub mod Tellings
 pub mod Totals
 pub mod Valid
 pub mod Replayed
+pub mod Schedules
+pub mod Logged

@@ -1,2 +1,4 @@
 pub mod Values
 pub mod Recordings
+pub mod Schedules
+pub mod Logged

@@ -1,4 +1,5 @@
-use Rattle.machine_progress.proofs.Ending.{links_left, moves_left}
+use Rattle.machine_invariant.proofs.Ended.{links_left}
+use Rattle.machine_progress.proofs.Ending.{moves_left}
 use Rattle.machine_progress.proofs.laws.nothing_is_left_at_the_end.Goals as goal
 
 pub returns-clause-links : goal.returns-clause-links

@@ -4,10 +4,10 @@ use Rattle.conflict_edge.specs.Least.{IsLeast}
 use Rattle.image_mem.specs.Contents.{Contents}
 use Rattle.race_log.specs.Sources.{log_edges}
 use Rattle.rtr_types.specs.declared.pairs.Which.TheVariants.{Reduced}
-use Rattle.tso_answers.proofs.Logged.{logged_law}
-use Rattle.tso_answers.proofs.Schedules.{held, replayed}
-use Rattle.tso_answers.specs.Logged.{AreLogged}
-use Rattle.tso_answers.specs.Schedules.{tso_accesses_of, tso_order_of, tso_recording_of}
+use Rattle.tso_recordings.proofs.Logged.{logged_law}
+use Rattle.tso_recordings.proofs.Schedules.{held, replayed}
+use Rattle.tso_recordings.specs.Logged.{AreLogged}
+use Rattle.tso_recordings.specs.Schedules.{tso_accesses_of, tso_order_of, tso_recording_of}
 use Rattle.tso_codec.specs.declared.recording.TsoRecording.{TsoRecording}
 use Rattle.tso_codec.specs.Validity.{IsTso, plain_of}
 use Rattle.tso_outcome.specs.Outcomes.{tso_outcome_of}

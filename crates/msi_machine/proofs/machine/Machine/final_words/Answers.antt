@@ -3,7 +3,7 @@ use Rattle.std.specs.Prelude.{slice_index}
 use Rattle.machine_data.specs.Coherent.{Coherent}
 use Rattle.machine_data.proofs.Final.{final_current}
 use Rattle.machine_plain.proofs.Shows.{plain_words}
-use Rattle.machine_progress.proofs.Ending.{links_left}
+use Rattle.machine_invariant.proofs.Ended.{links_left}
 use Rattle.msi_state.specs.FinalMemory.{final_words}
 use Rattle.msi_state.specs.States.{Machinery, State, all_done}
 use Rattle.msi_machine.proofs.AtHand.{ends_at_hand}

@@ -6,7 +6,7 @@ use Rattle.rtr_types.specs.Parameters.{Fits}
 use Rattle.rtr_types.specs.declared.params.Params.{Params}
 use Rattle.schedule_pick.specs.Choices.{Choices, choice_at}
 use Rattle.msi_memory.specs.Memories.{port_at}
-use Rattle.tso_answers.specs.Schedules.{tso_recording_of}
+use Rattle.tso_recordings.specs.Schedules.{tso_recording_of}
 use Rattle.tso_bound.specs.Ends.{end_of}
 use Rattle.tso_data.specs.Orders.{still_there}
 use Rattle.tso_state.specs.declared.moves.Move.TheVariants.{Order as OrderMove}

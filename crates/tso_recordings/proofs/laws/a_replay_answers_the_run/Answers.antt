@@ -1,5 +1,5 @@
-use Rattle.tso_answers.proofs.Schedules.{answered, replayed}
-use Rattle.tso_answers.proofs.laws.a_replay_answers_the_run.Goals as goal
+use Rattle.tso_recordings.proofs.Schedules.{answered, replayed}
+use Rattle.tso_recordings.proofs.laws.a_replay_answers_the_run.Goals as goal
 
 pub returns-clause-replayed : goal.returns-clause-replayed
 returns-clause-replayed c = replayed

@@ -11,8 +11,8 @@ use Rattle.tso_recordings.proofs.Valid.{is_valid, recorded}
 use Rattle.tso_state.specs.Runs.{run}
 use Rattle.tso_state.specs.States.{all_done}
 use Rattle.tso_outcome.specs.Outcomes.{tso_outcome_of}
-use Rattle.tso_answers.specs.Schedules.{AnsweredLaw, HeldLaw, ReplayedLaw, tso_accesses_of, tso_order_of}
-use Rattle.tso_answers.specs.Schedules.{tso_recording_of}
+use Rattle.tso_recordings.specs.Schedules.{AnsweredLaw, HeldLaw, ReplayedLaw, tso_accesses_of, tso_order_of}
+use Rattle.tso_recordings.specs.Schedules.{tso_recording_of}
 
 ended : (image : Contents) (params : Params) (choices : ℕ → ℕ) → CanRun image params →
     all_done (run image params choices (end_of image params choices)) ≡ true

@@ -22,8 +22,8 @@ use Rattle.msi_memory.specs.declared.port.Port.{Port}
 use Rattle.msi_memory.specs.Acts.{allows, data_next}
 use Rattle.msi_memory.specs.Memories.{port_at}
 use Rattle.msi_state.specs.Events.{port_taken}
-use Rattle.tso_answers.specs.Logged.{IsOneOf, LoggedLaw, LogsAt}
-use Rattle.tso_answers.specs.Schedules.{tso_recording_of}
+use Rattle.tso_recordings.specs.Logged.{IsOneOf, LoggedLaw, LogsAt}
+use Rattle.tso_recordings.specs.Schedules.{tso_recording_of}
 use Rattle.tso_bound.specs.Ends.{end_of}
 use Rattle.tso_bound.proofs.Ends.{run_cores}
 use Rattle.tso_data.specs.Orders.{LoadLeaves, still_there}
