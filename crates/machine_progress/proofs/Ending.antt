@@ -15,7 +15,7 @@ use Rattle.machine_invariant.specs.Holds.{MachineHolds}
 use Rattle.msi_laws.proofs.Moves.{filter_none, not_enabled}
 use Rattle.msi_laws.proofs.Moving.{none_taken}
 use Rattle.msi_memory.specs.Acts.{TakeRequest, TakeResponse, TakeMessage}
-use Rattle.machine_invariant.proofs.Ended.{done_at, done_still, links_left}
+use Rattle.machine_invariant.proofs.Ended.{done_at, links_left}
 
 module _ {R K : Type 0} where
   none_enabled : (riding : Riding R) (carrying : Carrying K) (s : State R K) → MachineHolds riding carrying s →

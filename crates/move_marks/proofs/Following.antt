@@ -6,7 +6,7 @@ use Rattle.std.proofs.lemmas.Bool.{cases_eq}
 use Rattle.access_times.specs.Riding.{Riding, Carrying}
 use Rattle.rtr_types.specs.CoreSets.{has}
 use Rattle.msi_memory.specs.declared.turn.Turn.{Turn}
-use Rattle.msi_memory.specs.Acts.{Act, TakeMessage, TakeRequest, TakeResponse, after_act, can, take_request}
+use Rattle.msi_memory.specs.Acts.{Act, TakeRequest, TakeResponse, after_act, can, take_request}
 use Rattle.msi_memory.specs.Acts.{take_response}
 use Rattle.msi_memory.specs.Memories.{Memory, port_at}
 use Rattle.msi_memory.specs.Rests.{requests_at}

@@ -1,18 +1,18 @@
 -- At the start nothing is under way at the ports: nothing is marked there, and no block is asked for.
-use Rattle.std.proofs.Common.{◌≡◌, ◌≢◌, ◌∙◌, ◌⊎◌, inl, inr, refl, sym, ap, ℕ, zero, suc, ◌<◌, ◌≤◌, Bool, false, true}
+use Rattle.std.proofs.Common.{◌≡◌, ◌≢◌, ◌∙◌, ◌⊎◌, inl, inr, refl, sym, ap, ℕ, zero, suc, ◌<◌, ◌≤◌, Bool, false}
 use Rattle.std.proofs.Common.{List, [], length, replicate}
 use Rattle.access_times.specs.Riding.{Riding, Carrying}
 use Rattle.image_mem.specs.Contents.{Contents}
 use Rattle.rtr_types.specs.CoreSets.{has}
 use Rattle.msi_memory.specs.declared.port.Port.{Port}
 use Rattle.msi_memory.specs.Acts.{Act, TakeMessage, TakeRequest, TakeResponse, can, can_at, port_of}
-use Rattle.msi_memory.specs.Memories.{Memory, memory_start, no_port, port_at, port_start}
-use Rattle.msi_memory.specs.Rests.{OthersRoomy, head_roomy, requests_at}
+use Rattle.msi_memory.specs.Memories.{memory_start, no_port, port_at, port_start}
+use Rattle.msi_memory.specs.Rests.{head_roomy, requests_at}
 use Rattle.move_marks.specs.declared.marks.MoveKind.{MoveKind}
 use Rattle.move_marks.specs.declared.marks.MoveKind.TheVariants.{Own, Request, Response, FromHome}
 use Rattle.move_marks.specs.declared.marks.MoveMarks.{MoveMarks}
 use Rattle.move_marks.specs.Kinds.{set_of}
-use Rattle.move_marks.specs.Ports.{PortsMarked, PortsNoted}
+use Rattle.move_marks.specs.Ports.{PortsNoted}
 use Rattle.move_marks.proofs.Acts.{can_here, can_past}
 use Rattle.move_marks.proofs.Delivered.{split}
 use Rattle.move_marks.proofs.Lateness.{all_noted}

@@ -1,5 +1,5 @@
 -- The late core's oldest request: once it is marked where the home can take it, nothing is left open.
-use Rattle.std.proofs.Common.{◌≡◌, ◌≢◌, ◌∙◌, ap, sym, subst, ℕ, ◌<◌, ◌≤◌, Bool, true, false, List, length}
+use Rattle.std.proofs.Common.{◌≡◌, ◌≢◌, ◌∙◌, ap, sym, subst, ℕ, ◌<◌, ◌≤◌, Bool, true, List, length}
 use Rattle.access_times.specs.Riding.{Riding, Carrying}
 use Rattle.rtr_types.specs.CoreSets.{has}
 use Rattle.msi_cache.specs.declared.messages.Request.{Request}

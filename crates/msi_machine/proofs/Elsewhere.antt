@@ -1,5 +1,5 @@
 -- What a move of one core leaves of the others.
-use Rattle.std.proofs.Common.{◌≡◌, ◌≢◌, ℕ, length, nat_lt}
+use Rattle.std.proofs.Common.{◌≡◌, ◌≢◌, ℕ, nat_lt}
 use Rattle.std.proofs.Common.{◌&&◌}
 use Rattle.std.specs.Prelude.{not}
 use Rattle.access_times.specs.Riding.{Riding, Carrying}
@@ -8,7 +8,7 @@ use Rattle.rv_core.specs.Steps.{need, is_done}
 use Rattle.msi_cache.specs.Lines.{waits}
 use Rattle.move_marks.proofs.OnePort.{OneSet, PortMoved, one_other, port_other, same_long}
 use Rattle.msi_state.specs.declared.moves.Move.TheVariants.{Core as CoreMove}
-use Rattle.msi_state.specs.States.{State, core_at}
+use Rattle.msi_state.specs.States.{State}
 use Rattle.msi_state.specs.Steps.{enabled}
 
 -- the state after core c moved at its port

@@ -9,7 +9,6 @@ use Rattle.schedule_pick.specs.Choices.{Choices, choice_at, choices_of}
 use Rattle.replay_core.specs.Orders.{low_order}
 use Rattle.replay_core.specs.Plans.{recorded_image}
 use Rattle.state_text.specs.States.{IsOutcomeOf, state_lines}
-use Rattle.state_text.specs.declared.exit.Exit.{Exit}
 use Rattle.state_text.specs.declared.exit.Exit.TheVariants as exits
 use Rattle.tool_words.specs.declared.command.RunWords.{RunWords}
 use Rattle.tool_words.specs.declared.command.Command.TheVariants.{TsoRecord, TsoReplay}
@@ -32,8 +31,8 @@ use Rattle.tso_replay.specs.Replays.{tso_given, tso_plan}
 use Rattle.replay_audit.proofs.Fitting.{valued_fits}
 use Rattle.tso_state.specs.Runs.{all_told}
 use Rattle.tso_words.proofs.Opening.{opens_small}
-use Rattle.rtr_cli.specs.Commands.{KeepsTsoRun, Makes, Promised, Refuses, SpellsSome, image_of, tso_outcome}
-use Rattle.rtr_cli.specs.Commands.{tso_recorded_bytes, tso_replay_lines}
+use Rattle.rtr_cli.specs.Commands.{KeepsTsoRun, Makes, Promised, SpellsSome, image_of, tso_outcome}
+use Rattle.rtr_cli.specs.Commands.{tso_replay_lines}
 use Rattle.rtr_cli.specs.Completeness.{Accepts, IsOfBuffers}
 use Rattle.rtr_cli.proofs.AcceptedLemmas.{accepted_is_not_refused}
 

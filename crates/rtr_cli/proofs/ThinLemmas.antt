@@ -1,5 +1,5 @@
 -- What is thinned is determinate by its regulated log.
-use Rattle.std.proofs.Common.{◌≡◌, ◌∙◌, refl, sym, ap, subst, Bool, false, List, ℕ, Result, Ok, Err}
+use Rattle.std.proofs.Common.{◌≡◌, ◌∙◌, sym, ap, subst, Bool, false, List, ℕ, Result, Ok, Err}
 use Rattle.std.specs.Prelude.{Option}
 use Rattle.rtr_types.specs.declared.pairs.Which.{Which}
 use Rattle.rtr_types.specs.declared.pairs.Which.TheVariants.{Regulated}

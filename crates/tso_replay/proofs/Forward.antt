@@ -1,12 +1,10 @@
 -- Conflicts go forward in the list that is played.
-use Rattle.std.proofs.Common.{inl, inr, ◌≡◌, ◌⊎◌, ◌∙◌, ℕ, ◌+◌, ◌<◌, ◌≤◌, List, [], ◌∷◌, ◌++◌, length, refl, sym}
+use Rattle.std.proofs.Common.{inl, inr, ◌≡◌, ◌⊎◌, ◌∙◌, ℕ, ◌+◌, ◌<◌, ◌≤◌, List, [], ◌∷◌, ◌++◌, length, sym}
 use Rattle.std.proofs.Common.{ap, subst, arith}
 use Rattle.std.specs.Prelude.{Some, None}
 use Rattle.std.proofs.Math.Path.{fun_ext}
 use Rattle.rtr_types.specs.declared.access.Access.{Access}
-use Rattle.rtr_types.specs.declared.instr.Edge.{Edge}
 use Rattle.rtr_types.specs.declared.instr.Instr.{Instr}
-use Rattle.clock_core.specs.Order.{Among}
 use Rattle.conflict_edge.specs.Conflicts.{ConflictPair, StandsIn}
 use Rattle.conflict_edge.proofs.Standing.{stands_which}
 use Rattle.rv_core.specs.declared.outcome.Outcome.{Outcome}
@@ -18,7 +16,7 @@ use Rattle.replay_core.proofs.Counts.{bump_here, bump_more, bump_same, counts_mo
 use Rattle.replay_core.proofs.Places.{bumped, place_given_law, start_known}
 use Rattle.replay_audit.proofs.Pairs.{Apart, both_left, both_right, across, pairs_which, ends}
 use Rattle.replay_audit.proofs.Swaps.{one_at, valued_use, valued_old, valued_new, valued_touch_is}
-use Rattle.tso_replay.specs.Laws.{Inside, GoesForward, ConflictsForwardLaw}
+use Rattle.tso_replay.specs.Laws.{Inside, ConflictsForwardLaw}
 
 -- the outcome has come as far as the counts say
 pub record Counted (p : Plan) (f : ℕ → ℕ) (s : Outcome) : Type 0 where

@@ -1,4 +1,4 @@
-use Rattle.std.proofs.Common.{◌≡◌, ◌∙◌, ◌<◌, sym, subst, ap, ℕ, get_or, length}
+use Rattle.std.proofs.Common.{◌∙◌, ◌<◌, sym, subst, ap, ℕ, get_or, length}
 use Rattle.std.proofs.lemmas.List.{length-map}
 use Rattle.rtr_types.specs.declared.core_set.CoreSet.{CoreSet}
 use Rattle.move_marks.specs.declared.marks.MarkedMove.{MarkedMove}

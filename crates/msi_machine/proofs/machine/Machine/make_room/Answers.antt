@@ -1,4 +1,4 @@
-use Rattle.std.proofs.Common.{◌≡◌, ◌∙◌, ap}
+use Rattle.std.proofs.Common.{◌∙◌, ap}
 use Rattle.msi_memory.specs.Memories.{Memory}
 use Rattle.msi_state.specs.States.{Machinery}
 use Rattle.msi_machine.proofs.Roomed.{room_made}

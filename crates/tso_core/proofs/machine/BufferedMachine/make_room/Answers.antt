@@ -1,4 +1,4 @@
-use Rattle.std.proofs.Common.{◌≡◌, ◌∙◌, ap}
+use Rattle.std.proofs.Common.{◌∙◌, ap}
 use Rattle.msi_memory.specs.Memories.{Memory}
 use Rattle.tso_core.specs.Machineries.{Machinery}
 use Rattle.tso_core.proofs.Roomed.{room_made}
