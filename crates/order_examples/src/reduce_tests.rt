@@ -1,5 +1,4 @@
 //! Short runs, with the times that one block's words have in them.
-use crate::accesses::{access, edge};
 use access_times::{Rider, Times};
 use conflict_edge::least_of;
 use online_reduce::{EDGES_ROOM, EdgePlaces, Reducer};
@@ -7,6 +6,22 @@ use rtr_types::{Access, CORES_MAX, Edge, Instr, Kind};
 use std::alloc::Global;
 use std::process::Abort;
 use std::test::Fail;
+
+/// An access to a word of the first block. Values play no part.
+macro_rules! access {
+    ($core:literal : $count:literal $kind:ident $word:literal) => {
+        Access {
+            at: Instr {
+                core: $core,
+                count: $count,
+            },
+            word: $word,
+            kind: Kind::$kind,
+            before: 0,
+            after: 0,
+        }
+    };
+}
 
 // Core 0's store of word 0 comes after the read 1:1 by way of word 1, so one edge into it is enough.
 static READERS: [Access; 5] = [
@@ -101,7 +116,11 @@ fn the_answered_list_has_the_edges(rt: HostRuntime) -> Result<(), Fail> {
     assert!(rt; reducer.clock(1).get(1) == 0);
     reducer.ready()?;
     let edges = reducer.retire(&access!(1: 1 Load 0), &mut times);
-    assert_eq!(rt; edges.as_slice(), [edge!(0: 1, 1: 1)].as_slice());
+    let into_the_load = [Edge {
+        from: Instr { core: 0, count: 1 },
+        to: Instr { core: 1, count: 1 },
+    }];
+    assert_eq!(rt; edges.as_slice(), into_the_load.as_slice());
     assert_eq!(rt; edges.capacity(), EDGES_ROOM);
     Ok(())
 }

@@ -1,7 +1,6 @@
 //! A run of as many cores as there can be, with an edge from each core to every other.
 
-use crate::calls::ask;
-use row_texts::bytes;
+use crate::calls::{ask, bytes};
 use std::alloc::{AllocError, Global};
 use std::test::Fail;
 

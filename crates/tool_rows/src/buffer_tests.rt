@@ -1,12 +1,15 @@
 //! Recordings of cores with store buffers: each row, bytes that are cut and changed, and streams that fail.
 
 use crate::buffer_tables::{BUFFERED, CUT, DAMAGED, Damage, ONE_CALL, ONE_CALL_TEXT};
-use crate::calls::{Answer, Host, ask, ask_over, refuses};
+use crate::calls::{Answer, answer_of, ask, asks, bytes, words};
 use replay_threads::OpenGate;
-use row_texts::bytes;
+use rtr_cli::run_tool;
 use rtr_io::{MemSink, MemSource};
 use std::alloc::{AllocError, Global};
+use std::process::Abort;
+use std::sync::Wait;
 use std::test::Fail;
+use std::thread::Threads;
 
 // A recording that is cut, at each byte.
 #[test]
@@ -16,22 +19,43 @@ fn a_cut_of_a_recording_of_buffers_names_its_part(rt: HostRuntime) -> Result<(),
         let mut cut = bytes(alloc, BUFFERED)?;
         cut.truncate(len);
         let report = format!(in alloc; "rtr: bad input, part {part}\n")?;
-        refuses(&rt, alloc, "tsoreplay --loads", cut, 3, &report)?;
+        asks(
+            &rt,
+            alloc,
+            "tsoreplay --loads",
+            cut,
+            3,
+            b"".as_slice(),
+            &report,
+        )?;
     }
     Ok(())
 }
 
 /// The status and the line of the damage; none where the bytes are replayed.
 fn wanted(alloc: Global, damage: &Damage) -> Result<(u8, String), AllocError> {
-    Ok(match damage {
-        Damage::Whole => (0, String::new(alloc)),
-        Damage::Part(part) => (3, format!(in alloc; "rtr: bad input, part {part}\n")?),
-        Damage::Stop(core, count) => (5, format!(in alloc; "rtr: core {core} stops at {count}\n")?),
-    })
+    let Damage {
+        part,
+        core,
+        count,
+        ..
+    } = damage;
+    if *part > 0 {
+        return Ok((3, format!(in alloc; "rtr: bad input, part {part}\n")?));
+    }
+    if damage.short {
+        return Ok((5, format!(in alloc; "rtr: core {core} stops at {count}\n")?));
+    }
+    Ok((0, String::new(alloc)))
 }
 
 /// Replays the recording with one byte changed, and compares how that ends. Nothing is given where it is refused.
-fn is_damaged(rt: &impl Host, alloc: Global, at: usize, damage: &Damage) -> Result<(), AllocError> {
+fn is_damaged(
+    rt: &(impl Abort + Threads + Wait + Sync),
+    alloc: Global,
+    at: usize,
+    damage: &Damage,
+) -> Result<(), AllocError> {
     let whole = bytes(alloc, BUFFERED)?;
     let mut input = Vec::new(alloc);
     for (place, byte) in whole.iter().enumerate() {
@@ -60,17 +84,27 @@ fn each_byte_of_a_recording_of_buffers_is_changed(rt: HostRuntime) -> Result<(),
 /// The answer to `tsoreplay` of a recording, where these calls of the input and of the output fail (0 for none), and
 /// no call moves more than so many bytes.
 fn failing(
-    rt: &impl Host,
+    rt: &(impl Threads + Wait + Sync),
     alloc: Global,
     input: Vec<u8>,
     fails: (u64, u64),
     most: usize,
 ) -> Result<Answer, AllocError> {
+    let words = words(alloc, "tsoreplay")?;
     let most = most.max(1);
-    let input = MemSource::new(input, vec![in alloc; fails.0]?, most);
-    let output = MemSink::new(alloc, 99, vec![in alloc; fails.1]?, most)?;
-    let report = MemSink::new(alloc, 99, Vec::new(alloc), 99)?;
-    ask_over(rt, alloc, "tsoreplay", input, output, report, &OpenGate)
+    let mut input = MemSource::new(input, vec![in alloc; fails.0]?, most);
+    let mut output = MemSink::new(alloc, 99, vec![in alloc; fails.1]?, most)?;
+    let mut report = MemSink::new(alloc, 99, Vec::new(alloc), 99)?;
+    let ended = run_tool(
+        rt,
+        alloc,
+        words.as_slice(),
+        &mut input,
+        &mut output,
+        &mut report,
+        &OpenGate,
+    );
+    answer_of(alloc, &ended, &output, &report)
 }
 
 // The recording has 47 bytes, so that its source is asked six times at least: five times for bytes, and once for its

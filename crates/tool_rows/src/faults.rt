@@ -1,13 +1,13 @@
 //! Sources and sinks that fail.
 
-use crate::calls::{Answer, Host, ask_over};
-use crate::recordings::ONE_END;
-use crate::run_tables::END;
+use crate::calls::{Answer, answer_of, bytes, words};
 use replay_threads::OpenGate;
-use row_texts::bytes;
+use rtr_cli::run_tool;
 use rtr_io::{MemSink, MemSource};
 use std::alloc::{AllocError, Global};
+use std::sync::Wait;
 use std::test::Fail;
+use std::thread::Threads;
 
 /// The words; the call of the input, of the output and of the report that fails (0 for none), and the most
 /// bytes that a call of the output takes; then the status, how many bytes of the output were given, and the
@@ -22,6 +22,9 @@ struct Row {
     given: usize,
     report: &'static str,
 }
+
+/// The whole output of `record` of one ECALL.
+const OUTPUT: &str = "52545202 01 904e 808001 04 73000000 01";
 
 macro_rules! fault {
     ($words:expr, $input:expr, $output:expr, $report:expr, $most:expr, $status:expr, $given:expr, $text:expr) => {
@@ -65,19 +68,33 @@ static ROWS: [Row; 22] = [
 ];
 
 /// The answer to the row's words and the image of one ECALL, where the streams fail as it says.
-fn answer_to(rt: &impl Host, alloc: Global, row: &Row) -> Result<Answer, AllocError> {
-    let image = bytes(alloc, END)?;
-    let input = MemSource::new(image, one(alloc, row.input_fails)?, 99);
-    let output = MemSink::new(alloc, 99, one(alloc, row.output_fails)?, row.most.max(1))?;
-    let report = MemSink::new(alloc, 99, one(alloc, row.report_fails)?, 99)?;
-    ask_over(rt, alloc, row.words, input, output, report, &OpenGate)
+fn answer_to(
+    rt: &(impl Threads + Wait + Sync),
+    alloc: Global,
+    row: &Row,
+) -> Result<Answer, AllocError> {
+    let words = words(alloc, row.words)?;
+    let image = bytes(alloc, "73000000")?;
+    let mut input = MemSource::new(image, one(alloc, row.input_fails)?, 99);
+    let mut output = MemSink::new(alloc, 99, one(alloc, row.output_fails)?, row.most.max(1))?;
+    let mut report = MemSink::new(alloc, 99, one(alloc, row.report_fails)?, 99)?;
+    let ended = run_tool(
+        rt,
+        alloc,
+        words.as_slice(),
+        &mut input,
+        &mut output,
+        &mut report,
+        &OpenGate,
+    );
+    answer_of(alloc, &ended, &output, &report)
 }
 
 #[test]
 fn a_fault_is_told_and_a_fault_of_the_report_changes_nothing(rt: HostRuntime) -> Result<(), Fail> {
     let alloc = rt.alloc();
     for row in &ROWS {
-        let mut given = bytes(alloc, ONE_END)?;
+        let mut given = bytes(alloc, OUTPUT)?;
         given.truncate(row.given);
         let answer = answer_to(&rt, alloc, row)?;
         assert_eq!(rt; answer.status, row.status);

@@ -1,6 +1,6 @@
 //! Images that the tool makes itself, and images out of ELF files.
 
-use crate::tables::{Row, SILENT, answered, gives, refused};
+use crate::tables::{Row, answered, refused};
 
 /// The input that stands before `gen` and `soak`, which take none.
 const UNREAD: &str = "00";
@@ -11,28 +11,52 @@ pub const LOCK_500: &str =
     03260012 e30a76fe 83260013 93861600 2328d012 23200310 9382f2ff e39a02fc 73000000";
 
 pub static GENERATED: [Row; 11] = [
-    gives!("gen --shape lock --number 500" of UNREAD => LOCK_500),
-    refused!("gen --shape lock --number 0" of UNREAD => 1 "usage"),
-    refused!("gen --shape lock --number 2048" of UNREAD => 1 "usage"),
-    refused!("gen --shape mix" of UNREAD => 1 "usage"),
-    refused!("soak --shape mix" of UNREAD => 1 "usage"),
+    answered!("gen --shape lock --number 500", UNREAD, LOCK_500, ""),
+    refused!("gen --shape lock --number 0", UNREAD, 1, "rtr: usage\n"),
+    refused!("gen --shape lock --number 2048", UNREAD, 1, "rtr: usage\n"),
+    refused!("gen --shape mix", UNREAD, 1, "rtr: usage\n"),
+    refused!("soak --shape mix", UNREAD, 1, "rtr: usage\n"),
     // One core takes the lock once, and waits for no one.
-    answered!("soak --shape lock --number 1" of UNREAD =>
-        "shape lock number 1 cores 1\nretired 16\nreduced 0\nregulated 0 vectors 0 edges\nchanged 2 words\n"),
+    answered!(
+        "soak --shape lock --number 1",
+        UNREAD,
+        "",
+        "shape lock number 1 cores 1\nretired 16\nreduced 0\nregulated 0 vectors 0 edges\nchanged 2 words\n"
+    ),
     // The lock that is taken most often: a core by itself retires 6 instructions and 10 for each time.
-    answered!("soak --shape lock --number 2047 --limit 100000" of UNREAD =>
-        "shape lock number 2047 cores 1\nretired 20476\nreduced 0\nregulated 0 vectors 0 edges\nchanged 2 words\n"),
-    answered!("soak --shape lock --number 2047 --cores 2 --limit 100000" of UNREAD =>
-        "shape lock number 2047 cores 2\n\
-        retired 98018\n\
-        reduced 13539\nregulated 6761 vectors 13539 edges\n\
-        changed 2 words\n"),
+    answered!(
+        "soak --shape lock --number 2047 --limit 100000",
+        UNREAD,
+        "",
+        "shape lock number 2047 cores 1\nretired 20476\nreduced 0\nregulated 0 vectors 0 edges\nchanged 2 words\n"
+    ),
+    answered!(
+        "soak --shape lock --number 2047 --cores 2 --limit 100000",
+        UNREAD,
+        "",
+        "shape lock number 2047 cores 2\nretired 98018\nreduced 13539\nregulated 6761 vectors 13539 edges\n\
+         changed 2 words\n"
+    ),
     // Its 72 bytes fill 18 words, and a memory has whole blocks of 4.
-    refused!("soak --shape lock --number 1 --words 4" of UNREAD => 2 "input too large"),
-    refused!("soak --shape lock --number 1 --words 16" of UNREAD => 2 "input too large"),
+    refused!(
+        "soak --shape lock --number 1 --words 4",
+        UNREAD,
+        2,
+        "rtr: input too large\n"
+    ),
+    refused!(
+        "soak --shape lock --number 1 --words 16",
+        UNREAD,
+        2,
+        "rtr: input too large\n"
+    ),
     // In a memory of 20 words every address of the lock but those of its instructions lies past the memory.
-    answered!("soak --shape lock --number 1 --words 20" of UNREAD =>
-        "shape lock number 1 cores 1\nretired 5\nreduced 0\nregulated 0 vectors 0 edges\nchanged 0 words\n"),
+    answered!(
+        "soak --shape lock --number 1 --words 20",
+        UNREAD,
+        "",
+        "shape lock number 1 cores 1\nretired 5\nreduced 0\nregulated 0 vectors 0 edges\nchanged 0 words\n"
+    ),
 ];
 
 /// ADDI x5, x0, 1 and ECALL at address 16, where the program begins.
@@ -106,19 +130,48 @@ const LINKED: &str =
     01000000 00000000 01000000 03000000 00000000 00000000 c2000000 2e000000 00000000 00000000 01000000 00000000";
 
 pub static ELF_FILES: [Row; 12] = [
-    answered!("run --elf --words 8" of PROGRAM => ENDS),
-    answered!("run --words 8" of FLAT => ENDS),
-    gives!("record --elf --words 8" of PROGRAM => RECORDED),
-    gives!("record --words 8" of FLAT => RECORDED),
+    answered!("run --elf --words 8", PROGRAM, "", ENDS),
+    answered!("run --words 8", FLAT, "", ENDS),
+    answered!("record --elf --words 8", PROGRAM, RECORDED, ""),
+    answered!("record --words 8", FLAT, RECORDED, ""),
     // The jump to the entry retires too.
-    answered!("run --elf --words 32" of LINKED =>
-        "core 0 exit retired 5 pc 00000020\ncore 0 x5 00000001\nmem 00000044 00000001\n"),
+    answered!(
+        "run --elf --words 32",
+        LINKED,
+        "",
+        "core 0 exit retired 5 pc 00000020\ncore 0 x5 00000001\nmem 00000044 00000001\n"
+    ),
     // The file has 92 bytes, and a memory of 8 words 32. Without the flag it is too long.
-    refused!("run --words 8" of PROGRAM => 2 "input too large"),
-    refused!("run --elf --words 8" of CUT_PROGRAM => 11 "not an ELF file"),
-    refused!("record --elf" of OTHER_MACHINE => 11 "ELF header not accepted"),
-    refused!("run --elf" of CUT_SEGMENT => 11 "ELF segment 0 not accepted"),
-    refused!("run --elf --words 4" of PROGRAM => 11 "ELF segment 0 outside memory"),
-    refused!("record --elf" of TWICE => 11 "ELF segment 1 overlaps"),
-    refused!("run --elf" of OTHER_ENTRY => 11 "ELF entry not accepted"),
+    refused!("run --words 8", PROGRAM, 2, "rtr: input too large\n"),
+    refused!(
+        "run --elf --words 8",
+        CUT_PROGRAM,
+        11,
+        "rtr: not an ELF file\n"
+    ),
+    refused!(
+        "record --elf",
+        OTHER_MACHINE,
+        11,
+        "rtr: ELF header not accepted\n"
+    ),
+    refused!(
+        "run --elf",
+        CUT_SEGMENT,
+        11,
+        "rtr: ELF segment 0 not accepted\n"
+    ),
+    refused!(
+        "run --elf --words 4",
+        PROGRAM,
+        11,
+        "rtr: ELF segment 0 outside memory\n"
+    ),
+    refused!("record --elf", TWICE, 11, "rtr: ELF segment 1 overlaps\n"),
+    refused!(
+        "run --elf",
+        OTHER_ENTRY,
+        11,
+        "rtr: ELF entry not accepted\n"
+    ),
 ];

@@ -23,8 +23,6 @@ mod lesson_tables;
 #[cfg(test)]
 mod record_tables;
 #[cfg(test)]
-mod recordings;
-#[cfg(test)]
 mod replay_tables;
 #[cfg(test)]
 mod run_tables;

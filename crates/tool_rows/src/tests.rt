@@ -1,83 +1,74 @@
 use crate::buffer_tables::BUFFERS;
-use crate::calls::{Host, ask, asks, gives, input_of, output_of, recording_of, refuses, spelled};
+use crate::calls::{ask, asks, bytes, input_of, output_of, recording_of};
 use crate::certificate_tables::CERTIFICATES;
 use crate::cut_tables::STATES;
 use crate::generated_tables::{ELF_FILES, GENERATED};
-use crate::lesson_tables::{EXAMPLES, Example, LESSON};
-use crate::record_tables::{RECORDINGS, Recorded};
-use crate::recordings::{READ_IN_TURN_NEW, READ_IN_TURN_OLD};
-use crate::replay_tables::REPLAYS;
-use crate::run_tables::{END, FAULTY, RUNS};
+use crate::lesson_tables::{EXAMPLES, LESSON};
+use crate::record_tables::{READ_IN_TURN, RECORDINGS, Recorded};
+use crate::replay_tables::{REPLAYS, Replayed};
+use crate::run_tables::{FAULTY, RUNS, Run};
 use crate::tables::{CUTS, ROWS, Row};
-use crate::thin_tables::{ENDLESS_JUMPS, FEWER, LONG_VECTORS, MORE, THINNED};
+use crate::thin_tables::{ENDLESS_JUMPS, FEWER, LONG_VECTORS, MORE, NEW, OLD, THINNED, Thinned};
 use log_codec::{fits_old, read, spell_v1};
-use row_texts::bytes;
 use std::alloc::{AllocError, Global};
+use std::process::Abort;
+use std::sync::Wait;
 use std::test::Fail;
+use std::thread::Threads;
 use varint_core::put_u32;
 
-/// Asks what the row asks, with these words more, and compares the answer.
-fn is_answered(rt: &impl Host, alloc: Global, row: &Row, more: &str) -> Result<(), AllocError> {
-    let asked = row.words;
-    let words = format!(in alloc; "{asked}{more}")?;
+/// Asks what the row asks, and compares the answer.
+fn is_answered(
+    rt: &(impl Abort + Threads + Wait + Sync),
+    alloc: Global,
+    row: &Row,
+) -> Result<(), AllocError> {
     let input = input_of(alloc, row)?;
-    let output = output_of(alloc, row, input.as_slice())?;
-    let wanted = output.as_slice();
-    asks(rt, alloc, &words, input, row.status, wanted, row.report)
+    let wanted = output_of(alloc, row, input.as_slice())?;
+    asks(
+        rt,
+        alloc,
+        row.words,
+        input,
+        row.status,
+        wanted.as_slice(),
+        row.report,
+    )
 }
 
 /// The same of each row.
-fn are_answered(rt: &impl Host, alloc: Global, rows: &[Row]) -> Result<(), Fail> {
+fn are_answered(
+    rt: &(impl Abort + Threads + Wait + Sync),
+    alloc: Global,
+    rows: &[Row],
+) -> Result<(), Fail> {
     for row in rows {
-        is_answered(rt, alloc, row, "")?;
+        is_answered(rt, alloc, row)?;
     }
     Ok(())
 }
 
 #[test]
 fn each_row_is_answered(rt: HostRuntime) -> Result<(), Fail> {
-    let alloc = rt.alloc();
-    are_answered(&rt, alloc, &ROWS)?;
-    are_answered(&rt, alloc, &CERTIFICATES)?;
-    are_answered(&rt, alloc, &BUFFERS)?;
-    are_answered(&rt, alloc, &LESSON)?;
-    are_answered(&rt, alloc, &GENERATED)?;
-    are_answered(&rt, alloc, &ELF_FILES)?;
-    are_answered(&rt, alloc, &RUNS)?;
-    are_answered(&rt, alloc, &REPLAYS)?;
-    are_answered(&rt, alloc, &STATES)?;
-    are_answered(&rt, alloc, &THINNED)?;
-    are_answered(&rt, alloc, &LONG_VECTORS)
+    are_answered(&rt, rt.alloc(), &ROWS)?;
+    are_answered(&rt, rt.alloc(), &CERTIFICATES)
 }
 
 #[test]
-fn each_log_is_replayed_or_refused_by_workers(rt: HostRuntime) -> Result<(), Fail> {
-    for row in &REPLAYS {
-        for threads in [" --threads 1", " --threads 2", " --threads 8"] {
-            is_answered(&rt, rt.alloc(), row, threads)?;
-        }
-    }
-    Ok(())
-}
-
-/// Makes the example's recording, prints it, and runs its image, and compares what is told.
-fn is_shown(rt: &impl Host, alloc: Global, example: &Example) -> Result<(), AllocError> {
-    let options = example.options;
-    let record = format!(in alloc; "record {options}")?;
-    let run = format!(in alloc; "run {options}")?;
-    let recording = bytes(alloc, example.recording)?;
-    let image = bytes(alloc, example.image)?;
-    gives(rt, alloc, &record, image.clone()?, recording.as_slice())?;
-    gives(rt, alloc, "print", recording, example.logs.as_bytes())?;
-    gives(rt, alloc, &run, image, example.state.as_bytes())
+fn each_recording_of_buffered_cores_is_replayed_or_refused(rt: HostRuntime) -> Result<(), Fail> {
+    are_answered(&rt, rt.alloc(), &BUFFERS)
 }
 
 #[test]
-fn each_example_is_recorded_printed_and_run(rt: HostRuntime) -> Result<(), Fail> {
-    for example in &EXAMPLES {
-        is_shown(&rt, rt.alloc(), example)?;
-    }
-    Ok(())
+fn each_example_and_each_step_of_the_lesson_is_answered(rt: HostRuntime) -> Result<(), Fail> {
+    are_answered(&rt, rt.alloc(), &EXAMPLES)?;
+    are_answered(&rt, rt.alloc(), &LESSON)
+}
+
+#[test]
+fn each_generated_image_and_each_elf_file_is_answered(rt: HostRuntime) -> Result<(), Fail> {
+    are_answered(&rt, rt.alloc(), &GENERATED)?;
+    are_answered(&rt, rt.alloc(), &ELF_FILES)
 }
 
 /// The options of a run of the lock by two cores.
@@ -85,7 +76,7 @@ const OPTIONS: &str = "--cores 2 --limit 100000 --words 128 --seed 7";
 
 /// What a command with these options makes of the image of a lock that each core takes 500 times.
 fn of_the_lock(
-    rt: &impl Host,
+    rt: &(impl Threads + Wait + Sync),
     alloc: Global,
     command: &str,
     more: &str,
@@ -103,7 +94,7 @@ fn a_lock_keeps_every_addition(rt: HostRuntime) -> Result<(), Fail> {
     assert!(rt; run.ends_with(b"mem 00000130 000003e8\n".as_slice()));
     for words in ["replay", "replay --log regulated"] {
         let made = of_the_lock(&rt, alloc, "record", "")?;
-        gives(&rt, alloc, words, made, run.as_slice())?;
+        asks(&rt, alloc, words, made, 0, run.as_slice(), "")?;
     }
     Ok(())
 }
@@ -115,7 +106,7 @@ fn a_lock_is_replayed_with_its_loads(rt: HostRuntime) -> Result<(), Fail> {
     let words = "replay --log regulated --loads";
     let run = of_the_lock(&rt, alloc, "run", " --loads")?;
     let made = of_the_lock(&rt, alloc, "record", "")?;
-    Ok(gives(&rt, alloc, words, made, run.as_slice())?)
+    Ok(asks(&rt, alloc, words, made, 0, run.as_slice(), "")?)
 }
 
 // A mix of four cores, each of which retires as many instructions as the program has: the soak of it comes to the
@@ -127,12 +118,12 @@ fn a_soak_of_the_mix_is_the_same_each_time(rt: HostRuntime) -> Result<(), Fail> 
     let first = ask(&rt, alloc, words, Vec::new(alloc))?.output;
     let wanted = b"shape mix number 3 cores 4\nretired 103208\n".as_slice();
     assert!(rt; first.starts_with(wanted));
-    Ok(gives(&rt, alloc, words, Vec::new(alloc), first.as_slice())?)
+    Ok(asks(&rt, alloc, words, Vec::new(alloc), 0, first.as_slice(), "")?)
 }
 
 /// Prints the first bytes of a recording, so many of them, and compares the part that is named.
 fn cut_names(
-    rt: &impl Host,
+    rt: &(impl Abort + Threads + Wait + Sync),
     alloc: Global,
     recording: &str,
     len: usize,
@@ -141,7 +132,7 @@ fn cut_names(
     let mut cut = bytes(alloc, recording)?;
     cut.truncate(len);
     let report = format!(in alloc; "rtr: bad input, part {part}\n")?;
-    refuses(rt, alloc, "print", cut, 3, &report)
+    asks(rt, alloc, "print", cut, 3, b"".as_slice(), &report)
 }
 
 #[test]
@@ -157,14 +148,48 @@ fn a_cut_names_the_part_that_it_cuts(rt: HostRuntime) -> Result<(), Fail> {
     Ok(())
 }
 
+/// Runs the row's image, and compares the text.
+fn leaves_its_text(
+    rt: &(impl Abort + Threads + Wait + Sync),
+    alloc: Global,
+    run: &Run,
+) -> Result<(), AllocError> {
+    let mut text = String::from_str(alloc, run.state)?;
+    text.push_str(run.loads)?;
+    asks(
+        rt,
+        alloc,
+        run.words,
+        bytes(alloc, run.image)?,
+        0,
+        text.as_bytes(),
+        "",
+    )
+}
+
+#[test]
+fn each_run_leaves_its_text(rt: HostRuntime) -> Result<(), Fail> {
+    for run in &RUNS {
+        leaves_its_text(&rt, rt.alloc(), run)?;
+    }
+    Ok(())
+}
+
 #[test]
 fn each_run_is_recorded_and_printed(rt: HostRuntime) -> Result<(), Fail> {
     let alloc = rt.alloc();
     for row in &RECORDINGS {
         let wanted = recording_of(alloc, row)?;
-        let image = bytes(alloc, row.image)?;
-        gives(&rt, alloc, row.words, image, wanted.as_slice())?;
-        gives(&rt, alloc, "print", wanted, row.text.as_bytes())?;
+        asks(
+            &rt,
+            alloc,
+            row.words,
+            bytes(alloc, row.image)?,
+            0,
+            wanted.as_slice(),
+            "",
+        )?;
+        asks(&rt, alloc, "print", wanted, 0, row.text.as_bytes(), "")?;
     }
     Ok(())
 }
@@ -187,25 +212,39 @@ fn both_versions_of_each_recording_say_the_same(rt: HostRuntime) -> Result<(), F
     for row in &RECORDINGS {
         let newest = recording_of(alloc, row)?;
         if let Some(oldest) = oldest_of(alloc, newest.as_slice())? {
-            gives(&rt, alloc, "print", oldest.clone()?, row.text.as_bytes())?;
-            gives(&rt, alloc, "migrate", oldest, newest.as_slice())?;
+            asks(
+                &rt,
+                alloc,
+                "print",
+                oldest.clone()?,
+                0,
+                row.text.as_bytes(),
+                "",
+            )?;
+            asks(&rt, alloc, "migrate", oldest, 0, newest.as_slice(), "")?;
         }
     }
     Ok(())
 }
 
 /// Replays the row's recording by either log, and compares the text with that of the run, loads included.
-fn replays_its_run(rt: &impl Host, alloc: Global, row: &Recorded) -> Result<(), AllocError> {
+fn replays_its_run(
+    rt: &(impl Abort + Threads + Wait + Sync),
+    alloc: Global,
+    row: &Recorded,
+) -> Result<(), AllocError> {
     let options = row.words.strip_prefix("record").unwrap_or("");
     let words = format!(in alloc; "run{options} --loads")?;
     let run = ask(rt, alloc, &words, bytes(alloc, row.image)?)?.output;
     for replays in ["replay --loads", "replay --log regulated --loads"] {
-        gives(
+        asks(
             rt,
             alloc,
             replays,
             recording_of(alloc, row)?,
+            0,
             run.as_slice(),
+            "",
         )?;
     }
     Ok(())
@@ -221,7 +260,7 @@ fn each_recording_replays_its_run(rt: HostRuntime) -> Result<(), Fail> {
 
 /// Makes of the row's recording what one command makes, and hands it to another, which is to accept it.
 fn is_accepted(
-    rt: &impl Host,
+    rt: &(impl Abort + Threads + Wait + Sync),
     alloc: Global,
     row: &Recorded,
     makes: &str,
@@ -243,11 +282,102 @@ fn each_recording_is_certified(rt: HostRuntime) -> Result<(), Fail> {
     Ok(())
 }
 
+/// The recording that a row replays.
+fn replayed(alloc: Global, row: &Replayed) -> Result<Vec<u8>, AllocError> {
+    let mut recording = bytes(alloc, row.header)?;
+    for piece in [row.image, row.logs] {
+        let piece = bytes(alloc, piece)?;
+        recording.extend_from_slice(piece.as_slice())?;
+    }
+    Ok(recording)
+}
+
+/// Asks what each row asks of its recording, with these words more, and compares the answer.
+fn are_replayed(
+    rt: &(impl Abort + Threads + Wait + Sync),
+    alloc: Global,
+    rows: &[Replayed],
+    more: &str,
+) -> Result<(), Fail> {
+    for row in rows {
+        let asked = row.words;
+        let words = format!(in alloc; "{asked}{more}")?;
+        asks(
+            rt,
+            alloc,
+            &words,
+            replayed(alloc, row)?,
+            row.status,
+            row.text.as_bytes(),
+            row.report,
+        )?;
+    }
+    Ok(())
+}
+
+#[test]
+fn each_log_is_replayed_or_refused(rt: HostRuntime) -> Result<(), Fail> {
+    are_replayed(&rt, rt.alloc(), &REPLAYS, "")
+}
+
+#[test]
+fn each_log_is_replayed_or_refused_by_workers(rt: HostRuntime) -> Result<(), Fail> {
+    are_replayed(&rt, rt.alloc(), &REPLAYS, " --threads 1")?;
+    are_replayed(&rt, rt.alloc(), &REPLAYS, " --threads 2")?;
+    are_replayed(&rt, rt.alloc(), &REPLAYS, " --threads 8")
+}
+
+#[test]
+fn each_state_at_an_instruction_is_told_or_refused(rt: HostRuntime) -> Result<(), Fail> {
+    are_replayed(&rt, rt.alloc(), &STATES, "")
+}
+
 #[test]
 fn words_that_mean_nothing_are_refused(rt: HostRuntime) -> Result<(), Fail> {
     let alloc = rt.alloc();
     for words in &FAULTY {
-        refuses(&rt, alloc, words, bytes(alloc, END)?, 1, "rtr: usage\n")?;
+        let image = bytes(alloc, "73000000")?;
+        asks(&rt, alloc, words, image, 1, b"".as_slice(), "rtr: usage\n")?;
+    }
+    Ok(())
+}
+
+/// The bytes of a recording of `READ_IN_TURN`: the pieces before and after the image; none where none stands before it.
+fn read_in_turn(alloc: Global, header: &str, logs: &str) -> Result<Vec<u8>, AllocError> {
+    let mut recording = bytes(alloc, header)?;
+    if !recording.is_empty() {
+        for piece in [READ_IN_TURN, logs] {
+            let piece = bytes(alloc, piece)?;
+            recording.extend_from_slice(piece.as_slice())?;
+        }
+    }
+    Ok(recording)
+}
+
+/// Asks what the row asks, and compares the answer.
+fn is_thinned(
+    rt: &(impl Abort + Threads + Wait + Sync),
+    alloc: Global,
+    row: &Thinned,
+) -> Result<(), AllocError> {
+    let mut wanted = read_in_turn(alloc, row.gives, row.left)?;
+    wanted.extend_from_slice(row.text.as_bytes())?;
+    let input = read_in_turn(alloc, row.header, row.logs)?;
+    asks(
+        rt,
+        alloc,
+        row.words,
+        input,
+        row.status,
+        wanted.as_slice(),
+        row.report,
+    )
+}
+
+#[test]
+fn each_log_is_thinned_or_refused(rt: HostRuntime) -> Result<(), Fail> {
+    for row in &THINNED {
+        is_thinned(&rt, rt.alloc(), row)?;
     }
     Ok(())
 }
@@ -257,18 +387,28 @@ fn words_that_mean_nothing_are_refused(rt: HostRuntime) -> Result<(), Fail> {
 fn a_thinned_log_replays_the_same(rt: HostRuntime) -> Result<(), Fail> {
     let alloc = rt.alloc();
     let words = "replay --log regulated --loads";
-    let whole = spelled(alloc, &[READ_IN_TURN_OLD, MORE])?;
-    let thinned = spelled(alloc, &[READ_IN_TURN_NEW, FEWER])?;
-    let before = ask(&rt, alloc, words, whole)?.output;
-    Ok(gives(&rt, alloc, words, thinned, before.as_slice())?)
+    let before = ask(&rt, alloc, words, read_in_turn(alloc, OLD, MORE)?)?.output;
+    let thinned = read_in_turn(alloc, NEW, FEWER)?;
+    Ok(asks(&rt, alloc, words, thinned, 0, before.as_slice(), "")?)
 }
 
 /// Thins the row's recording, and compares a replay by what is left with one by the reduced log.
-fn thins_and_replays(rt: &impl Host, alloc: Global, row: &Recorded) -> Result<(), AllocError> {
+fn thins_and_replays(
+    rt: &(impl Abort + Threads + Wait + Sync),
+    alloc: Global,
+    row: &Recorded,
+) -> Result<(), AllocError> {
     let run = ask(rt, alloc, "replay --loads", recording_of(alloc, row)?)?.output;
     let thinned = ask(rt, alloc, "thin", recording_of(alloc, row)?)?.output;
-    let words = "replay --log regulated --loads";
-    gives(rt, alloc, words, thinned, run.as_slice())
+    asks(
+        rt,
+        alloc,
+        "replay --log regulated --loads",
+        thinned,
+        0,
+        run.as_slice(),
+        "",
+    )
 }
 
 // Each recording has a thinning, whose certificate is accepted, and which replays the run.
@@ -300,7 +440,7 @@ fn each_of_4096_vectors_is_tried(rt: HostRuntime) -> Result<(), Fail> {
     let alloc = rt.alloc();
     let wanted = many_vectors(alloc, 4_096)?;
     let input = many_vectors(alloc, 4_096)?;
-    Ok(gives(&rt, alloc, "thin", input, wanted.as_slice())?)
+    Ok(asks(&rt, alloc, "thin", input, 0, wanted.as_slice(), "")?)
 }
 
 #[test]
@@ -308,5 +448,10 @@ fn one_vector_more_is_too_many(rt: HostRuntime) -> Result<(), Fail> {
     let alloc = rt.alloc();
     let report = "rtr: 4097 vectors with 4097 edges are too many\n";
     let input = many_vectors(alloc, 4_097)?;
-    Ok(refuses(&rt, alloc, "thin", input, 13, report)?)
+    Ok(asks(&rt, alloc, "thin", input, 13, b"".as_slice(), report)?)
+}
+
+#[test]
+fn a_vector_of_65536_edges_is_tried_and_of_one_more_not(rt: HostRuntime) -> Result<(), Fail> {
+    are_answered(&rt, rt.alloc(), &LONG_VECTORS)
 }

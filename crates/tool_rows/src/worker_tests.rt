@@ -1,17 +1,17 @@
 //! Replays on several threads, and a gate that sees whether two cores were worked at once.
 
 use crate::all_pairs::EACH_READS_ALL;
-use crate::calls::{Host, ask, ask_at, recording_of};
+use crate::calls::{ask, ask_at, bytes, recording_of};
 use crate::record_tables::RECORDINGS;
 use crate::run_tables::SUM;
 use log_codec::read;
 use replay_threads::Gate;
-use row_texts::bytes;
 use rtr_types::Instr;
 use std::alloc::Global;
+use std::sync::Wait;
 use std::sync::atomic::{AtomicU64, Ordering};
 use std::test::Fail;
-use std::thread;
+use std::thread::{self, Threads};
 
 /// How often a core looks for the other at the most.
 const LOOKS: u64 = 10_000_000;
@@ -128,7 +128,11 @@ fn no_worker_starts_where_the_log_goes_round(rt: HostRuntime) -> Result<(), Fail
 }
 
 /// Whether workers come to what one thread comes to: two by the reduced log, and eight by the regulated one.
-fn workers_agree(rt: &impl Host, alloc: Global, recording: Vec<u8>) -> Result<bool, Fail> {
+fn workers_agree<R: Threads + Wait + Sync>(
+    rt: &R,
+    alloc: Global,
+    recording: Vec<u8>,
+) -> Result<bool, Fail> {
     let alone = ask(rt, alloc, "replay --loads", recording.clone()?)?;
     let few = ask(rt, alloc, "replay --loads --threads 2", recording.clone()?)?;
     let many = ask(
