@@ -1,8 +1,10 @@
 -- How many lines of a cache wait, as one line after the other changes.
-use Rattle.std.proofs.Common.{arith, ◌≡◌, ◌∙◌, refl, sym, ap, ℕ, ◌+◌, ◌*◌, ◌<◌, ◌≤◌, Bool, true, false}
+use Rattle.std.proofs.Common.{arith, ◌≡◌, ◌∙◌, refl, sym, ap, ℕ, ◌+◌, ◌*◌, ◌%◌, ◌<◌, ◌≤◌, Bool, true, false}
 use Rattle.std.proofs.Common.{◌||◌, List, [], ◌∷◌, get_or, set, length, replicate}
 use Rattle.std.specs.Prelude.{nat_lt}
 use Rattle.std.specs.List.{sum_by}
+use Rattle.std.proofs.lemmas.List.{length-set}
+use Rattle.std.proofs.lemmas.Nat.{mod_below}
 use Rattle.std.proofs.lemmas.List.Sums.{sum_by-set, sum_by-cons}
 use Rattle.std.proofs.lemmas.List.Folds.{sum_by-replicate}
 use Rattle.msi_cache.specs.Table.{is_transient}
@@ -67,36 +69,45 @@ module _ {R : Type 0} where
       one_if (is_transient (get_or lines i was).state) ≡ one_if (is_transient was.state)
   one_was lines i was read = ap (λ (l : Line R). one_if (is_transient l.state)) (sym read)
 
+  -- ---- the line of a cache where some block goes
+
+  line_within : (lines : List (Line R)) (block : ℕ) → length lines ≡ LINES → block % LINES < length lines
+  line_within lines block whole =
+      let low : block % LINES < LINES = mod_below block LINES (omega arith) in
+      omega (arith, low, whole)
+
   -- no more wait than a cache has lines
-  pub few_of : (lines : List (Line R)) (waiting : ℕ) → length lines ≡ LINES → waiting ≡ how_many_wait lines →
+  pub few_of : (lines : List (Line R)) (waiting : ℕ) → (length lines ≡ LINES) × (waiting ≡ how_many_wait lines) →
       waiting ≤ LINES
-  few_of lines waiting whole counted = omega (arith, few_wait lines, whole, counted)
+  few_of lines waiting fits = omega (arith, few_wait lines, fits.0, fits.1)
 
-  -- a line that waited is one of the number
-  pub is_counted : (lines : List (Line R)) (i : ℕ) (was line : Line R) (waiting : ℕ) (waited waits : Bool) →
-      i < length lines → was ≡ get_or lines i was → waiting ≡ how_many_wait lines →
-      waited ≡ is_transient was.state → waits ≡ is_transient line.state →
-      one_if waited ≤ waiting + one_if waits
-  is_counted lines i was line waiting waited waits within read counted before after =
-      rw (before, after)
-      (omega (arith, another_line lines i line was within, one_was lines i was read, counted))
+  -- where it waits it is one of the number
+  pub counted_in : (lines : List (Line R)) (block : ℕ) (was : Line R) → length lines ≡ LINES →
+      one_if (is_transient (get_or lines (block % LINES) was).state) ≤ how_many_wait lines
+  counted_in lines block was whole =
+      let rest : how_many_wait (set lines (block % LINES) (empty_line was.rider))
+      + one_if (is_transient (get_or lines (block % LINES) was).state) ≡ how_many_wait lines + 0 =
+      another_line lines (block % LINES) (empty_line was.rider) was (line_within lines block whole) in
+      omega (arith, rest)
 
-  -- the number after a line
-  pub recounted : (lines : List (Line R)) (i : ℕ) (was line : Line R) (waiting result : ℕ) (waited waits : Bool) →
-      i < length lines → was ≡ get_or lines i was → waiting ≡ how_many_wait lines →
+  -- the number after it heard a message
+  pub recounted : (lines : List (Line R)) (block : ℕ) (was line : Line R) (waiting result : ℕ) (waited waits : Bool) →
+      (length lines ≡ LINES) × (waiting ≡ how_many_wait lines) → was ≡ get_or lines (block % LINES) was →
       waited ≡ is_transient was.state → waits ≡ is_transient line.state →
       result + one_if waited ≡ waiting + one_if waits →
-      result ≡ how_many_wait (set lines i line)
-  recounted lines i was line waiting result waited waits within read counted before after sums =
-      omega (
-        arith,
-        another_line lines i line was within,
-        one_was lines i was read,
-        counted,
-        sums,
-        ap one_if before,
-        ap one_if after,
-      )
+      (length (set lines (block % LINES) line) ≡ LINES) × (result ≡ how_many_wait (set lines (block % LINES) line))
+  recounted lines block was line waiting result waited waits fits read before after sums = (
+    length-set lines (block % LINES) line ∙ fits.0,
+    omega (
+      arith,
+      another_line lines (block % LINES) line was (line_within lines block fits.0),
+      one_was lines (block % LINES) was read,
+      fits.1,
+      sums,
+      ap one_if before,
+      ap one_if after,
+    ),
+  )
 
   -- a line that is in the state in which it was
   pub same_state : (lines : List (Line R)) (i : ℕ) (was line : Line R) (waiting : ℕ) → i < length lines →
@@ -118,3 +129,6 @@ module _ {R : Type 0} where
       ≡ how_many_wait lines + 0 =
       another_line lines i (empty_line d.rider) d within in
       omega (arith, another_line lines i line d within, none, one, was)
+
+-- what is known of the number before one line hears a message
+pub ruleset counted_before = (few_of, counted_in)

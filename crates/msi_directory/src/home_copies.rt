@@ -1,5 +1,5 @@
 //! The home's own copy of a block, and the table's rows on it and on the block's stage.
-ghost use Rattle.std.specs.Prelude.{◌≡◌, ◌<◌, IsTrue, Some, is_some};
+ghost use Rattle.std.specs.Prelude.{◌≡◌, ◌<◌, IsTrue, Some, if◌then◌else◌, is_some};
 ghost use Rattle.msi_cache.specs.Messages.{request_seen};
 ghost use Rattle.msi_cache.specs.Table.{Ask, Reply};
 ghost use Rattle.msi_cache.specs.declared.messages.FromHome.{FromHome};
@@ -10,6 +10,7 @@ ghost use Rattle.msi_directory.specs.Entries.{entry_met, has_request_row, has_re
 ghost use Rattle.msi_directory.specs.Fitting.{stage_fits};
 ghost use Rattle.msi_directory.specs.Kept.{entry_of};
 ghost use Rattle.msi_directory.specs.Table.{own_from, request_row, response_row};
+ghost use Rattle.msi_directory.specs.declared.entry.Stage.TheVariants.{Data};
 ghost use Rattle.rtr_types.specs.CoreSets.{no_cores};
 
 use crate::entry::{HomeAnswer, Stage};
@@ -24,6 +25,13 @@ use std::mem;
 pub(crate) struct HomeCopy<R> {
     pub(crate) words: [u32; BLOCK_WORDS],
     pub(crate) rider: Held<R>,
+}
+
+/// Which core sent a message, and the block that it is about.
+#[derive(Clone, Copy)]
+struct About {
+    from: u8,
+    block: u32,
 }
 
 // Each row of the table, on a block's stage and copy. An answer has no rider: that of data which are sent is put in
@@ -45,8 +53,8 @@ impl<R: Rider> HomeCopy<R> {
             ≡ answer_to_request R.riding.absorbed (entry_of stage.old self.old) from (request_seen request.entry) }
     {
         match request {
-            Request::GetS { block } => self.get_shared(stage, from, block, hand),
-            Request::GetM { block } => self.get_owned(stage, from, block, hand),
+            Request::GetS { block } => self.get_shared(stage, About { from, block }, hand),
+            Request::GetM { block } => self.get_owned(stage, About { from, block }, hand),
             Request::PutS { block, rider } => self.put_shared(stage, from, block, rider),
             Request::PutM {
                 block,
@@ -79,80 +87,56 @@ impl<R: Rider> HomeCopy<R> {
                 rider: reads,
             } => {
                 self.rider.absorb(reads);
-                self.acknowledge(stage, from, block, hand)
+                self.acknowledge(stage, About { from, block }, hand)
             }
             Response::OwnerData { block, .. } => {
                 response.hand_over(&mut self.words, &mut self.rider);
-                self.hand_over(stage, from, block, hand)
+                self.hand_over(stage, About { from, block }, hand)
             }
         }
     }
 
     /// A core wants to share the block.
-    fn get_shared(
-        &mut self,
-        stage: &mut Stage,
-        from: u8,
-        block: u32,
-        hand: &mut Held<R>,
-    ) -> HomeAnswer<()>
-        requires from { from < CORES_MAX }
-        requires row { IsTrue (is_some (request_row stage.old from Ask.GetS)) }
+    fn get_shared(&mut self, stage: &mut Stage, about: About, hand: &mut Held<R>) -> HomeAnswer<()>
+        requires from { about.from < CORES_MAX }
+        requires row { IsTrue (is_some (request_row stage.old about.from Ask.GetS)) }
         ensures entry { entry_of stage.new self.new
-            ≡ entry_after_request R.riding (entry_of stage.old self.old) from (Request.GetS block) }
+            ≡ entry_after_request R.riding (entry_of stage.old self.old) about.from (Request.GetS about.block) }
         ensures answer { answer_riding hand.new result
-            ≡ answer_to_request R.riding.absorbed (entry_of stage.old self.old) from (Request.GetS block) }
+            ≡ answer_to_request R.riding.absorbed (entry_of stage.old self.old) about.from (Request.GetS about.block) }
     {
         match *stage {
-            Stage::Owned { owner } => {
-                *stage = Stage::Data {
-                    of: owner,
-                    requester: from,
-                    share: true,
-                };
-                HomeAnswer::one(owner, FromHome::FwdGetS { block })
-            }
+            Stage::Owned { owner } => ask_owner(stage, owner, about, true),
             Stage::Shared { by } => {
-                *stage = Stage::Shared { by: by.with(from) };
-                self.lend(from, block, hand)
+                *stage = Stage::Shared {
+                    by: by.with(about.from),
+                };
+                self.lend(about.from, about.block, hand)
             }
             _ => {
                 *stage = Stage::Shared {
-                    by: CoreSet::empty().with(from),
+                    by: CoreSet::empty().with(about.from),
                 };
-                self.lend(from, block, hand)
+                self.lend(about.from, about.block, hand)
             }
         }
     }
 
     /// A core wants to own the block.
-    fn get_owned(
-        &mut self,
-        stage: &mut Stage,
-        from: u8,
-        block: u32,
-        hand: &mut Held<R>,
-    ) -> HomeAnswer<()>
-        requires from { from < CORES_MAX }
-        requires row { IsTrue (is_some (request_row stage.old from Ask.GetM)) }
+    fn get_owned(&mut self, stage: &mut Stage, about: About, hand: &mut Held<R>) -> HomeAnswer<()>
+        requires from { about.from < CORES_MAX }
+        requires row { IsTrue (is_some (request_row stage.old about.from Ask.GetM)) }
         ensures entry { entry_of stage.new self.new
-            ≡ entry_after_request R.riding (entry_of stage.old self.old) from (Request.GetM block) }
+            ≡ entry_after_request R.riding (entry_of stage.old self.old) about.from (Request.GetM about.block) }
         ensures answer { answer_riding hand.new result
-            ≡ answer_to_request R.riding.absorbed (entry_of stage.old self.old) from (Request.GetM block) }
+            ≡ answer_to_request R.riding.absorbed (entry_of stage.old self.old) about.from (Request.GetM about.block) }
     {
         match *stage {
-            Stage::Owned { owner } => {
-                *stage = Stage::Data {
-                    of: owner,
-                    requester: from,
-                    share: false,
-                };
-                HomeAnswer::one(owner, FromHome::FwdGetM { block })
-            }
-            Stage::Shared { by } => self.take_from(stage, by.without(from), from, block, hand),
+            Stage::Owned { owner } => ask_owner(stage, owner, about, false),
+            Stage::Shared { by } => self.take_from(stage, by.without(about.from), about, hand),
             _ => {
-                *stage = Stage::Owned { owner: from };
-                self.give(from, block, hand)
+                *stage = Stage::Owned { owner: about.from };
+                self.give(about.from, about.block, hand)
             }
         }
     }
@@ -162,23 +146,22 @@ impl<R: Rider> HomeCopy<R> {
         &mut self,
         stage: &mut Stage,
         others: CoreSet,
-        requester: u8,
-        block: u32,
+        about: About,
         hand: &mut Held<R>,
     ) -> HomeAnswer<()>
-        ensures entry { entry_of stage.new self.new ≡ entry_by R.riding (own_from others requester)
+        ensures entry { entry_of stage.new self.new ≡ entry_by R.riding (own_from others about.from)
             (entry_of stage.old self.old) self.old.words self.old.rider }
-        ensures answer { answer_riding hand.new result ≡ answer_by (own_from others requester) block
-            (entry_met R.riding.absorbed (own_from others requester) (entry_of stage.old self.old) self.old.words
+        ensures answer { answer_riding hand.new result ≡ answer_by (own_from others about.from) about.block
+            (entry_met R.riding.absorbed (own_from others about.from) (entry_of stage.old self.old) self.old.words
             self.old.rider) }
     {
         if others.is_empty() {
-            *stage = Stage::Owned { owner: requester };
-            return self.give(requester, block, hand);
+            *stage = Stage::Owned { owner: about.from };
+            return self.give(about.from, about.block, hand);
         }
         *stage = Stage::Acks {
             of: others,
-            requester,
+            requester: about.from,
         };
         HomeAnswer {
             invalidate: others,
@@ -240,29 +223,24 @@ impl<R: Rider> HomeCopy<R> {
     }
 
     /// A core has given up its shared copy. At the last one the requester owns the block.
-    fn acknowledge(
-        &mut self,
-        stage: &mut Stage,
-        from: u8,
-        block: u32,
-        hand: &mut Held<R>,
-    ) -> HomeAnswer<()>
-        requires from { from < CORES_MAX }
-        requires row { IsTrue (is_some (response_row stage.old from Reply.InvAck)) }
+    fn acknowledge(&mut self, stage: &mut Stage, about: About, hand: &mut Held<R>) -> HomeAnswer<()>
+        requires from { about.from < CORES_MAX }
+        requires row { IsTrue (is_some (response_row stage.old about.from Reply.InvAck)) }
         ensures entry { entry_of stage.new self.new ≡ entry_left R.riding.fresh
-            (response_row stage.old from Reply.InvAck) (entry_met (λ old other. old)
-            (response_row stage.old from Reply.InvAck) (entry_of stage.old self.old) self.old.words self.old.rider) }
-        ensures answer { answer_riding hand.new result ≡ answer_by (response_row stage.old from Reply.InvAck) block
-            (entry_met (λ old other. old) (response_row stage.old from Reply.InvAck) (entry_of stage.old self.old)
-            self.old.words self.old.rider) }
+            (response_row stage.old about.from Reply.InvAck) (entry_met (λ old other. old)
+            (response_row stage.old about.from Reply.InvAck) (entry_of stage.old self.old) self.old.words
+            self.old.rider) }
+        ensures answer { answer_riding hand.new result ≡ answer_by (response_row stage.old about.from Reply.InvAck)
+            about.block (entry_met (λ old other. old) (response_row stage.old about.from Reply.InvAck)
+            (entry_of stage.old self.old) self.old.words self.old.rider) }
     {
         let Stage::Acks { of, requester } = *stage else {
             return HomeAnswer::nothing();
         };
-        let left = of.without(from);
+        let left = of.without(about.from);
         if left.is_empty() {
             *stage = Stage::Owned { owner: requester };
-            return self.give(requester, block, hand);
+            return self.give(requester, about.block, hand);
         }
         *stage = Stage::Acks {
             of: left,
@@ -272,23 +250,17 @@ impl<R: Rider> HomeCopy<R> {
     }
 
     /// The owner has given its data, which the entry has by now. The requester gets the block.
-    fn hand_over(
-        &mut self,
-        stage: &mut Stage,
-        from: u8,
-        block: u32,
-        hand: &mut Held<R>,
-    ) -> HomeAnswer<()>
-        requires from { from < CORES_MAX }
+    fn hand_over(&mut self, stage: &mut Stage, about: About, hand: &mut Held<R>) -> HomeAnswer<()>
+        requires from { about.from < CORES_MAX }
         requires fits { IsTrue (stage_fits stage.old) }
-        requires row { IsTrue (is_some (response_row stage.old from Reply.OwnerData)) }
+        requires row { IsTrue (is_some (response_row stage.old about.from Reply.OwnerData)) }
         ensures entry { entry_of stage.new self.new ≡ entry_left R.riding.fresh
-            (response_row stage.old from Reply.OwnerData) (entry_met (λ old other. old)
-            (response_row stage.old from Reply.OwnerData) (entry_of stage.old self.old) self.old.words
+            (response_row stage.old about.from Reply.OwnerData) (entry_met (λ old other. old)
+            (response_row stage.old about.from Reply.OwnerData) (entry_of stage.old self.old) self.old.words
             self.old.rider) }
-        ensures answer { answer_riding hand.new result ≡ answer_by (response_row stage.old from Reply.OwnerData) block
-            (entry_met (λ old other. old) (response_row stage.old from Reply.OwnerData) (entry_of stage.old self.old)
-            self.old.words self.old.rider) }
+        ensures answer { answer_riding hand.new result ≡ answer_by (response_row stage.old about.from Reply.OwnerData)
+            about.block (entry_met (λ old other. old) (response_row stage.old about.from Reply.OwnerData)
+            (entry_of stage.old self.old) self.old.words self.old.rider) }
     {
         let Stage::Data {
             requester,
@@ -300,12 +272,12 @@ impl<R: Rider> HomeCopy<R> {
         };
         if share {
             *stage = Stage::Shared {
-                by: CoreSet::empty().with(from).with(requester),
+                by: CoreSet::empty().with(about.from).with(requester),
             };
-            return self.lend(requester, block, hand);
+            return self.lend(requester, about.block, hand);
         }
         *stage = Stage::Owned { owner: requester };
-        self.give(requester, block, hand)
+        self.give(requester, about.block, hand)
     }
 
     /// Sends the home's copy, as it is now, to a core that is to own the block. The rider goes with it: nothing rides
@@ -344,5 +316,26 @@ impl<R: Rider> HomeCopy<R> {
                 rider: (),
             },
         )
+    }
+}
+
+/// The owner is to send its copy, which the core is to share with it, or to own.
+fn ask_owner(stage: &mut Stage, owner: u8, about: About, share: bool) -> HomeAnswer<()>
+    ensures stage { stage.new ≡ Data owner about.from share }
+    ensures answer { result ≡ record {
+      invalidate = no_cores;
+      send = Some (owner, if share then FromHome.FwdGetS about.block else FromHome.FwdGetM about.block);
+    } }
+{
+    let About { from, block } = about;
+    *stage = Stage::Data {
+        of: owner,
+        requester: from,
+        share,
+    };
+    if share {
+        HomeAnswer::one(owner, FromHome::FwdGetS { block })
+    } else {
+        HomeAnswer::one(owner, FromHome::FwdGetM { block })
     }
 }

@@ -143,7 +143,8 @@ module _ {R K : Type 0} where
 module _ {R K : Type 0} where
   -- ---- what a core does at its port can be done
 
-  pub retire_can : (riding : Riding R) (carrying : Carrying K) (m : Memory R K) (c : ℕ) (at : Instr) → c < length m.ports →
+  pub retire_can : (riding : Riding R) (carrying : Carrying K) (m : Memory R K) (c : ℕ) (at : Instr) →
+      c < length m.ports →
       IsTrue (can_all riding carrying m (Retire c at ∷ []))
   retire_can riding carrying m c at within =
       both_true (nat_lt c (length m.ports) && true) true

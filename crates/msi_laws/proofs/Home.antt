@@ -131,8 +131,8 @@ module _ {R K : Type 0} where
           (if u then sight_answered t.answer t.block d (pop b (d == c) (old_sight b d)) else old_sight b d)
           ≡ port_sight riding b (port_at carrying new.ports d)
       within b d ld u is = sym (sight-taken riding carrying m c t (pop b) b d lc ld sends (stays b) (left b)
-          ∙ ap (λ (u : Bool). if u then sight_answered t.answer t.block d (pop b (d == c) (old_sight b d)) else old_sight
-          b d) is)
+          ∙ ap (λ (u : Bool).
+          if u then sight_answered t.answer t.block d (pop b (d == c) (old_sight b d)) else old_sight b d) is)
 
       here : Shows (Q t.block) t.block (entry_at riding.fresh new.home t.block) (λ d. port_sight riding t.block
           (port_at carrying new.ports d))

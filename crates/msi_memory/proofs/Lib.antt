@@ -1,4 +1,5 @@
 pub mod Asking
+pub mod HomeTurns
 pub mod LinkRooms
 pub mod Roomy
 pub mod Served

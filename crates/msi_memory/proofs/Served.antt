@@ -1,7 +1,7 @@
 -- What the home answers goes to cores that are there, whose links have room, and is what the step delivers.
 use Rattle.std.proofs.Common.{arith, ◌≡◌, ◌∙◌, refl, sym, ap, subst, ℕ, ◌<◌, ◌==◌, ◌&&◌, Bool, true, false, IsTrue}
-use Rattle.std.proofs.Common.{Option, Some, None, List, ◌∷◌, ◌++◌, length}
-use Rattle.std.proofs.Common.{drop, inl, inr, take}
+use Rattle.std.proofs.Common.{Option, Some, None, List, ◌++◌, length}
+use Rattle.std.proofs.Common.{inl, inr, take}
 use Rattle.std.specs.Prelude.{if◌then◌else◌, nat_lt, slice_set, All}
 use Rattle.std.specs.Option.{IfSome}
 use Rattle.std.proofs.lemmas.Bool.{cases_eq}
@@ -18,10 +18,10 @@ use Rattle.msi_cache.specs.Messages.{ask_of, reply_of, request_block, response_b
 use Rattle.msi_cache.specs.declared.messages.FromHome.{FromHome}
 use Rattle.msi_cache.specs.declared.messages.Request.{Request}
 use Rattle.msi_cache.specs.declared.messages.Response.{Response}
-use Rattle.msi_directory.specs.Blocks.{Blocks, no_entry, entry_at, entries_after_request, entries_after_response}
-use Rattle.msi_directory.specs.Entries.{answer_by, answer_to_request, answer_to_response, entry_after_request}
-use Rattle.msi_directory.specs.Entries.{entry_after_response, entry_for_request, entry_for_response}
-use Rattle.msi_directory.specs.Entries.{has_request_row, has_response_row, sent}
+use Rattle.msi_directory.specs.Blocks.{no_entry, entry_at}
+use Rattle.msi_directory.specs.Entries.{answer_by, answer_to_request, answer_to_response}
+use Rattle.msi_directory.specs.Entries.{entry_for_request, entry_for_response}
+use Rattle.msi_directory.specs.Entries.{sent}
 use Rattle.msi_directory.specs.Table.{Send, NoMessage, HomeRow, is_free, request_row, response_row}
 use Rattle.msi_directory.specs.declared.entry.Stage.TheVariants.{Unshared, Shared, Owned, Acks, Data}
 use Rattle.msi_directory.specs.declared.entry.Stage.{Stage}
@@ -29,11 +29,9 @@ use Rattle.msi_directory.specs.declared.entry.Entry.{Entry}
 use Rattle.msi_directory.specs.declared.entry.HomeAnswer.{HomeAnswer}
 use Rattle.msi_memory.specs.declared.port.Mail.{Mail}
 use Rattle.msi_memory.specs.declared.port.Port.{Port}
-use Rattle.msi_memory.specs.Rests.{HasRoomTo, can_request_in, can_respond_in, names_below}
-use Rattle.msi_memory.specs.Heads.{OfHead}
+use Rattle.msi_memory.specs.Rests.{HasRoomTo, names_below}
 use Rattle.msi_memory.specs.Memories.{Memory, no_port, port_at}
-use Rattle.msi_memory.specs.Acts.{delivered, port_requested, port_responded, take_request, take_request_in}
-use Rattle.msi_memory.specs.Acts.{take_response, take_response_in}
+use Rattle.msi_memory.specs.Acts.{delivered}
 
 -- what is sent goes to one of the first n cores
 abbrev send_below : Send → ℕ → Bool
@@ -60,7 +58,7 @@ is_below c n h = grind (arith, nat_tests)
 pub take_front : {X : Type 0} (n : ℕ) (front rest : List X) → n ≡ length front → take n (front ++ rest) ≡ front
 take_front n front rest is = rw is (take-append_seam front rest)
 
-below : (a b : ℕ) (more : Bool) → IsTrue (nat_lt a b && more) → a < b
+pub below : (a b : ℕ) (more : Bool) → IsTrue (nat_lt a b && more) → a < b
 below a b more h = grind (arith, nat_tests)
 
 request_below : (stage : Stage) (c : ℕ) (ask : Ask) (n : ℕ) → c < n → IsTrue (names_below stage n) →
@@ -86,11 +84,7 @@ response_below (Acks «of» requester) c Reply.InvAck n names =
     chosen n (has «of» c) _ _ (chosen n (is_none (without_core «of» c)) _ _ names refl) refl
 response_below (Data «of» requester share) c Reply.OwnerData n names =
     chosen n (c == «of») _ _ (second_true (nat_lt «of» n) (nat_lt requester n) names) refl
-response_below Unshared c reply n names = refl
-response_below (Shared by) c reply n names = refl
-response_below (Owned owner) c reply n names = refl
-response_below (Acks «of» requester) c Reply.OwnerData n names = refl
-response_below (Data «of» requester share) c Reply.InvAck n names = refl
+response_below _ c reply n names = refl
 
 module _ {R : Type 0} where
   sent_below : (send : Send) (block : ℕ) (e : Entry R) (n : ℕ) → IsTrue (send_below send n) →
@@ -112,55 +106,33 @@ module _ {R : Type 0} where
   names_at fresh home n block names within = All-get_or (λ (x : Entry R). IsTrue (names_below x.stage n)) home block
       (no_entry fresh) within names
 
-  pub request_named : (riding : Riding R) (home : List (Entry R)) (n c : ℕ) (request : Request R)
-      (answer : HomeAnswer R) →
+  pub request_named : (riding : Riding R) (home : List (Entry R)) (n c : ℕ) (request : Request R) →
       All (λ x. IsTrue (names_below x.stage n)) home → request_block request < length home → c < n →
-      answer ≡ answer_to_request riding.absorbed (entry_at riding.fresh home (request_block request)) c request →
-      IfSome answer.send (λ s. s.0 < n)
-  request_named riding home n c request answer names within h is =
+      IfSome (answer_to_request riding.absorbed (entry_at riding.fresh home (request_block request)) c request).send
+      (λ s. s.0 < n)
+  request_named riding home n c request names within h =
       let e : Entry R = entry_at riding.fresh home (request_block request) in
-      subst (λ (a : HomeAnswer R). IfSome a.send (λ s. s.0 < n)) (sym is)
-      (answer_below (request_row e.stage c (ask_of request)) (request_block request)
+      answer_below (request_row e.stage c (ask_of request)) (request_block request)
       (entry_for_request riding.absorbed e c request) n
-      (request_below e.stage c (ask_of request) n h (names_at riding.fresh home n (request_block request) names
-      within)))
+      (request_below e.stage c (ask_of request) n h (names_at riding.fresh home n (request_block request) names within))
 
-  pub response_named : (riding : Riding R) (home : List (Entry R)) (n c : ℕ) (response : Response R)
-      (answer : HomeAnswer R) →
+  pub response_named : (riding : Riding R) (home : List (Entry R)) (n c : ℕ) (response : Response R) →
       All (λ x. IsTrue (names_below x.stage n)) home → response_block response < length home →
-      answer ≡ answer_to_response riding.absorbed (entry_at riding.fresh home (response_block response)) c response →
-      IfSome answer.send (λ s. s.0 < n)
-  response_named riding home n c response answer names within is =
+      IfSome (answer_to_response riding.absorbed (entry_at riding.fresh home (response_block response)) c response).send
+      (λ s. s.0 < n)
+  response_named riding home n c response names within =
       let e : Entry R = entry_at riding.fresh home (response_block response) in
-      subst (λ (a : HomeAnswer R). IfSome a.send (λ s. s.0 < n)) (sym is)
-      (answer_below (response_row e.stage c (reply_of response)) (response_block response)
+      answer_below (response_row e.stage c (reply_of response)) (response_block response)
       (entry_for_response riding.absorbed e c response) n
       (response_below e.stage c (reply_of response) n (names_at riding.fresh home n (response_block response) names
-      within)))
+      within))
 
-module _ {R : Type 0} (riding : Riding R) (old : Blocks R) (c : ℕ) where
   -- whether the block is free then is whether its new stage is
-  pub request_frees : (block : ℕ) (request : Request R) (home : List (Entry R)) (free : Bool) →
-      request_block request < length old.entries →
-      block ≡ request_block request → home ≡ entries_after_request riding old.entries c request →
-      free ≡ is_free (entry_after_request riding (entry_at riding.fresh old.entries (request_block request)) c
-      request).stage →
-      free ≡ is_free (entry_at riding.fresh home block).stage
-  request_frees block request home free within about kept is =
-      let e : Entry R = entry_after_request riding (entry_at riding.fresh old.entries (request_block request))
-      c request in
-      rw (about, kept, get_or-set_same old.entries (request_block request) e (no_entry riding.fresh) within) is
-
-  pub response_frees : (block : ℕ) (response : Response R) (home : List (Entry R)) (free : Bool) →
-      response_block response < length old.entries →
-      block ≡ response_block response → home ≡ entries_after_response riding old.entries c response →
-      free ≡ is_free (entry_after_response riding (entry_at riding.fresh old.entries (response_block response))
-      c response).stage →
-      free ≡ is_free (entry_at riding.fresh home block).stage
-  response_frees block response home free within about kept is =
-      let e : Entry R = entry_after_response riding (entry_at riding.fresh old.entries
-      (response_block response)) c response in
-      rw (about, kept, get_or-set_same old.entries (response_block response) e (no_entry riding.fresh) within) is
+  pub frees : (fresh : R) (entries home : List (Entry R)) (at block : ℕ) (e : Entry R) (free : Bool) →
+      at < length entries → block ≡ at → home ≡ slice_set entries at e → free ≡ is_free e.stage →
+      free ≡ is_free (entry_at fresh home block).stage
+  frees fresh entries home at block e free within about kept is =
+      rw (about, kept, get_or-set_same entries at e (no_entry fresh) within) is
 
 module _ {R K : Type 0} where
   messages_kept : (carrying : Carrying K) (ports : List (Port R K)) (c d : ℕ) (port : Port R K) → d < length ports →
@@ -189,98 +161,19 @@ module _ {R K : Type 0} where
       ∙ messages_kept carrying ports c d port there same in
       subst (λ (q : Queue (Mail (FromHome R) K)). length q.items < q.room) (sym messages) (rooms d there heard)
 
-  -- what the home does with the head of core c's requests, and the delivery of its answer, are the step
-  pub request_delivered : (riding : Riding R) (carrying : Carrying K) (m : Memory R K) (c block : ℕ)
-      (mail : Mail (Request R) K)
-      (rest : List (Mail (Request R) K)) (answer : HomeAnswer R) (carry : K) (ports : List (Port R K))
-      (home : List (Entry R)) →
-      (port_at carrying m.ports c).requests.items ≡ mail ∷ rest → block ≡ request_block mail.item →
-      carry ≡ carrying.joined m.carry mail.carry →
-      answer ≡ answer_to_request riding.absorbed (entry_at riding.fresh m.home (request_block mail.item)) c mail.item →
-      ports ≡ slice_set m.ports c (port_requested (port_at carrying m.ports c) rest) →
-      home ≡ entries_after_request riding m.home c mail.item →
-      record { ports = delivered carrying answer block carry ports; home = home; carry = carry } ≡ take_request riding
-      carrying m c
-  request_delivered riding carrying m c block mail rest answer carry ports home head at joined answered taken kept =
-      rw (answered, at, joined, taken, kept) (ap (λ (items : List (Mail (Request R) K)). take_request_in items riding
-      carrying m c) (sym head))
+  -- the memory system whose parts are these
+  pub same_memory : (carrying : Carrying K) (ports taken : List (Port R K)) (answer said : HomeAnswer R)
+      (block about : ℕ) (carry joined : K) (home kept : List (Entry R)) →
+      ports ≡ taken → answer ≡ said → block ≡ about → carry ≡ joined → home ≡ kept →
+      ◌≡◌ {A = Memory R K}
+      (record { ports = delivered carrying answer block carry ports; home = home; carry = carry })
+      (record { ports = delivered carrying said about joined taken; home = kept; carry = joined })
+  same_memory carrying ports taken answer said block about carry joined home kept at answered is with_its put =
+      rw (at, answered, is, with_its, put) refl
 
-  pub response_delivered : (riding : Riding R) (carrying : Carrying K) (m : Memory R K) (c block : ℕ)
-      (mail : Mail (Response R) K)
-      (rest : List (Mail (Response R) K)) (answer : HomeAnswer R) (carry : K) (ports : List (Port R K))
-      (home : List (Entry R)) →
-      (port_at carrying m.ports c).responses.items ≡ mail ∷ rest → block ≡ response_block mail.item →
-      carry ≡ carrying.joined m.carry mail.carry →
-      answer ≡ answer_to_response riding.absorbed (entry_at riding.fresh m.home (response_block mail.item)) c
-      mail.item →
-      ports ≡ slice_set m.ports c (port_responded (port_at carrying m.ports c) rest) →
-      home ≡ entries_after_response riding m.home c mail.item →
-      record { ports = delivered carrying answer block carry ports; home = home; carry = carry } ≡ take_response riding
-      carrying m c
-  response_delivered riding carrying m c block mail rest answer carry ports home head at joined answered taken kept =
-      rw (answered, at, joined, taken, kept) (ap (λ (items : List (Mail (Response R) K)). take_response_in items riding
-      carrying m c) (sym head))
-
-  -- the port whose link lost its oldest request
-  pub request_taken : (port : Port R K) (link : Queue (Mail (Request R) K)) → link.room ≡ port.requests.room →
-      link.items ≡ drop 1 port.requests.items →
-      record port { requests = link } ≡ port_requested port (drop 1 port.requests.items)
-  request_taken port link room items =
-      ap (λ (n : ℕ). record port { requests = record { room = n; items = link.items } }) room
-      ∙ ap (λ (xs : List (Mail (Request R) K)). record port {
-        requests = record {
-          room = port.requests.room;
-          items =
-              xs;
-        };
-      }) items
-
-  pub response_taken : (port : Port R K) (link : Queue (Mail (Response R) K)) → link.room ≡ port.responses.room →
-      link.items ≡ drop 1 port.responses.items →
-      record port { responses = link } ≡ port_responded port (drop 1 port.responses.items)
-  response_taken port link room items =
-      ap (λ (n : ℕ). record port { responses = record { room = n; items = link.items } }) room
-      ∙ ap (λ (xs : List (Mail (Response R) K)). record port {
-        responses = record {
-          room = port.responses.room;
-          items =
-              xs;
-        };
-      }) items
-
-  -- the block of a request that the home has a row for is one of the memory's
-  pub request_within : (riding : Riding R) (m : Memory R K) (c : ℕ) (items : List (Mail (Request R) K))
-      (mail : Mail (Request R) K)
-      (rest : List (Mail (Request R) K)) → items ≡ mail ∷ rest → IsTrue (can_request_in items riding m c) →
-      request_block mail.item < length m.home
-  request_within riding m c items mail rest head row =
-      below (request_block mail.item) (length m.home)
-      (has_request_row (entry_at riding.fresh m.home (request_block mail.item)).stage c mail.item)
-      (subst (λ (xs : List (Mail (Request R) K)). IsTrue (can_request_in xs riding m c)) head row)
-
-  pub response_within : (riding : Riding R) (m : Memory R K) (c : ℕ) (items : List (Mail (Response R) K))
-      (mail : Mail (Response R) K)
-      (rest : List (Mail (Response R) K)) → items ≡ mail ∷ rest → IsTrue (can_respond_in items riding m c) →
-      response_block mail.item < length m.home
-  response_within riding m c items mail rest head row =
-      below (response_block mail.item) (length m.home)
-      (has_response_row (entry_at riding.fresh m.home (response_block mail.item)).stage c mail.item)
-      (subst (λ (xs : List (Mail (Response R) K)). IsTrue (can_respond_in xs riding m c)) head row)
-
-  pub response_rowed : (riding : Riding R) (m : Memory R K) (c : ℕ) (items : List (Mail (Response R) K))
-      (mail : Mail (Response R) K)
-      (rest : List (Mail (Response R) K)) → items ≡ mail ∷ rest → IsTrue (can_respond_in items riding m c) →
-      IsTrue (has_response_row (entry_at riding.fresh m.home (response_block mail.item)).stage c mail.item)
-  response_rowed riding m c items mail rest head row =
-      second_true (nat_lt (response_block mail.item) (length m.home))
-      (has_response_row (entry_at riding.fresh m.home (response_block mail.item)).stage c mail.item)
-      (subst (λ (xs : List (Mail (Response R) K)). IsTrue (can_respond_in xs riding m c)) head row)
-
-module _ {T K : Type 0} (items : List (Mail T K)) (mail : Mail T K) (rest : List (Mail T K))
-    (head : items ≡ mail ∷ rest) (holds : T → Type 0) where
-  -- what holds of the oldest message
-  pub of_head : OfHead items holds → holds mail.item
-  of_head is = subst (λ (xs : List (Mail T K)). OfHead xs holds) head is
-
-  pub for_head : holds mail.item → OfHead items holds
-  for_head is = subst (λ (xs : List (Mail T K)). OfHead xs holds) (sym head) is
+-- a link of which nothing but its items is another's
+pub same_link : {X : Type 0} (link old : Queue X) (items : List X) → link.room ≡ old.room → link.items ≡ items →
+    link ≡ record old { items = items }
+same_link {X} link old items room is =
+    ap (λ (n : ℕ). record { room = n; items = link.items }) room
+    ∙ ap (λ (xs : List X). record { room = old.room; items = xs }) is

@@ -1,10 +1,11 @@
 -- What is told of the home's act: the block that it was about, and its answer.
 use Rattle.std.specs.Prelude.{◌≡◌, ℕ, List, [], ◌∷◌}
-use Rattle.access_times.specs.Riding.{Riding}
+use Rattle.access_times.specs.Riding.{Riding, Carrying}
 use Rattle.msi_cache.specs.declared.messages.Request.{Request}
 use Rattle.msi_cache.specs.declared.messages.Response.{Response}
 use Rattle.msi_cache.specs.Messages.{request_block, response_block}
-use Rattle.msi_directory.specs.Blocks.{entry_at}
+use Rattle.msi_directory.specs.Blocks.{Blocks, entry_at}
+use Rattle.msi_directory.specs.Deeds.{Deed, IsServed}
 use Rattle.msi_directory.specs.Entries.{answer_to_request, answer_to_response}
 use Rattle.msi_directory.specs.PlainPart.{plain_home_answer}
 use Rattle.msi_directory.specs.declared.entry.HomeAnswer.{HomeAnswer}
@@ -16,6 +17,13 @@ use Rattle.msi_memory.specs.Memories.{Memory}
 pub record IsTurn {R : Type 0} (about : ℕ) (told : HomeAnswer R) (turn : Turn) : Type 0 where
   pub block : turn.block ≡ about
   pub answer : turn.answer ≡ plain_home_answer told
+
+-- the home did this, joined the carry that the message's sender had, and tells of it by its turn
+pub record IsDone {R K : Type 0} (fresh : R) (carrying : Carrying K) (done : Deed R) (sender : K) (old new : Blocks R)
+    (before after : K) (hand : R) (turn : Turn) : Type 0 where
+  pub served : IsServed fresh done old new hand (record { answer = turn.answer; free = turn.free })
+  pub block : turn.block ≡ done.block
+  pub joined : after ≡ carrying.joined before sender
 
 module _ {R K : Type 0} where
   -- the home's turn with the oldest of these requests, and of these responses, of core c

@@ -23,7 +23,7 @@ use crate::turn::Turn;
 use access_times::{Carry, Clerk, Rider};
 use image_mem::Image;
 use msi_cache::{Cache, Held};
-use msi_directory::{Home, Served};
+use msi_directory::Home;
 use rtr_types::{Access, BLOCK_WORDS, CORES_MAX, CoreSet, Instr, Kind};
 use std::alloc::{AllocError, Global};
 use std::marker::Model;
@@ -282,25 +282,10 @@ impl<R: Rider, K: Carry> MemorySystem<R, K> {
             self.old.memory core result }
         ensures free { result.free ≡ is_free (entry_at R.riding.fresh self.new.memory.home result.block).stage }
     {
-        let Some(mail) = self.ports[core as usize].requests.head() else {
-            return Turn::none();
-        };
-        let block = mail.item.block();
-        self.carry.join(&mail.carry);
-        let Served { answer, free } = serve(&mut self.home, core, &mail.item, &mut self.hand);
-        self.ports[core as usize].requests.drop_head();
-        deliver(
-            self.ports.as_mut_slice(),
-            answer,
-            block,
-            &mut self.hand,
-            &self.carry,
-        );
-        Turn {
-            block,
-            answer,
-            free,
-        }
+        let link = &mut self.ports[core as usize].requests;
+        let turn = serve(&mut self.home, core, link, &mut self.carry, &mut self.hand);
+        deliver(self.ports.as_mut_slice(), turn, &mut self.hand, &self.carry);
+        turn
     }
 
     /// The home takes the core's oldest response, and answers whom it was for.
@@ -316,29 +301,10 @@ impl<R: Rider, K: Carry> MemorySystem<R, K> {
             self.old.memory core result }
         ensures free { result.free ≡ is_free (entry_at R.riding.fresh self.new.memory.home result.block).stage }
     {
-        let Some(mail) = self.ports[core as usize].responses.head() else {
-            return Turn::none();
-        };
-        let block = mail.item.block();
-        self.carry.join(&mail.carry);
-        let Served { answer, free } = collect(
-            &mut self.home,
-            core,
-            &mut self.ports[core as usize].responses,
-            &mut self.hand,
-        );
-        deliver(
-            self.ports.as_mut_slice(),
-            answer,
-            block,
-            &mut self.hand,
-            &self.carry,
-        );
-        Turn {
-            block,
-            answer,
-            free,
-        }
+        let link = &mut self.ports[core as usize].responses;
+        let turn = collect(&mut self.home, core, link, &mut self.carry, &mut self.hand);
+        deliver(self.ports.as_mut_slice(), turn, &mut self.hand, &self.carry);
+        turn
     }
 }
 

@@ -7,10 +7,10 @@ ghost use Rattle.msi_memory.specs.Acts.{delivered, ports_told, pushed};
 ghost use Rattle.msi_memory.specs.Rests.{HasRoomIn, HasRoomTo};
 
 use crate::port::{Mail, Port};
+use crate::turn::Turn;
 use access_times::{Carry, Rider};
 use link_order::Link;
 use msi_cache::{FromHome, FromHomeSlot, Held};
-use msi_directory::HomeAnswer;
 use rtr_types::{CORES_MAX, CoreSet};
 
 /// A message from home goes on a link that has room, with its sender's carry.
@@ -67,16 +67,16 @@ fn tell<R: Rider, K: Carry>(
 #[inline(always)]
 pub(crate) fn deliver<R: Rider, K: Carry>(
     ports: &mut [Port<R, K>],
-    answer: HomeAnswer<()>,
-    block: u32,
+    turn: Turn,
     hand: &mut Held<R>,
     carry: &K,
 )
     requires cores { length ports.old ≤ CORES_MAX }
-    requires room { HasRoomTo K.carrying (answer_riding hand.old answer) ports.old }
-    requires to { IfSome (answer_riding hand.old answer).send (λ s. s.0 < length ports.old) }
-    ensures { ports.new ≡ delivered K.carrying (answer_riding hand.old answer) block carry.now ports.old }
+    requires room { HasRoomTo K.carrying (answer_riding hand.old turn.answer) ports.old }
+    requires to { IfSome (answer_riding hand.old turn.answer).send (λ s. s.0 < length ports.old) }
+    ensures { ports.new ≡ delivered K.carrying (answer_riding hand.old turn.answer) turn.block carry.now ports.old }
 {
+    let Turn { answer, block, .. } = turn;
     match answer.send {
         Some((to, message)) => {
             let link = &mut ports[to as usize].messages;

@@ -1,6 +1,5 @@
 //! What the home did.
 use msi_directory::HomeAnswer;
-use rtr_types::CoreSet;
 
 /// What the home did in an act: the block that it was about, what it answered, and whether the block is free
 /// now: it isn't busy.
@@ -9,18 +8,4 @@ pub struct Turn {
     pub block: u32,
     pub answer: HomeAnswer<()>,
     pub free: bool,
-}
-
-impl Turn {
-    /// The home did nothing.
-    pub(crate) fn none() -> Turn {
-        Turn {
-            block: 0,
-            answer: HomeAnswer {
-                invalidate: CoreSet::empty(),
-                send: None,
-            },
-            free: false,
-        }
-    }
 }

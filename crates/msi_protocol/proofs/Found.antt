@@ -110,6 +110,38 @@ found_request {X} P absorbed r g n d c a rest b lc ld free asks st h f =
 
 -- ---- a response
 
+replied_acks : {X : Type 0} (P : X → Type 0) (absorbed : X → X → X) (r : X → ℕ) →
+    ((x y : X) → P x → P y → r y ≤ r (absorbed x y)) →
+    (owing : CoreSet) (q c : ℕ) (a : Reply) (rest : List Reply) (home : X) (seats : ℕ → Seat X) →
+    (picture (seats c).phase).responses ≡ a ∷ rest →
+    role_in (seats c).phase ≡ role (Acks owing q) c → has owing q ≡ false →
+    role_in (seats q).phase ≡ role (Acks owing q) q → P home →
+    (IsTrue (reply_counts (seats c).phase) → P (seats c).reply)
+    → r (seats c).reply ≤ r (main (responded absorbed c a (record {
+      stage = Acks owing q;
+      home = home;
+      seats =
+          seats;
+    })))
+replied_acks P absorbed r grows owing q c a rest home seats asks is out waits h p = grind (arith, nat_tests)
+
+replied_awaits : {X : Type 0} (absorbed : X → X → X) (r : X → ℕ) (owing q : ℕ) (share : Bool) (c : ℕ) (a : Reply)
+    (rest : List Reply) (home : X) (seats : ℕ → Seat X) → (picture (seats c).phase).responses ≡ a ∷ rest →
+    role_in (seats c).phase ≡ role (Data owing q share) c → owing ≢ q →
+    role_in (seats q).phase ≡ role (Data owing q share) q
+    → r (seats c).reply ≤ r (main (responded absorbed c a (record {
+      stage = Data owing q share;
+      home = home;
+      seats =
+          seats;
+    })))
+replied_awaits absorbed r owing q share c a rest home seats asks is other waits = grind (arith, nat_tests)
+
+-- once the home took a response, the main copy has no less than it had, and no less than the response
+record MainAnswered {X : Type 0} (absorbed : X → X → X) (r : X → ℕ) (c : ℕ) (a : Reply) (b : FullBlock X) : Type 0 where
+  kept : r (main b) ≤ r (main (responded absorbed c a b))
+  replied : r (b.seats c).reply ≤ r (main (responded absorbed c a b))
+
 main_response : {X : Type 0} (P : X → Type 0) (absorbed : X → X → X) (r : X → ℕ) → Grows P absorbed r →
     (stage : Stage) (c : ℕ) (a : Reply) (rest : List Reply) (home : X) (seats : ℕ → Seat X) → c < CORES_MAX →
     (picture (seats c).phase).responses ≡ a ∷ rest →
@@ -119,19 +151,22 @@ main_response : {X : Type 0} (P : X → Type 0) (absorbed : X → X → X) (r : 
           home;
       seats = seats;
     })
-    → r (main_at stage home seats) ≤ r (main (responded absorbed c a (record {
-      stage = stage;
-      home = home;
-      seats =
-          seats;
-    })))
+    → MainAnswered absorbed r c a (record { stage = stage; home = home; seats = seats })
 main_response P absorbed r g (Acks owing q) c a rest home seats lc asks st h =
-    response_main_acks P absorbed r g.left owing q c a rest home seats asks (st.roles c lc) st.fits.0
-    (st.roles q st.fits.1) (h.home refl) (h.seats c lc).reply
+    record {
+      kept = response_main_acks P absorbed r g.left owing q c a rest home seats asks (st.roles c lc) st.fits.0
+          (st.roles q st.fits.1) (h.home refl) (h.seats c lc).reply;
+      replied = replied_acks P absorbed r g.right owing q c a rest home seats asks (st.roles c lc) st.fits.0
+          (st.roles q st.fits.1) (h.home refl) (h.seats c lc).reply;
+    }
 main_response P absorbed r g (Data owing q s) c a rest home seats lc asks st h =
     let e = ap r (response_main_awaits absorbed owing q s c a rest home seats asks (st.roles c lc) st.fits.0
     (st.roles q st.fits.1)) in
-    omega arith
+    record {
+      kept = omega arith;
+      replied = replied_awaits absorbed r owing q s c a rest home seats asks (st.roles c lc) st.fits.0
+          (st.roles q st.fits.1);
+    }
 main_response P absorbed r g Unshared c a rest home seats lc asks st h = let e =
     response_stage Unshared c a rest (seats c).phase asks (st.roles c lc) in
     absurd cc
@@ -142,67 +177,12 @@ main_response P absorbed r g (Owned o) c a rest home seats lc asks st h = let e 
     response_stage (Owned o) c a rest (seats c).phase asks (st.roles c lc) in
     absurd cc
 
--- what was answered is in the main copy after
-main_replied : {X : Type 0} (P : X → Type 0) (absorbed : X → X → X) (r : X → ℕ) → Grows P absorbed r →
-    (stage : Stage) (c : ℕ) (a : Reply) (rest : List Reply) (home : X) (seats : ℕ → Seat X) → c < CORES_MAX →
-    (picture (seats c).phase).responses ≡ a ∷ rest →
-    PhasesFit (record { stage = stage; home = home; seats = seats }) → HoldersHave P (record {
-      stage = stage;
-      home =
-          home;
-      seats = seats;
-    })
-    → r (seats c).reply ≤ r (main (responded absorbed c a (record { stage = stage; home = home; seats = seats })))
-main_replied P absorbed r g (Acks owing q) c a rest home seats lc asks st h =
-    replied_acks P absorbed r g.right owing q c a rest home seats asks (st.roles c lc) st.fits.0 (st.roles q st.fits.1)
-    (h.home refl) (h.seats c lc).reply
-  where
-    replied_acks : {X : Type 0} (P : X → Type 0) (absorbed : X → X → X) (r : X → ℕ) →
-        ((x y : X) → P x → P y → r y ≤ r (absorbed x y)) →
-        (owing : CoreSet) (q c : ℕ) (a : Reply) (rest : List Reply) (home : X) (seats : ℕ → Seat X) →
-        (picture (seats c).phase).responses ≡ a ∷ rest →
-        role_in (seats c).phase ≡ role (Acks owing q) c → has owing q ≡ false →
-        role_in (seats q).phase ≡ role (Acks owing q) q → P home →
-        (IsTrue (reply_counts (seats c).phase) → P (seats c).reply)
-        → r (seats c).reply ≤ r (main (responded absorbed c a (record {
-          stage = Acks owing q;
-          home = home;
-          seats =
-              seats;
-        })))
-    replied_acks P absorbed r grows owing q c a rest home seats asks is out waits h p = grind (arith, nat_tests)
-main_replied P absorbed r g (Data owing q s) c a rest home seats lc asks st h =
-    replied_awaits absorbed r owing q s c a rest home seats asks (st.roles c lc) st.fits.0 (st.roles q st.fits.1)
-  where
-    replied_awaits : {X : Type 0} (absorbed : X → X → X) (r : X → ℕ) (owing q : ℕ) (share : Bool) (c : ℕ) (a : Reply)
-        (rest : List Reply) (home : X)
-        (seats : ℕ → Seat X) → (picture (seats c).phase).responses ≡ a ∷ rest →
-        role_in (seats c).phase ≡ role (Data owing q share) c → owing ≢ q →
-        role_in (seats q).phase ≡ role (Data owing q share) q
-        → r (seats c).reply ≤ r (main (responded absorbed c a (record {
-          stage = Data owing q share;
-          home = home;
-          seats =
-              seats;
-        })))
-    replied_awaits absorbed r owing q share c a rest home seats asks is other waits = grind (arith, nat_tests)
-main_replied P absorbed r g Unshared c a rest home seats lc asks st h = let e =
-    response_stage Unshared c a rest (seats c).phase asks (st.roles c lc) in
-    absurd cc
-main_replied P absorbed r g (Shared by) c a rest home seats lc asks st h = let e =
-    response_stage (Shared by) c a rest (seats c).phase asks (st.roles c lc) in
-    absurd cc
-main_replied P absorbed r g (Owned o) c a rest home seats lc asks st h = let e =
-    response_stage (Owned o) c a rest (seats c).phase asks (st.roles c lc) in
-    absurd cc
-
 pub found_response : {X : Type 0} (P : X → Type 0) (absorbed : X → X → X) (r : X → ℕ) → Grows P absorbed r →
     (n d c : ℕ) (a : Reply) (rest : List Reply) (b : FullBlock X) → c < CORES_MAX → d < CORES_MAX →
     (picture (b.seats c).phase).responses ≡ a ∷ rest →
     PhasesFit b → HoldersHave P b → Found r n d b → Found r n d (responded absorbed c a b)
 found_response {X} P absorbed r g n d c a rest b lc ld asks st h f =
-    found_in r n (main b) after (b.seats d) ((responded absorbed c a b).seats d) (main_response P absorbed r g b.stage c
-    a rest b.home b.seats lc asks st h)
+    found_in r n (main b) after (b.seats d) ((responded absorbed c a b).seats d) answered.kept
     (at_core (λ (t : Seat X). (own_count r (b.seats d) ≤ own_count r t) ⊎ (own_count r (b.seats d) ≤ r after)) c d
     (seat_answered (b.seats d))
     (seat_others b.stage c home (b.seats d)) mine other) f
@@ -213,14 +193,14 @@ found_response {X} P absorbed r g n d c a rest b lc ld asks st h f =
     after : X
     after = main (responded absorbed c a b)
 
-    replied : r (b.seats c).reply ≤ r after
-    replied = main_replied P absorbed r g b.stage c a rest b.home b.seats lc asks st h
+    answered : MainAnswered absorbed r c a b
+    answered = main_response P absorbed r g b.stage c a rest b.home b.seats lc asks st h
 
     at_home : (own_count r (b.seats c) ≤ own_count r (seat_answered (b.seats c))) ⊎ (own_count r (b.seats c) ≤ r
         (b.seats c).reply) →
         (own_count r (b.seats c) ≤ own_count r (seat_answered (b.seats c))) ⊎ (own_count r (b.seats c) ≤ r after)
     at_home (inl e) = inl e
-    at_home (inr e) = inr (let k = replied in omega arith)
+    at_home (inr e) = inr (let k = answered.replied in omega arith)
 
     mine : d ≡ c → (own_count r (b.seats d) ≤ own_count r (seat_answered (b.seats d))) ⊎ (own_count r (b.seats d) ≤ r
         after)

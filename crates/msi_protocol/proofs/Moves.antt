@@ -1,5 +1,5 @@
 -- Each move keeps the phases to the stage, and a closed property of the holders.
-use Rattle.std.proofs.Common.{◌≡◌, ◌≢◌, ◌∙◌, ap, sym, subst, ℕ, ◌<◌, true, false, List, ◌∷◌, arith}
+use Rattle.std.proofs.Common.{◌≡◌, ◌≢◌, ◌∙◌, ap, refl, sym, subst, ℕ, ◌<◌, ◌==◌, true, false, List, ◌∷◌, arith}
 use Rattle.rtr_types.specs.declared.TheConstants.{CORES_MAX}
 use Rattle.std.proofs.lemmas.Bool.Decides.{nat_tests}
 use Rattle.msi_directory.specs.Table.{is_free}
@@ -14,7 +14,7 @@ use Rattle.msi_protocol.specs.Counting.{home_counts}
 use Rattle.msi_protocol.specs.Seats.{Seat, SeatHas, put_counts, seat_received, seat_wished, home_requested, seat_own}
 use Rattle.msi_protocol.specs.Seats.{seat_other, home_responded, seat_answered}
 use Rattle.msi_protocol.specs.Seats.{seat_others, seat_accessed, reads_in, writes_in, FullBlock, requested, responded}
-use Rattle.msi_protocol.specs.Seats.{messaged, wishing, accessing, PhasesFit}
+use Rattle.msi_protocol.specs.Seats.{messaged, seat_if, wishing, accessing, PhasesFit}
 use Rattle.msi_protocol.specs.Seats.{HoldersHave, is_away, allows}
 use Rattle.rtr_types.specs.declared.access.Kind.{Kind}
 use Rattle.msi_protocol.specs.Counting.{line_counts, sent_counts, reply_counts}
@@ -62,35 +62,30 @@ stands_response {X} absorbed c a rest b lc asks st =
     home : X
     home = home_responded absorbed b.stage (b.seats c).reply b.home
 
+-- core c's seat alone is another, in the role in which it was
+stands_seat : {X : Type 0} (c : ℕ) (seat : Seat X → Seat X) (b : FullBlock X) →
+    ((d : ℕ) → d ≡ c → role_in (seat (b.seats d)).phase ≡ role_in (b.seats d).phase) → PhasesFit b →
+    PhasesFit (record b { seats = λ d. seat_if (d == c) (seat (b.seats d)) (b.seats d) })
+stands_seat c seat b same st =
+    record {
+      fits = st.fits;
+      roles = λ d ld. at_core (HasRole b.stage d) c d (seat (b.seats d)) (b.seats d)
+          (λ (e : d ≡ c). same d e ∙ st.roles d ld)
+          (λ (n : d ≢ c). st.roles d ld);
+    }
+
 pub stands_message : {X : Type 0} (absorbed : X → X → X) (c : ℕ) (m : Signal) (rest : List Signal) (b : FullBlock X) →
     (picture (b.seats c).phase).messages
     ≡ m ∷ rest → PhasesFit b → PhasesFit (messaged absorbed c b)
-stands_message absorbed c m rest b asks st =
-    record {
-      fits = st.fits;
-      roles = λ d ld. at_core (HasRole b.stage d) c d (seat_received absorbed (b.seats d)) (b.seats d)
-          (λ (e : d ≡ c). message_role (b.seats d).phase m rest (ap (λ (x : ℕ). (picture (b.seats x).phase).messages) e
-          ∙ asks) ∙ st.roles d ld)
-          (λ (n : d ≢ c). st.roles d ld);
-    }
+stands_message absorbed c m rest b asks =
+    stands_seat c (seat_received absorbed) b
+    (λ d e. message_role (b.seats d).phase m rest (ap (λ (x : ℕ). (picture (b.seats x).phase).messages) e ∙ asks))
 
 pub stands_wish : {X : Type 0} (c : ℕ) (w : Wish) (b : FullBlock X) → PhasesFit b → PhasesFit (wishing c w b)
-stands_wish c w b st =
-    record {
-      fits = st.fits;
-      roles = λ d ld. at_core (HasRole b.stage d) c d (seat_wished w (b.seats d)) (b.seats d)
-          (λ (e : d ≡ c). wish_role (b.seats d).phase w ∙ st.roles d ld)
-          (λ (n : d ≢ c). st.roles d ld);
-    }
+stands_wish c w b = stands_seat c (seat_wished w) b (λ d e. wish_role (b.seats d).phase w)
 
 pub stands_access : {X : Type 0} (c : ℕ) (line : X) (b : FullBlock X) → PhasesFit b → PhasesFit (accessing c line b)
-stands_access c line b st =
-    record {
-      fits = st.fits;
-      roles = λ d ld. at_core (HasRole b.stage d) c d (seat_accessed line (b.seats d)) (b.seats d)
-          (λ (e : d ≡ c). st.roles d ld)
-          (λ (n : d ≢ c). st.roles d ld);
-    }
+stands_access c line b = stands_seat c (seat_accessed line) b (λ d e. refl)
 
 -- ---- the holders
 

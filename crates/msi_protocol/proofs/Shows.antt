@@ -59,23 +59,14 @@ keeps : (next : Stage) (send : Send) → home_counts next ≡ true → gives nex
 keeps next send counts = grind arith
 
 module _ {R : Type 0} where
-  request_cong : (riding : Riding R) (b c d : ℕ) (e f : Entry R) (q r : Request R) (qs rs : List (Request R))
-      (v w : Sight R) → e ≡ f → r ≡ q → rs ≡ qs →
-      v ≡ w → after_request_at riding e b c q qs d v ≡ after_request_at riding f b c r rs d w
-  request_cong riding b c d e f q r qs rs v w ef qr qrs vw =
-      ap (λ (x : Entry R). after_request_at riding x b c q qs d v) ef
-      ∙ ap (λ (x : Request R). after_request_at riding f b c x qs d v) (sym qr)
-      ∙ ap (λ (x : List (Request R)). after_request_at riding f b c r x d v) (sym qrs)
-      ∙ ap (λ (x : Sight R). after_request_at riding f b c r rs d x) vw
-
-  response_cong : (riding : Riding R) (b c d : ℕ) (e f : Entry R) (q r : Response R) (qs rs : List (Response R))
-      (v w : Sight R) → e ≡ f → r ≡ q → rs ≡ qs →
-      v ≡ w → after_response_at riding e b c q qs d v ≡ after_response_at riding f b c r rs d w
-  response_cong riding b c d e f q r qs rs v w ef qr qrs vw =
-      ap (λ (x : Entry R). after_response_at riding x b c q qs d v) ef
-      ∙ ap (λ (x : Response R). after_response_at riding f b c x qs d v) (sym qr)
-      ∙ ap (λ (x : List (Response R)). after_response_at riding f b c r x d v) (sym qrs)
-      ∙ ap (λ (x : Sight R). after_response_at riding f b c r rs d x) vw
+  -- what becomes of a sight by a message, of the same entry, messages and sight
+  same_after : (M : Type 0) (after : Entry R → M → List M → Sight R → Sight R) (e f : Entry R) (q r : M)
+      (qs rs : List M) (v w : Sight R) → e ≡ f → r ≡ q → rs ≡ qs → v ≡ w → after e q qs v ≡ after f r rs w
+  same_after M after e f q r qs rs v w ef qr qrs vw =
+      ap (λ (x : Entry R). after x q qs v) ef
+      ∙ ap (λ (x : M). after f x qs v) (sym qr)
+      ∙ ap (λ (x : List M). after f r x v) (sym qrs)
+      ∙ ap (λ (x : Sight R). after f r rs x) vw
 
   -- the copy at home
   abbrev home_copy : Entry R → Payload R
@@ -165,8 +156,8 @@ module _ {R : Type 0} where
           same : (x : ℕ) → x < CORES_MAX → after_request_at riding (entry_with bl) b c (ask_with b (bl.seats c).put a)
               (map (ask_with b (bl.seats c).put) more) x (shown b (bl.seats x)) ≡ after_request_at riding entry b c
               request rest x (sights x)
-          same x lx = request_cong riding b c x (entry_with bl) entry (ask_with b (bl.seats c).put a) request
-              (map (ask_with b (bl.seats c).put) more) rest
+          same x lx = same_after (Request R) (λ e q qs v. after_request_at riding e b c q qs x v) (entry_with bl) entry
+              (ask_with b (bl.seats c).put a) request (map (ask_with b (bl.seats c).put) more) rest
               (shown b (bl.seats x)) (sights x) is request_is rest_is (shows x lx)
 
   pub for_response : (riding : Riding R) (Q : FullBlock (Payload R) → Type 0) → KeptBy (payload_absorbed riding) Q →
@@ -224,9 +215,9 @@ module _ {R : Type 0} where
               a)
               (map (reply_with b (bl.seats c).reply) more) x (shown b (bl.seats x)) ≡ after_response_at riding entry b c
               response rest x (sights x)
-          same x lx = response_cong riding b c x (entry_with bl) entry (reply_with b (bl.seats c).reply a) response
-              (map (reply_with b (bl.seats c).reply) more) rest (shown b (bl.seats x)) (sights x) is response_is rest_is
-              (shows x lx)
+          same x lx = same_after (Response R) (λ e q qs v. after_response_at riding e b c q qs x v) (entry_with bl)
+              entry (reply_with b (bl.seats c).reply a) response (map (reply_with b (bl.seats c).reply) more) rest
+              (shown b (bl.seats x)) (sights x) is response_is rest_is (shows x lx)
 
   -- a seat of c alone is another, and so is c's sight
   seen_at : (b c : ℕ) (f : Seat (Payload R) → Seat (Payload R)) (seats : ℕ → Seat (Payload R)) (v : Sight R)
@@ -400,8 +391,8 @@ module _ {R : Type 0} where
       let q = shown_asked b s request rest (ap (λ (v : Sight R). v.requests) (f.shows c lc) ∙ asks) in
       let free' : is_free bl.stage ≡ true = ap (λ (e : Entry R). is_free e.stage) f.entry_is ∙ free in
       let is = blank_picture b u (subst IsBlank (sym (f.shows d ld)) blank) in
-      sym (request_cong riding b c d (entry_with bl) entry (ask_with b s.put q.0) request (map (ask_with b s.put) q.1)
-      rest (shown b u)
+      sym (same_after (Request R) (λ e q qs v. after_request_at riding e b c q qs d v) (entry_with bl) entry
+      (ask_with b s.put q.0) request (map (ask_with b s.put) q.1) rest (shown b u)
       (sights d) f.entry_is q.3 q.4 (f.shows d ld))
       ∙ shown_other riding b c q.0 s.put (map (ask_with b s.put) q.1) d (entry_with bl) u lc ld other free'
       (st.roles d ld)
@@ -423,8 +414,8 @@ module _ {R : Type 0} where
       let home : Payload R = home_responded (payload_absorbed riding) bl.stage s.reply bl.home in
       let is = blank_picture b u (subst IsBlank (sym (f.shows d ld)) blank) in
       let i = idle_others bl.stage c home u.sent u.phase is in
-      sym (response_cong riding b c d (entry_with bl) entry (reply_with b s.reply q.0) response
-      (map (reply_with b s.reply) q.1) rest (shown b u)
+      sym (same_after (Response R) (λ e q qs v. after_response_at riding e b c q qs d v) (entry_with bl) entry
+      (reply_with b s.reply q.0) response (map (reply_with b s.reply) q.1) rest (shown b u)
       (sights d) f.entry_is q.3 q.4 (f.shows d ld))
       ∙ shown_others riding b c q.0 (map (reply_with b s.reply) q.1) d bl lc ld other st.fits
       (response_has_row bl.stage c q.0 q.1 s.phase q.2 (st.roles c lc))

@@ -1,3 +1,4 @@
+-- Room was made for the block of the core's oldest request, if it has one.
 use Rattle.std.proofs.Common.{sym}
 use Rattle.msi_memory.proofs.Roomy.{no_head, past_ports, none_made, one_made}
 use Rattle.msi_memory.proofs.rooms.make_room_for_head.Goals as goal
@@ -15,30 +16,18 @@ returns-in_default-head-clause-ok g c =
 
 pub returns-clause-rooms : goal.returns-clause-rooms
 returns-clause-rooms g c =
-    let made =
-    one_made c.args.ports.now c.args.core c.in-Some.port.now c.in-Some-head.mail.now c.in-Some-head.ensures.item.0
-    c.args.home.now c.make_room.new.self
-    c.block.result c.requires.others c.in-Some.ensures.lookup.3.0
-    (sym c.in-Some.ensures.lookup.1) c.in-Some-head.ensures.item.1 c.block.ensures c.in_ok-free.ensures.ok
-    c.in_ok-free.ensures.room in
-    made.made
+    (one_made c.args.ports.now c.args.core c.in-Some.port.now c.in-Some-head.mail.now _ c.args.home.now _ _
+    c.requires.others c.in-Some.ensures.lookup.3.0 (sym c.in-Some.ensures.lookup.1) c.in-Some-head.ensures.item.1
+    c.block.ensures c.in_ok-free.ensures.ok c.in_ok-free.ensures.room).made
 
 pub returns-clause-others : goal.returns-clause-others
 returns-clause-others g c =
-    let made =
-    one_made c.args.ports.now c.args.core c.in-Some.port.now c.in-Some-head.mail.now c.in-Some-head.ensures.item.0
-    c.args.home.now c.make_room.new.self
-    c.block.result c.requires.others c.in-Some.ensures.lookup.3.0
-    (sym c.in-Some.ensures.lookup.1) c.in-Some-head.ensures.item.1 c.block.ensures c.in_ok-free.ensures.ok
-    c.in_ok-free.ensures.room in
-    made.others
+    (one_made c.args.ports.now c.args.core c.in-Some.port.now c.in-Some-head.mail.now _ c.args.home.now _ _
+    c.requires.others c.in-Some.ensures.lookup.3.0 (sym c.in-Some.ensures.lookup.1) c.in-Some-head.ensures.item.1
+    c.block.ensures c.in_ok-free.ensures.ok c.in_ok-free.ensures.room).others
 
 pub returns-clause-ok : goal.returns-clause-ok
 returns-clause-ok g c =
-    let made =
-    one_made c.args.ports.now c.args.core c.in-Some.port.now c.in-Some-head.mail.now c.in-Some-head.ensures.item.0
-    c.args.home.now c.make_room.new.self
-    c.block.result c.requires.others c.in-Some.ensures.lookup.3.0
-    (sym c.in-Some.ensures.lookup.1) c.in-Some-head.ensures.item.1 c.block.ensures c.in_ok-free.ensures.ok
-    c.in_ok-free.ensures.room in
-    made.all
+    (one_made c.args.ports.now c.args.core c.in-Some.port.now c.in-Some-head.mail.now _ c.args.home.now _ _
+    c.requires.others c.in-Some.ensures.lookup.3.0 (sym c.in-Some.ensures.lookup.1) c.in-Some-head.ensures.item.1
+    c.block.ensures c.in_ok-free.ensures.ok c.in_ok-free.ensures.room).all

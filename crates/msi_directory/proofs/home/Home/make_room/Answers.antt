@@ -1,3 +1,5 @@
+-- A block that the home keeps has its room already; otherwise it gets an entry, which reads as the opening one did, and
+-- no other block's entry or room changes.
 use Rattle.std.proofs.Common.{◌∙◌, add-zero, ap, is_some, sym}
 use Rattle.msi_directory.specs.Table.{is_free}
 use Rattle.msi_directory.specs.Kept.{blocks_in, home_of}
