@@ -51,6 +51,19 @@ pub record Meets (xs ys : List Access) (x y : Instr) : Type 0 where
 abbrev pub Ends : List Access → (x y : Instr) → Type 0
 Ends h x y = Meets h h x y
 
+-- they are in a longer list too
+pub ends_more : (a : Access) (h : List Access) (x y : Instr) → Ends h x y → Ends (a ∷ h) x y
+ends_more a h x y e =
+    record {
+      first = e.first;
+      second = e.second;
+      first_stands = inr e.first_stands;
+      second_stands = inr e.second_stands;
+      first_at = e.first_at;
+      second_at = e.second_at;
+      conflict = e.conflict;
+    }
+
 pub ends : (h : List Access) (x y : Instr) → Pair h x y → Ends h x y
 ends [] x y p = absurd p
 ends (a ∷ h) x y (inl p) =
@@ -64,17 +77,7 @@ ends (a ∷ h) x y (inl p) =
       second_at = p.0;
       conflict = p.1.3;
     }
-ends (a ∷ h) x y (inr p) =
-    let e = ends h x y p in
-    record {
-      first = e.first;
-      second = e.second;
-      first_stands = inr e.first_stands;
-      second_stands = inr e.second_stands;
-      first_at = e.first_at;
-      second_at = e.second_at;
-      conflict = e.conflict;
-    }
+ends (a ∷ h) x y (inr p) = ends_more a h x y (ends h x y p)
 
 -- the newest access isn't at or before an instruction of an older one
 pub older : (a : Access) (h : List Access) (b : Access) (y : Instr) → Rising (a ∷ h) → StandsIn h b → b.at ≡ y →

@@ -16,40 +16,41 @@ cases_instr x y = elim (cases_eq x.core y.core) [
   | inr p ↦ inr (λ e. p (ap (λ (z : Instr). z.core) e))
 ]
 
--- a path that ends before y has no edge into y
+-- a step that ends before y isn't the edge into y, and one that begins after x isn't the edge out of x
+step_into : (C E : Relation) → ((x : Instr) → Before C x x → ⊥) → (x y u v : Instr) → Step E u v → Before C v y →
+    Step (Others E x y) u v
+step_into C E acyclic x y u v (inl s) after = inl s
+step_into C E acyclic x y u v (inr s) after =
+    inr (s, λ _ e. acyclic y (subst (λ (w : Instr). Before C w y) e after))
+
+step_from : (C E : Relation) → ((x : Instr) → Before C x x → ⊥) → (x y u v : Instr) → Step E u v → Before C x u →
+    Step (Others E x y) u v
+step_from C E acyclic x y u v (inl s) before = inl s
+step_from C E acyclic x y u v (inr s) before =
+    inr (s, λ e _. acyclic x (subst (λ (w : Instr). Before C x w) e before))
+
+-- nor has a path that ends before y such an edge
 no_edge_into : (C E : Relation) → Within E C → ((x : Instr) → Before C x x → ⊥) → (x y : Instr) →
     (n : ℕ) (u v : Instr) → Path E n u v → Before C v y →
     Path (Others E x y) n u v
-no_edge_into C E within acyclic x y zero u v (inl s) after = inl s
-no_edge_into C E within acyclic x y zero u v (inr s) after =
-    inr (s, λ _ e. acyclic y (subst (λ (w : Instr). Before C w y) e after))
+no_edge_into C E within acyclic x y zero u v p after = step_into C E acyclic x y u v p after
 no_edge_into C E within acyclic x y (suc n) u v p after =
     let rest = no_edge_into C E within acyclic x y n p.0 v p.2 after in
     let on : Before C p.0 y = joined C p.0 v y (mapped E C (λ a b s. one C a b (inr (within a b s))) p.0 v (n, p.2))
     after in
-    (p.0, no_step p.1 on, rest)
-  where
-    no_step : Step E u p.0 → Before C p.0 y → Step (Others E x y) u p.0
-    no_step (inl s) on = inl s
-    no_step (inr s) on = inr (s, λ _ e. acyclic y (subst (λ (w : Instr). Before C w y) e on))
+    (p.0, step_into C E acyclic x y u p.0 p.1 on, rest)
 
--- a path that begins after x has no edge out of x
+-- nor one that begins after x
 no_edge_from : (C E : Relation) → Within E C → ((x : Instr) → Before C x x → ⊥) → (x y : Instr) →
     (n : ℕ) (u v : Instr) → Path E n u v → Before C x u →
     Path (Others E x y) n u v
-no_edge_from C E within acyclic x y zero u v (inl s) before = inl s
-no_edge_from C E within acyclic x y zero u v (inr s) before =
-    inr (s, λ e _. acyclic x (subst (λ (w : Instr). Before C x w) e before))
+no_edge_from C E within acyclic x y zero u v p before = step_from C E acyclic x y u v p before
 no_edge_from C E within acyclic x y (suc n) u v p before =
     let on : Before C x p.0 = joined C x u p.0 before (mapped E C (λ a b s. one C a b (inr (within a b s))) u p.0 (
       zero,
       p.1,
     )) in
-    (p.0, no_step p.1, no_edge_from C E within acyclic x y n p.0 v p.2 on)
-  where
-    no_step : Step E u p.0 → Step (Others E x y) u p.0
-    no_step (inl s) = inl s
-    no_step (inr s) = inr (s, λ e _. acyclic x (subst (λ (w : Instr). Before C x w) e before))
+    (p.0, step_from C E acyclic x y u p.0 p.1 before, no_edge_from C E within acyclic x y n p.0 v p.2 on)
 
 -- where E suffices, a pair with something strictly between is implied by the others
 pub implied : (C E : Relation) → Within E C → Within C (Before E) → ((x : Instr) → Before C x x → ⊥) → (x y z : Instr) →

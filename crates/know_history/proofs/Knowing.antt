@@ -301,8 +301,8 @@ all_know_more event n actor c d own orderly follows h =
         to_actor back_actor left)
     by other (inr apart) =
         rw (follows.resting other apart)
-        (counts_same event (HasReached event n other) (HasReached event (suc n) other) (c.own other) (λ t. still_reached event n other t)
-        (back_other other apart)
+        (counts_same event (HasReached event n other) (HasReached event (suc n) other) (c.own other)
+        (λ t. still_reached event n other t) (back_other other apart)
         (h.own other))
 
 -- where nothing happens they go on as they are

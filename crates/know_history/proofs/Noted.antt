@@ -112,6 +112,13 @@ pub list_within : (newest : List Newest) (all : List (Listed Change)) (core of :
 list_within newest all core «of» holds within place = let a = holds.places in let b = length-items all in
     let d = place_within (length newest) core «of» within place in omega arith
 
+-- so each of them is there, by its place
+pub list_there : (newest : List Newest) (all : List (Listed Change)) (notes : Notes) (core of place : ℕ) →
+    HoldNotes newest (items_in all) → notes_of newest (items_in all) ≡ notes → core < core_count notes →
+    «of» < CORES_MAX → place ≡ list_place core «of» → place < length all
+list_there newest all notes core «of» place holds is within lt at =
+    rw at (list_within newest all core «of» holds (core_within newest (items_in all) notes core is within) lt)
+
 -- ---- none is noted
 
 none_at : (newest : List Newest) (cores core : ℕ) → newest ≡ replicate cores no_newest →

@@ -69,6 +69,18 @@ pub record IsReduction (list : List Access) (r : Reduced) (edges : List Edge) : 
   pub by_pairs : r.lists ≡ by_pair r.cores edges
   pub rising : AreRising r r.lists
 
+-- a retirement with an access leads from r to a new reduction by new edges: where the times are exact for the access,
+-- its clock is exact, the edges are the covering pairs into it, and what r is of a list, the new reduction is of the
+-- list with the access
+pub record AddsAccess (r : Reduced) (a : Access) (t : Times) (edges : List Edge) (new : Reduced) : Type 0 where
+  pub clock : (list : List Access) → IsExact list r → AreExactFor list a t →
+      IsExactClock (list ++ a ∷ []) a.at (clock_of new a.at.core)
+  pub covering : (list : List Access) → IsExact list r → AreExactFor list a t →
+      AreCoveringInto (list ++ a ∷ []) a.at edges
+  pub exact : (list : List Access) → IsExact list r → AreExactFor list a t → IsExact (list ++ a ∷ []) new
+  pub reduction : (list : List Access) (before : List Edge) → IsReduction list r before → AreExactFor list a t →
+      IsReduction (list ++ a ∷ []) new (before ++ edges)
+
 -- Times that are exact for a word are exact for each access to it.
 abbrev pub ExactForLaw : Type 0
 ExactForLaw = (list : List Access) (a : Access) (t : Times) →

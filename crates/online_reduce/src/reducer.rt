@@ -1,11 +1,10 @@
 //! The online reduction.
-ghost use Rattle.std.specs.Prelude.{◌≡◌, ◌<◌, ◌≤◌, ◌++◌, ◌∷◌, [], List, IfOk, IsTrue, OnErr, OnOk, false, true};
+ghost use Rattle.std.specs.Prelude.{◌≡◌, ◌<◌, ◌≤◌, [], List, IfOk, IsTrue, OnErr, OnOk, false, true};
 ghost use Rattle.rtr_types.specs.declared.TheConstants.{CORES_MAX};
 ghost use Rattle.rtr_types.specs.declared.access.Access.{Access};
 ghost use Rattle.rtr_types.specs.declared.instr.Edge.{Edge};
 ghost use Rattle.access_times.specs.Times.{times_noted};
 ghost use Rattle.online_reduce.specs.Sizes.{edges_room};
-ghost use Rattle.conflict_edge.specs.Times.{IsExactClock};
 
 use crate::edge_places::{EdgeList, EdgePlaces};
 use crate::live_reads::LiveReads;
@@ -57,7 +56,7 @@ impl Reducer {
     ghost use Rattle.online_reduce.specs.LiveReads.{drawn};
     ghost use Rattle.online_reduce.specs.Sources.{candidates, reads_from};
     ghost use Rattle.online_reduce.specs.Reduced.{IsNext, clock_of, counted, edges_of, retired, unreduced};
-    ghost use Rattle.online_reduce.specs.Exact.{AreCoveringInto, AreExactFor, AreRising, IsExact, IsHeld, IsReduction};
+    ghost use Rattle.online_reduce.specs.Exact.{AddsAccess, AreRising, IsExact, IsHeld, IsReduction};
 
     /// No retirement yet, on so many cores.
     pub fn new(alloc: Global, cores: u8) -> Result<Reducer, AllocError>
@@ -126,15 +125,7 @@ impl Reducer {
         ensures state { self.new.state ≡ retired self.old.state access.now times.old }
         ensures times { times.new ≡ times_noted access.now times.old (clock_of self.new.state access.now.at.core) }
         ensures held { IsHeld access.now times.new (clock_of self.new.state access.now.at.core) }
-        ensures clock { (list : List Access) → IsExact list self.old.state → AreExactFor list access.now times.old →
-            IsExactClock (list ++ access.now ∷ []) access.now.at (clock_of self.new.state access.now.at.core) }
-        ensures covering { (list : List Access) → IsExact list self.old.state → AreExactFor list access.now times.old →
-            AreCoveringInto (list ++ access.now ∷ []) access.now.at result.items }
-        ensures exact { (list : List Access) → IsExact list self.old.state → AreExactFor list access.now times.old →
-            IsExact (list ++ access.now ∷ []) self.new.state }
-        ensures reduction { (list : List Access) (edges : List Edge) →
-            IsReduction list self.old.state edges → AreExactFor list access.now times.old →
-            IsReduction (list ++ access.now ∷ []) self.new.state (edges ++ result.items) }
+        ensures adds { AddsAccess self.old.state access.now times.old result.items self.new.state }
     {
         let mut edges = EdgePlaces::new();
         self.retire_into(access, times, &mut edges);
@@ -151,15 +142,7 @@ impl Reducer {
         ensures state { self.new.state ≡ retired self.old.state access.now times.old }
         ensures times { times.new ≡ times_noted access.now times.old (clock_of self.new.state access.now.at.core) }
         ensures held { IsHeld access.now times.new (clock_of self.new.state access.now.at.core) }
-        ensures clock { (list : List Access) → IsExact list self.old.state → AreExactFor list access.now times.old →
-            IsExactClock (list ++ access.now ∷ []) access.now.at (clock_of self.new.state access.now.at.core) }
-        ensures covering { (list : List Access) → IsExact list self.old.state → AreExactFor list access.now times.old →
-            AreCoveringInto (list ++ access.now ∷ []) access.now.at edges.new }
-        ensures exact { (list : List Access) → IsExact list self.old.state → AreExactFor list access.now times.old →
-            IsExact (list ++ access.now ∷ []) self.new.state }
-        ensures reduction { (list : List Access) (edges_before : List Edge) →
-            IsReduction list self.old.state edges_before → AreExactFor list access.now times.old →
-            IsReduction (list ++ access.now ∷ []) self.new.state (edges_before ++ edges.new) }
+        ensures adds { AddsAccess self.old.state access.now times.old edges.new self.new.state }
     {
         self.draw(access, times, edges);
         self.count(access.at);

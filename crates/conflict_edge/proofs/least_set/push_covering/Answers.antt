@@ -1,3 +1,5 @@
+-- From the newest access back: what is known so far is what the accesses looked at lead to, so an access that conflicts
+-- and isn't known is a covering source.
 use Rattle.std.proofs.Common.{arith, ◌≡◌, ℕ, ◌<◌, ◌≤◌, ◌-◌, drop, reverse, zero, suc, slice_index}
 use Rattle.std.proofs.Common.{slice_index_or, List, [], ◌∷◌, inl, inr, sym, ◌∙◌}
 use Rattle.std.proofs.Common.{refl, ap, subst, Vec, Global}

@@ -1,3 +1,5 @@
+-- Core by core, lowest first: the reads taken so far have their edges at the ends of their own pairs' lists, and these
+-- alone have changed.
 use Rattle.std.proofs.Common.{◌≡◌, ◌∙◌, ◌++◌, ◌∷◌, [], ap, arith, length, refl, sym, take, List}
 use Rattle.std.proofs.lemmas.List.{length_push}
 use Rattle.roomy_lists.specs.Lists.{items_in}

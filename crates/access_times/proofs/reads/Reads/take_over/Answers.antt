@@ -1,3 +1,5 @@
+-- Core by core, lowest first: each core's read is by now the newer of the two, and the cores that are left still have
+-- their own; each turn leaves fewer.
 use Rattle.std.proofs.Common.{◌≡◌, ◌∙◌, sym, ap, subst, ℕ, ◌<◌, List, Option, None, true}
 use Rattle.clock_core.specs.Counts.{no_counts}
 use Rattle.clock_core.specs.declared.clock.Clock.{Clock}

@@ -1,3 +1,5 @@
+-- The edge changes its own pair's list alone: there the newest vector goes on, or a new one opens; what the seat awaits
+-- follows in both cases.
 use Rattle.std.proofs.Common.{◌≡◌, ℕ, ◌-◌, ◌++◌, ◌∷◌, [], List, length, refl, sym, ap, subst, ◌∙◌, ◌<◌, ◌≤◌, arith}
 use Rattle.std.specs.Prelude.{All, slice_set}
 use Rattle.stride_vector.specs.declared.StrideVector.{StrideVector}

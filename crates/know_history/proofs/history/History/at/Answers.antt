@@ -5,7 +5,7 @@ use Rattle.know_history.specs.declared.changes.Change.{Change}
 use Rattle.know_history.specs.Changes.{changes_at, known_by, newest_at}
 use Rattle.know_history.specs.Notes.{Notes, known_at, noted_count}
 use Rattle.know_history.proofs.OneList.{sorted}
-use Rattle.know_history.proofs.Noted.{core_within, count_is, known_is, list_within}
+use Rattle.know_history.proofs.Noted.{core_within, count_is, known_is, list_there}
 use Rattle.know_history.proofs.history.History.at.Goals as goal
 
 -- the list that was looked into
@@ -14,10 +14,8 @@ list_is c = c.list.ensures ∙ ap (λ (p : ℕ). items_at c.self.inside.changes 
 
 pub list-requires : goal.list-requires
 list-requires c =
-    let within = core_within _ _ _ c.args.core (ap (λ v. v.notes) c.self.view_is) c.requires.core in
-    let lt = list_within _ _ c.args.core c.args.of c.self.invariant within c.requires.place in
-    let e = c.list_place.ensures in
-    omega arith
+    list_there _ c.self.inside.changes _ c.args.core c.args.of c.list_place.result c.self.invariant
+    (ap (λ v. v.notes) c.self.view_is) c.requires.core c.requires.place c.list_place.ensures
 
 pub known_by-requires : goal.known_by-requires
 known_by-requires c =

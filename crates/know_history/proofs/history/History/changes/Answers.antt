@@ -4,15 +4,13 @@ use Rattle.roomy_lists.specs.Lists.{items_at, items_in}
 use Rattle.know_history.specs.declared.history.Newest.{Newest}
 use Rattle.know_history.specs.Changes.{no_newest}
 use Rattle.know_history.specs.Notes.{Notes, change_count}
-use Rattle.know_history.proofs.Noted.{changes_are, changes_few, core_within, list_within}
+use Rattle.know_history.proofs.Noted.{changes_are, changes_few, core_within, list_there}
 use Rattle.know_history.proofs.history.History.changes.Goals as goal
 
 pub list-changes-requires : goal.list-changes-requires
 list-changes-requires c =
-    let within = core_within _ _ _ c.args.core (ap (λ v. v.notes) c.self.view_is) c.requires.core in
-    let lt = list_within _ _ c.args.core c.args.of c.self.invariant within c.requires.place in
-    let e = c.list_place.ensures in
-    omega arith
+    list_there _ c.self.inside.changes _ c.args.core c.args.of c.list_place.result c.self.invariant
+    (ap (λ v. v.notes) c.self.view_is) c.requires.core c.requires.place c.list_place.ensures
 
 pub index-requires : goal.index-requires
 index-requires c =

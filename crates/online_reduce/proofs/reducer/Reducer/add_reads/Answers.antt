@@ -1,3 +1,5 @@
+-- The reads that are kept are of different cores, each below the instruction; the lists' own call puts the edges, and
+-- the state follows.
 use Rattle.std.proofs.Common.{◌∙◌, ◌<◌, ap, sym, arith, length, refl}
 use Rattle.std.proofs.lemmas.List.{length-set}
 use Rattle.roomy_lists.specs.Lists.{items_in}

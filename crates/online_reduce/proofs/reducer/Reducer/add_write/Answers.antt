@@ -1,3 +1,5 @@
+-- The write is a covering source exactly where the core's clock hasn't reached it: with its edge put, or without one,
+-- the state is what the definition says.
 use Rattle.std.proofs.Common.{◌∙◌, ap, sym, subst, arith, length, ◌<◌, [], ◌∷◌, ◌++◌, List}
 use Rattle.std.specs.Prelude.{Some, None, IsTrue}
 use Rattle.std.proofs.lemmas.List.Elements.{All-get_or}

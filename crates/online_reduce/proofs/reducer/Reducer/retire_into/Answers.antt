@@ -1,15 +1,16 @@
-use Rattle.std.proofs.Common.{◌≡◌, ◌<◌, ◌∙◌, ◌++◌, ◌∷◌, [], List, ap, arith, length, sym, subst}
+-- The edges found are the covering ones of the access, so the reduction of the list with it is the one before and
+-- these.
+use Rattle.std.proofs.Common.{◌≡◌, ◌<◌, ◌∙◌, ap, arith, length, sym, subst}
 use Rattle.rtr_types.specs.declared.TheConstants.{CORES_MAX}
-use Rattle.rtr_types.specs.declared.instr.Edge.{Edge}
 use Rattle.clock_core.specs.declared.clock.Clock.{Clock}
 use Rattle.access_times.specs.declared.times.Times.{Times}
 use Rattle.access_times.specs.Times.{times_noted}
-use Rattle.online_reduce.specs.Exact.{IsHeld, IsReduction}
+use Rattle.online_reduce.specs.Exact.{IsHeld}
 use Rattle.online_reduce.specs.Reduced.{Reduced, clock_of, retired}
 use Rattle.online_reduce.proofs.Drawn.{counted_is_retired}
 use Rattle.online_reduce.proofs.Held.{held}
 use Rattle.online_reduce.proofs.Retired.{same_clock_of}
-use Rattle.online_reduce.proofs.Touched.{clock_after, covering_after, exact_after, reduction_after}
+use Rattle.online_reduce.proofs.Touched.{adds_access}
 use Rattle.online_reduce.proofs.reducer.Reducer.retire_into.Goals as goal
 
 -- the core is one of those that there are
@@ -44,24 +45,7 @@ returns-clause-held c =
     let m = clock_of c.count.new.self.state a.at.core in
     subst (λ (t : Times). IsHeld a t m) (sym (returns-clause-times c)) (held a c.args.times.now m (fits c))
 
-pub returns-clause-clock : goal.returns-clause-clock
-returns-clause-clock c =
-    clock_after c.args.self.now.state c.count.new.self.state c.args.access.now c.args.times.now (state_is c)
-    c.requires.next
-
-pub returns-clause-covering : goal.returns-clause-covering
-returns-clause-covering c =
-    covering_after c.args.self.now.state c.args.access.now c.args.times.now c.draw.new.edges c.draw.ensures.edges
-    c.requires.next
-
-pub returns-clause-exact : goal.returns-clause-exact
-returns-clause-exact c =
-    exact_after c.args.self.now.state c.count.new.self.state c.args.access.now c.args.times.now (state_is c)
-    c.requires.next
-
-pub returns-clause-reduction : goal.returns-clause-reduction
-returns-clause-reduction c list edges kept times =
-    subst (λ (es : List Edge). IsReduction (list ++ c.args.access.now ∷ []) c.count.new.self.state (edges ++ es))
-    (sym c.draw.ensures.edges)
-    (reduction_after c.args.self.now.state c.count.new.self.state c.args.access.now c.args.times.now (state_is c)
-    c.requires.next list edges kept times)
+pub returns-clause-adds : goal.returns-clause-adds
+returns-clause-adds c =
+    adds_access c.args.self.now.state c.count.new.self.state c.args.access.now c.args.times.now c.draw.new.edges
+    (state_is c) c.draw.ensures.edges c.requires.next

@@ -1,3 +1,5 @@
+-- One list may be known to be the only full one: it gets room. Otherwise each list does in turn, and those made ready
+-- so far stay ready. The items stay, also where memory ran out.
 use Rattle.std.proofs.Common.{◌∙◌, ap, arith, vec_len, vec_capacity}
 use Rattle.roomy_lists.specs.Lists.{items_in}
 use Rattle.roomy_lists.proofs.Rooms.{all_made, made_more, others_but, others_made, others_none, same_items, unknown}

@@ -1,3 +1,5 @@
+-- The item is the last at its place, and each other list reads as before. What is noted of the lists' room stays true:
+-- all have some, all but one, or it isn't known.
 use Rattle.std.proofs.Common.{◌≡◌, ◌<◌, ◌∷◌, ◌++◌, [], sym, ap, ◌∙◌, arith, length}
 use Rattle.std.specs.Prelude.{slice_set}
 use Rattle.std.proofs.lemmas.Bool.Decides.{nat_tests}
