@@ -298,38 +298,38 @@ module _ {R K : Type 0} where
   base_responded None true riding cores p rest = refl
   base_responded None false riding cores p rest = refl
 
+  -- the home takes the oldest of these responses of a port
+  responses_earn : (riding : Riding R) (carrying : Carrying K) (s : State R K) (c : ℕ) →
+      MachineHolds riding carrying s →
+      c < length s.cores → (q : List (Mail (Response R) K)) → (port_at carrying s.memory.ports c).responses.items ≡ q →
+      not (is_nil q) ≡ true → Earns riding s (record s { memory = take_response_in q riding carrying s.memory c })
+  responses_earn riding carrying s c h lc [] is some = absurd (cc)
+  responses_earn riding carrying s c h lc (mail ∷ rest) is some =
+      let p : Port R K = port_at carrying s.memory.ports c in
+      let b : ℕ = response_block mail.item in
+      let entry : Entry R = entry_at riding.fresh s.memory.home b in
+      let made : ResponseAsMoved riding entry c mail.item = response_makes_step riding entry c mail.item in
+      let answer : HomeAnswer R = answer_to_response riding.absorbed entry c mail.item in
+      let debt_is : answer_debt answer.send answer.invalidate (length s.memory.ports) ≡ 0 =
+      answer_debt_is answer (response_step entry.stage c (reply_of mail.item)) (length s.memory.ports) made.send
+      made.invalidate
+      ∙ response_debt entry.stage c (reply_of mail.item) (length s.memory.ports) in
+      let base = base_responded (need_access (need s.image (core_at s.cores c)))
+      (is_done (need s.image (core_at s.cores c))) riding
+      (length s.cores) p rest in
+      let owes : owed p ≡ owed (port_responded p rest) + 1 =
+      let f : length p.responses.items ≡ length rest + 1 = ap length is ∙ omega arith in omega arith in
+      home_earns riding carrying s c (port_responded p rest) answer b (carrying.joined s.memory.carry mail.carry)
+      (entries_after_response riding s.memory.home c mail.item) 0 h lc debt_is (omega arith)
+
   response_earns : (riding : Riding R) (carrying : Carrying K) (s : State R K) (c : ℕ) (rider : R) →
       IsTrue (enabled riding carrying s (ResponseMove c)) →
       MachineHolds riding carrying s → Earns riding s (step riding carrying rider s (ResponseMove c))
   response_earns riding carrying s c rider e h =
-      by_items p.responses.items refl (true_is _ (second_true (nat_lt c (length s.memory.ports))
-      (can_at riding s.memory.home p (TakeResponse c)) e))
-    where
-      p : Port R K
-      p = port_at carrying s.memory.ports c
-
-      lc : c < length s.cores
-      lc = enabled_core riding carrying s (ResponseMove c) e h
-
-      by_items : (q : List (Mail (Response R) K)) → p.responses.items ≡ q → not (is_nil q) ≡ true →
-          Earns riding s (record s { memory = take_response_in q riding carrying s.memory c })
-      by_items [] is some = absurd (cc)
-      by_items (mail ∷ rest) is some =
-          let b : ℕ = response_block mail.item in
-          let entry : Entry R = entry_at riding.fresh s.memory.home b in
-          let made : ResponseAsMoved riding entry c mail.item = response_makes_step riding entry c mail.item in
-          let answer : HomeAnswer R = answer_to_response riding.absorbed entry c mail.item in
-          let debt_is : answer_debt answer.send answer.invalidate (length s.memory.ports) ≡ 0 =
-          answer_debt_is answer (response_step entry.stage c (reply_of mail.item)) (length s.memory.ports) made.send
-          made.invalidate
-          ∙ response_debt entry.stage c (reply_of mail.item) (length s.memory.ports) in
-          let base = base_responded (need_access (need s.image (core_at s.cores c)))
-          (is_done (need s.image (core_at s.cores c))) riding
-          (length s.cores) p rest in
-          let owes : owed p ≡ owed (port_responded p rest) + 1 =
-          let f : length p.responses.items ≡ length rest + 1 = ap length is ∙ omega arith in omega arith in
-          home_earns riding carrying s c (port_responded p rest) answer b (carrying.joined s.memory.carry mail.carry)
-          (entries_after_response riding s.memory.home c mail.item) 0 h lc debt_is (omega arith)
+      responses_earn riding carrying s c h (enabled_core riding carrying s (ResponseMove c) e h)
+      (port_at carrying s.memory.ports c).responses.items refl
+      (true_is _ (second_true (nat_lt c (length s.memory.ports))
+      (can_at riding s.memory.home (port_at carrying s.memory.ports c) (TakeResponse c)) e))
 
   -- each step pays for itself
   pub earns : (riding : Riding R) (carrying : Carrying K) (s : State R K) (m : Move) (rider : R) →

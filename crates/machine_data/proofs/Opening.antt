@@ -12,12 +12,12 @@ use Rattle.image_mem.proofs.WordLemmas.{opening_word-past}
 use Rattle.msi_directory.specs.declared.entry.Entry.{Entry}
 use Rattle.msi_directory.specs.Blocks.{block_count, opening_entry, opening_entries, entry_at, no_entry}
 use Rattle.msi_directory.proofs.Openings.{openings_counted}
-use Rattle.msi_protocol.specs.Seats.{HoldersHave}
+use Rattle.msi_protocol.specs.Seats.{FullBlock, HoldersHave}
 use Rattle.msi_protocol.specs.Showing.{Shows}
-use Rattle.msi_protocol.specs.Shown.{Payload, Sight}
+use Rattle.msi_protocol.specs.Shown.{Payload}
 use Rattle.msi_memory.specs.Memories.{Memory, port_at, memory_start}
 use Rattle.msi_laws.specs.Links.{port_sight}
-use Rattle.msi_laws.specs.Words.{HasWords, HaveWords}
+use Rattle.msi_laws.specs.Words.{HaveWords}
 use Rattle.msi_state.specs.States.{state_start}
 use Rattle.msi_laws.proofs.Starts.{words_start}
 use Rattle.machine_data.specs.Coherent.{Coherent, WordsFit, opening_memory, word_of}
@@ -92,21 +92,12 @@ module _ {R K : Type 0} where
   same_memory : (riding : Riding R) (carrying : Carrying K) (m : Memory R K) (old new : ℕ → List ℕ) →
       ((b : ℕ) → old b ≡ new b) →
       HaveWords riding carrying m old → HaveWords riding carrying m new
-  same_memory riding carrying m old new same h = record { blocks = λ b. at b (h.blocks b) }
-    where
-      sights : (b d : ℕ) → Sight R
-      sights b d = port_sight riding b (port_at carrying m.ports d)
-
-      at : (b : ℕ) → Shows (HasWords old b) b (entry_at riding.fresh m.home b) (sights b) →
-          Shows (HasWords new b) b (entry_at riding.fresh m.home b) (sights b)
-      at b s =
-          record {
-            block = s.block;
-            entry_is = s.entry_is;
-            shows = s.shows;
-            fits = s.fits;
-            has = subst (λ (words : List ℕ). HoldersHave (λ (x : Payload R). x.words ≡ words) s.block) (same b) s.has;
-          }
+  same_memory riding carrying m old new same h =
+      record {
+        blocks = λ b. subst (λ (words : List ℕ). Shows (λ (block : FullBlock (Payload R)).
+            HoldersHave (λ (x : Payload R). x.words ≡ words) block) b (entry_at riding.fresh m.home b)
+            (λ d. port_sight riding b (port_at carrying m.ports d))) (same b) (h.blocks b);
+      }
 
   -- the home has the only copies
   pub home_coherent : (riding : Riding R) (carrying : Carrying K) (image : Contents) (cores limit : ℕ) →

@@ -28,8 +28,8 @@ module _ {R K : Type 0} where
       (starting 0 0) within
 
   -- and its port doesn't wait
-  pub done_still : (riding : Riding R) (carrying : Carrying K) (s : State R K) (c : ℕ) → MachineHolds riding carrying s →
-      all_done s ≡ true →
+  pub done_still : (riding : Riding R) (carrying : Carrying K) (s : State R K) (c : ℕ) →
+      MachineHolds riding carrying s → all_done s ≡ true →
       c < length s.cores → waits (port_at carrying s.memory.ports c).cache ≡ false
   done_still riding carrying s c h done within =
       subst (λ (needed : Option (Kind × ℕ)). Awaited needed riding (port_at carrying s.memory.ports c))

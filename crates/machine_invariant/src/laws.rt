@@ -39,8 +39,8 @@ pub fn every_step_keeps_it<R: Rider, K: Carry>()
 /// So each state has it that moves lead to from the start, whatever moves they are and whatever riders clerks
 /// leave.
 pub fn every_state_from_a_start_has_it<R: Rider, K: Carry>()
-    ensures { (image : Contents) (cores limit : ℕ) → cores ≤ CORES_MAX → limit < 2 ^ 32 → (taken : List (MoveTaken Move R))
-        → let start = state_start R.riding K.carrying image cores limit in
+    ensures { (image : Contents) (cores limit : ℕ) → cores ≤ CORES_MAX → limit < 2 ^ 32
+        → (taken : List (MoveTaken Move R)) → let start = state_start R.riding K.carrying image cores limit in
         MachineHolds R.riding K.carrying (walked R.riding K.carrying start taken) }
 {}
 

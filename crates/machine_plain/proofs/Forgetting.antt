@@ -20,8 +20,8 @@ use Rattle.msi_state.specs.Events.{Event, Nothing, Retires, Accesses, access_of,
 use Rattle.msi_state.specs.Events.{event_working, event_working_in, port_taken}
 use Rattle.msi_state.specs.Moves.{core_of}
 use Rattle.msi_state.specs.States.{State, PlainState, core_at}
-use Rattle.msi_state.specs.Steps.{acts, acts_of, acts_working, cores_after, event}
-use Rattle.machine_plain.specs.Plain.{plain, PlainStep, PlainEvent}
+use Rattle.msi_state.specs.Steps.{acts, acts_of, acts_working, cores_after, event, step}
+use Rattle.machine_plain.specs.Plain.{plain}
 use Rattle.machine_plain.proofs.Plains.{plain_allows, plain_data_next, plain_port_at, plain_taking}
 use Rattle.machine_plain.proofs.PlainActs.{plain_after_acts}
 
@@ -73,7 +73,7 @@ module _ {R K : Type 0} where
       (plain_data_next p.messages.items)
 
   pub plain_event : (riding : Riding R) (carrying : Carrying K) (s : State R K) (m : Move) →
-      PlainEvent riding carrying s m
+      event riding carrying s m ≡ event none_riding none_carrying (plain s) m
   plain_event riding carrying s (CoreMove c) =
       plain_event_working s.image riding (core_at s.cores c) (port_at carrying s.memory.ports c)
       ∙ ap (λ (p : Port (Unit {0}) (Unit {0})). event_working s.image none_riding (core_at s.cores c) p)
@@ -119,7 +119,7 @@ module _ {R K : Type 0} where
   -- ---- the step
 
   pub plain_step : (riding : Riding R) (carrying : Carrying K) (rider : R) (s : State R K) (m : Move) →
-      PlainStep riding carrying rider s m
+      plain (step riding carrying rider s m) ≡ step none_riding none_carrying tt (plain s) m
   plain_step riding carrying rider s m =
       let by : Event → Memory (Unit {0}) (Unit {0}) → PlainState =
       λ (e : Event) (x : Memory (Unit {0}) (Unit {0})). record {

@@ -50,12 +50,7 @@ is_nil_map f (x ∷ xs) = refl
 
 module _ {R : Type 0} where
   plain_port_of : (act : Act R) → port_of (plain_act act) ≡ port_of act
-  plain_port_of (Want c block kind) = refl
-  plain_port_of (Touch c block slot kind value rider) = refl
-  plain_port_of (Retire c at) = refl
-  plain_port_of (TakeRequest c) = refl
-  plain_port_of (TakeResponse c) = refl
-  plain_port_of (TakeMessage c) = refl
+  plain_port_of act = search rules
 
 module _ {R K : Type 0} where
   -- ---- what the home sends

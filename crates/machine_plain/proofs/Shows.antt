@@ -20,8 +20,9 @@ use Rattle.msi_memory.specs.declared.port.Port.{Port}
 use Rattle.msi_memory.specs.Finals.{block_words_in}
 use Rattle.msi_memory.specs.Memories.{Memory, memory_start, port_at, port_start}
 use Rattle.msi_memory.specs.PlainPart.{plain_memory, plain_port}
-use Rattle.msi_state.specs.States.{State, state_start}
-use Rattle.machine_plain.specs.Shows.{PlainStart, PlainDone, PlainWords}
+use Rattle.msi_state.specs.FinalMemory.{final_words}
+use Rattle.msi_state.specs.States.{State, all_done, state_start}
+use Rattle.machine_plain.specs.Plain.{plain}
 use Rattle.machine_plain.proofs.Plains.{plain_port_at}
 
 map_map : {A B C : Type 0} (f : B → C) (g : A → B) (h : A → C) → ((a : A) → f (g a) ≡ h a) → (xs : List A) →
@@ -59,13 +60,13 @@ module _ {R K : Type 0} where
       (range_with_len 0 (block_count image.words)))
 
   pub plain_start : (riding : Riding R) (carrying : Carrying K) (image : Contents) (cores limit : ℕ) →
-      PlainStart riding carrying image cores limit
+      plain (state_start riding carrying image cores limit) ≡ state_start none_riding none_carrying image cores limit
   plain_start riding carrying image cores limit =
       ap (λ (x : Memory (Unit {0}) (Unit {0})). record (state_start none_riding none_carrying image cores limit)
       { memory = x })
       (plain_memory_start riding carrying image cores)
 
-  pub plain_done : (s : State R K) → PlainDone s
+  pub plain_done : (s : State R K) → all_done s ≡ all_done (plain s)
   plain_done s = refl
 
   words_by : (stage : Stage) (riding : Riding R) (carrying : Carrying K) (m : Memory R K) (block : ℕ) →
@@ -86,7 +87,7 @@ module _ {R K : Type 0} where
       ap (λ (e : Entry (Unit {0})). e.words) (plain_on_request riding m.home 0 (GetS block)).same_entry
 
   pub plain_words : (riding : Riding R) (carrying : Carrying K) (s : State R K) (block : ℕ) →
-      PlainWords riding carrying s block
+      final_words riding carrying s block ≡ final_words none_riding none_carrying (plain s) block
   plain_words riding carrying s block =
       words_by (entry_at riding.fresh s.memory.home block).stage riding carrying s.memory block
       ∙ ap (λ (e : Entry (Unit {0})). block_words_in e.stage none_riding none_carrying (plain_memory s.memory) block)

@@ -24,11 +24,13 @@ use Rattle.msi_laws.proofs.Spaces.{no_requests}
 
 module _ {R K : Type 0} where
   -- where data come, the access is allowed that waited for them
-  access_waited : (riding : Riding R) (carrying : Carrying K) (s : State R K) (c : ℕ) → MachineHolds riding carrying s →
-      c < length s.cores → IsTrue (not (data_next (port_at carrying s.memory.ports c).messages.items)
+  access_waited : (riding : Riding R) (carrying : Carrying K) (s : State R K) (c : ℕ) →
+      MachineHolds riding carrying s → c < length s.cores →
+      IsTrue (not (data_next (port_at carrying s.memory.ports c).messages.items)
       || may_access (need_access (need s.image (core_at s.cores c))) riding
       (port_taken riding carrying (port_at carrying s.memory.ports c)))
-  access_waited riding carrying s c h within = by_test (data_next (port_at carrying s.memory.ports c).messages.items) refl
+  access_waited riding carrying s c h within =
+      by_test (data_next (port_at carrying s.memory.ports c).messages.items) refl
     where
       by_test : (t : Bool) → data_next (port_at carrying s.memory.ports c).messages.items ≡ t →
           IsTrue (not t || may_access (need_access (need s.image (core_at s.cores c))) riding
@@ -52,10 +54,8 @@ module _ {R K : Type 0} where
   rows_there riding carrying s (RequestMove c) h e = (home_ready riding carrying s h).rows (TakeRequest c) e
   rows_there riding carrying s (ResponseMove c) h e = (home_ready riding carrying s h).rows (TakeResponse c) e
   rows_there riding carrying s (MessageMove c) h e =
-      both_true (has_act_row riding carrying s.memory (TakeMessage c))
-      (not (data_next (port_at carrying s.memory.ports c).messages.items) || may_access
-      (need_access (need s.image (core_at s.cores c))) riding
-      (port_taken riding carrying (port_at carrying s.memory.ports c))) ((home_ready riding carrying s h).rows (TakeMessage c) e)
+      both_true (has_act_row riding carrying s.memory (TakeMessage c)) _
+      ((home_ready riding carrying s h).rows (TakeMessage c) e)
       (access_waited riding carrying s c h (enabled_core riding carrying s (MessageMove c) e h))
 
   pub rooms_there : (riding : Riding R) (carrying : Carrying K) (s : State R K) (m : Move) →

@@ -36,9 +36,9 @@ use Rattle.machine_invariant.proofs.Happening.{receiving_cases, working_cases}
 use Rattle.machine_invariant.proofs.Kept.{acts_can}
 use Rattle.machine_times.specs.History.{NotedAccess, rank, last_noted_read}
 use Rattle.machine_times.specs.Retirements.{Retirement, noted_accesses, noted_after, retired_by, StandsAfter}
-use Rattle.machine_times.specs.Retirements.{RiderNotes, IsExactRider}
+use Rattle.machine_times.specs.Retirements.{RiderFits, RiderNotes, IsExactRider}
 use Rattle.machine_times.specs.StandsFor.{TimesParts, AbsorbsAll, HaveTimes}
-use Rattle.machine_times.specs.TimedSteps.{RiderFits, TimedStep, FindsTimes}
+use Rattle.machine_times.specs.TimedSteps.{TimedStep, FindsTimes}
 use Rattle.machine_times.proofs.Counting.{IsNext, counted_after, event_next, noted_event, order_after, rank_retired}
 use Rattle.machine_times.proofs.Times.{port_finds}
 use Rattle.machine_times.proofs.TimedActs.{other_times, touch_times}

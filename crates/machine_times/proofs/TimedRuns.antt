@@ -18,10 +18,11 @@ use Rattle.machine_times.proofs.Begins.{machine_start}
 use Rattle.machine_times.proofs.RiderLaws.{times_absorb, times_fresh, times_notes}
 use Rattle.machine_times.proofs.Timed.{timed_step, finds_exact}
 use Rattle.machine_times.proofs.Told.{event_reversed}
-use Rattle.machine_times.specs.Retirements.{Retirement, StandsAfter, MachineStandsFor, RiderNotes, with_event}
+use Rattle.machine_times.specs.Retirements.{Retirement, StandsAfter, MachineStandsFor, RiderFits, RiderNotes}
+use Rattle.machine_times.specs.Retirements.{with_event}
 use Rattle.machine_times.specs.TimedRuns.{TimedMove, TimedState, rider_noted, timed_taking, timed_run, timed_start}
 use Rattle.machine_times.specs.TimedRuns.{TimedRunLaw}
-use Rattle.machine_times.specs.TimedSteps.{RiderFits, times_parts}
+use Rattle.machine_times.specs.TimedSteps.{times_parts}
 
 module _ {K : Type 0} where
   noted_fits : (e : Event) (port : Port Times K) (clock : Clock) →

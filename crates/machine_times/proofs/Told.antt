@@ -17,8 +17,8 @@ use Rattle.msi_state.specs.Events.{Event, Nothing, Retires, Accesses, Tells, rid
 use Rattle.msi_state.specs.Steps.{event, retiring, step}
 use Rattle.machine_times.proofs.RiderLaws.{times_absorb, times_notes}
 use Rattle.machine_times.proofs.Timed.{timed_step}
-use Rattle.machine_times.specs.Retirements.{Retirement, StandsAfter, after_event, with_event, RiderNotes}
-use Rattle.machine_times.specs.TimedSteps.{RiderFits, TimedTold, times_parts, core_of_event, last_clock, ClocksTold}
+use Rattle.machine_times.specs.Retirements.{Retirement, StandsAfter, after_event, with_event, RiderFits, RiderNotes}
+use Rattle.machine_times.specs.TimedSteps.{TimedTold, times_parts, core_of_event, last_clock, ClocksTold}
 
 -- what an event retired, put at the end of the list, comes first when that is turned round
 pub event_reversed : (e : Event) (clock : Clock) (list : List Retirement) → after_event e clock (reverse list) ≡ reverse

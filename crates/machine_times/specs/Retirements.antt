@@ -6,6 +6,8 @@ use Rattle.rtr_types.specs.declared.TheConstants.{BLOCK_WORDS, CORES_MAX}
 use Rattle.clock_core.specs.declared.clock.Clock.{Clock}
 use Rattle.rtr_types.specs.declared.access.Access.{Access}
 use Rattle.rtr_types.specs.declared.instr.Instr.{Instr}
+use Rattle.msi_memory.specs.declared.port.Port.{Port}
+use Rattle.msi_memory.specs.Memories.{rider_at}
 use Rattle.msi_state.specs.Events.{Event, Nothing, Retires, Accesses}
 use Rattle.msi_state.specs.States.{State, core_at}
 use Rattle.machine_times.specs.History.{NotedAccess, write_after, read_after, IsExactFor}
@@ -80,6 +82,12 @@ pub record RiderNotes {R : Type 0} (parts : TimesParts R) (n : NotedAccess) (old
       → parts.write new slot ≡ write_after n (word_number (n.access.word / BLOCK_WORDS) slot) (parts.write old slot)
   pub read : (slot d : ℕ) → slot < BLOCK_WORDS → d < CORES_MAX
       → parts.read new slot d ≡ read_after n (word_number (n.access.word / BLOCK_WORDS) slot) d (parts.read old slot d)
+
+-- where an access retires, the rider left is the one found with the access and the clock noted
+abbrev pub RiderFits : {R K : Type 0} → TimesParts R → Clock → R → Event → Port R K → Type 0
+RiderFits parts clock rider e p =
+    (a : Access) → e ≡ Accesses a
+    → RiderNotes parts (record { access = a; clock = clock }) (rider_at parts.riding p a.word) rider
 
 -- the rider is exact for the access after these: in its word's slot it has the last write and, for an access that
 -- writes, each core's last read since, each with its clock, and nothing else

@@ -11,21 +11,14 @@ use Rattle.machine_invariant.specs.Holds.{MachineHolds}
 use Rattle.msi_state.specs.Events.{Event, Nothing, Retires, Accesses, Tells}
 use Rattle.msi_state.specs.States.{State}
 use Rattle.msi_state.specs.Steps.{step, event, retiring, rider_found, enabled}
-use Rattle.msi_memory.specs.declared.port.Port.{Port}
 use Rattle.msi_memory.specs.Memories.{rider_at}
 use Rattle.msi_state.specs.declared.moves.Move.{Move}
 use Rattle.machine_times.specs.Retirements.{Retirement, noted_accesses, MachineStandsFor, StandsAfter, after_event}
 use Rattle.machine_times.specs.Retirements.{with_event}
-use Rattle.machine_times.specs.Retirements.{RiderNotes, IsExactRider}
+use Rattle.machine_times.specs.Retirements.{RiderFits, IsExactRider}
 use Rattle.machine_times.specs.StandsFor.{TimesParts}
 
 module _ {R K : Type 0} where
-  -- where an access retires, the rider left is the one found with the access and the clock noted
-  abbrev pub RiderFits : TimesParts R → Clock → R → Event → Port R K → Type 0
-  RiderFits parts clock rider e p =
-      (a : Access) → e ≡ Accesses a
-      → RiderNotes parts (record { access = a; clock = clock }) (rider_at parts.riding p a.word) rider
-
   -- after each step the machine stands for the retirements with the new one
   abbrev pub TimedStep : TimesParts R → Carrying K → Type 0
   TimedStep parts carrying =

@@ -264,9 +264,6 @@ module _ {R K : Type 0} where
       p : Port R K
       p = port_at carrying m.ports c
 
-      there : c < length m.ports
-      there = there_of riding carrying m (TakeResponse c) e
-
       by_items : (q : List (Mail (Response R) K)) → p.responses.items ≡ q → not (is_nil q) ≡ true →
           Balance cores m (take_response_in q riding carrying m c) 1 0
       by_items [] is some = absurd (cc)
@@ -282,4 +279,5 @@ module _ {R K : Type 0} where
           let owes : owed p ≡ owed (port_responded p rest) + 1 =
           let f : length p.responses.items ≡ length rest + 1 = ap length is ∙ omega arith in omega arith in
           home_balance carrying cores m c (port_responded p rest) answer b (carrying.joined m.carry mail.carry)
-          (entries_after_response riding m.home c mail.item) 0 there debt_is (omega arith)
+          (entries_after_response riding m.home c mail.item) 0
+          (there_of riding carrying m (TakeResponse c) e) debt_is (omega arith)

@@ -41,10 +41,10 @@ use Rattle.tso_bound.proofs.Sums.{sum_both, sums_beside}
 
 -- an event leaves a core's limit
 limit_after : (image : Contents) (core : Core) (e : Event) → (core_after image core e).limit ≡ core.limit
-limit_after image core Nothing = refl
 limit_after image core (Executes at) = limit_law image core 0
 limit_after image core (Buffers at x) = limit_law image core (value_of x)
 limit_after image core (Performs a) = limit_law image core a.before
+limit_after image core Nothing = refl
 limit_after image core (Drains a) = refl
 limit_after image core (Logs at word value) = refl
 

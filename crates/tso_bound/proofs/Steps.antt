@@ -28,11 +28,12 @@ use Rattle.tso_state.specs.declared.pending.Asker.{Asker}
 use Rattle.tso_state.specs.declared.pending.Asker.TheVariants.{Nobody, Next, Head}
 use Rattle.tso_state.specs.States.{State, BufferedCore, buffered_start, core_at}
 use Rattle.tso_state.specs.Events.{Told, Alone, Ordered, Logged, Event, Nothing, Executes, Buffers, Performs, Drains}
-use Rattle.tso_state.specs.Events.{Logs, event_granted, event_receiving, core_after, queue_after, tellings}
+use Rattle.tso_state.specs.Events.{Logs, event_granted, event_receiving, tellings}
 use Rattle.tso_state.specs.Steps.{acts_asking, acts_told, case_holds, core_left, enabled, event, head_access, is_fence}
 use Rattle.tso_state.specs.Steps.{is_next, step}
 use Rattle.tso_invariant.specs.Holds.{TsoHolds, may_ask, wish_by}
 use Rattle.tso_invariant.specs.Rests.{is_quiet}
+use Rattle.tso_invariant.proofs.Turns.{left as left_core}
 use Rattle.tso_invariant.proofs.Kept.{acts_can, core_can, core_port, enabled_core, order_can, step_cores}
 use Rattle.tso_bound.specs.Bound.{Earns, core_cost, memory_owed, memory_worth, paid, total_earned, total_owed}
 use Rattle.tso_bound.proofs.Acts.{Balance, is_telling, message_balance, request_balance, response_balance, told_balance}
@@ -85,14 +86,8 @@ module _ {R K : Type 0} where
   -- where one core is set
   set_earns : (riding : Riding R) (carrying : Carrying K) (rider : R) (s : State R K) (m : Move) (c : ℕ) (e : Event)
       (asker : Asker) (up down more : ℕ) →
-      c < length s.cores → (step riding carrying rider s m).cores
-      ≡ slice_set s.cores c
-      (record {
-        core = core_after s.image (core_at s.cores c).core e;
-        queue =
-            queue_after (core_at s.cores c).queue e;
-        asker = asker;
-      }) →
+      c < length s.cores →
+      (step riding carrying rider s m).cores ≡ slice_set s.cores c (left_core s.image (core_at s.cores c) e asker) →
       Balance (length s.cores) s.memory (step riding carrying rider s m).memory up down →
       Pays (length s.cores) s.image (core_at s.cores c) e more →
       down + 1 ≤ up + more → Earns s (step riding carrying rider s m)
@@ -113,12 +108,20 @@ module _ {R K : Type 0} where
       new = step riding carrying rider s m
 
       t : BufferedCore
-      t = record {
-        core = core_after s.image (core_at s.cores c).core e;
-        queue =
-            queue_after (core_at s.cores c).queue e;
-        asker = asker;
-      }
+      t = left_core s.image (core_at s.cores c) e asker
+
+  -- where it is a core's own turn: that the core asks is paid for, and what else happens pays for itself
+  own_earns : (riding : Riding R) (carrying : Carrying K) (rider : R) (s : State R K) (m : Move) (c : ℕ) →
+      let e : Event = event riding carrying s m in
+      c < length s.cores → (step riding carrying rider s m).cores
+      ≡ slice_set s.cores c (left_core s.image (core_at s.cores c) e (core_left riding carrying s m).asker) →
+      Balance (length s.cores) s.memory (step riding carrying rider s m).memory (if is_quiet e then 1 else 0) 0 →
+      Pays (length s.cores) s.image (core_at s.cores c) e (if is_quiet e then 0 else 1) →
+      Earns s (step riding carrying rider s m)
+  own_earns riding carrying rider s m c within is balance pays =
+      let e : Event = event riding carrying s m in
+      set_earns riding carrying rider s m c e (core_left riding carrying s m).asker (if is_quiet e then 1 else 0) 0
+      (if is_quiet e then 0 else 1) within is balance pays (even (is_quiet e))
 
   -- where the cores stay
   home_earns : (riding : Riding R) (carrying : Carrying K) (rider : R) (s : State R K) (m : Move) →
@@ -218,28 +221,24 @@ module _ {R K : Type 0} where
       let t : BufferedCore = core_at s.cores c in
       let p : Port R K = port_at carrying s.memory.ports c in
       let w = core_can riding carrying s c e in
-      let x : Event = event riding carrying s (CoreMove c) in
-      set_earns riding carrying rider s (CoreMove c) c x (core_left riding carrying s (CoreMove c)).asker
-      (if is_quiet x then 1 else 0) 0
-      (if is_quiet x then 0 else 1) w.0 refl
-      (turn_balance riding carrying rider (length s.cores) s.memory c t (need_access (need s.image t.core)) x h.memory
+      own_earns riding carrying rider s (CoreMove c) c w.0 refl
+      (turn_balance riding carrying rider (length s.cores) s.memory c t (need_access (need s.image t.core))
+      (event riding carrying s (CoreMove c)) h.memory
       (acts_can riding carrying s (CoreMove c) rider e h)
       (λ quiet. executing_asks (need s.image t.core) (is_fence s.image t.core) s.image riding t p
       (and_parts (not (is_next t.asker)) (case_holds (need s.image t.core) (is_fence s.image t.core) riding t.queue p)
       w.1).1 quiet))
-      (executing_pays (length s.cores) (need s.image t.core) s.image riding t p) (even (is_quiet x))
+      (executing_pays (length s.cores) (need s.image t.core) s.image riding t p)
   earns riding carrying s (OrderMove c) rider e h =
       let t : BufferedCore = core_at s.cores c in
       let p : Port R K = port_at carrying s.memory.ports c in
       let w = order_can riding carrying s c e in
-      let x : Event = event riding carrying s (OrderMove c) in
-      set_earns riding carrying rider s (OrderMove c) c x (core_left riding carrying s (OrderMove c)).asker
-      (if is_quiet x then 1 else 0) 0
-      (if is_quiet x then 0 else 1) w.0 refl
-      (turn_balance riding carrying rider (length s.cores) s.memory c t (head_access t.queue) x h.memory
+      own_earns riding carrying rider s (OrderMove c) c w.0 refl
+      (turn_balance riding carrying rider (length s.cores) s.memory c t (head_access t.queue)
+      (event riding carrying s (OrderMove c)) h.memory
       (acts_can riding carrying s (OrderMove c) rider e h)
       (λ quiet. ordering_asks t.queue riding t.core.id p w.1 quiet))
-      (ordering_pays (length s.cores) t.queue s.image riding t p refl) (even (is_quiet x))
+      (ordering_pays (length s.cores) t.queue s.image riding t p refl)
   earns riding carrying s (RequestMove c) rider e h =
       home_earns riding carrying rider s (RequestMove c) refl
       (subst (λ (n : ℕ). Balance n s.memory (after_act riding carrying s.memory (TakeRequest c)) 1 0) h.ports_there

@@ -115,11 +115,10 @@ pub run_cores : (image : Contents) (params : Params) (choices : ℕ → ℕ) (t 
     length (run image params choices t).cores ≡ params.cores
 run_cores image params choices zero = length-map-range_with_len (λ (id : ℕ). buffered_start id params.limit) 0
     params.cores
-run_cores image params choices (suc t) = stepped (chosen (run image params choices t) (choices t))
-    (run_cores image params choices t)
+run_cores image params choices (suc t) =
+    stepped (chosen (run image params choices t) (choices t)) ∙ run_cores image params choices t
   where
-    stepped : (o : Option Move) → length (run image params choices t).cores ≡ params.cores →
-        length (stepped_by (run image params choices t) o).cores
-        ≡ params.cores
-    stepped None e = e
-    stepped (Some m) e = step_cores none_riding none_carrying tt (run image params choices t) m ∙ e
+    stepped : (taken : Option Move) → length (stepped_by (run image params choices t) taken).cores
+        ≡ length (run image params choices t).cores
+    stepped None = refl
+    stepped (Some m) = step_cores none_riding none_carrying tt (run image params choices t) m

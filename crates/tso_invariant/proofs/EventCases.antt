@@ -29,6 +29,17 @@ abbrev pub found : (core count word old : ℕ) → Access
 found core count word old =
     record { at = record { core = core; count = count }; word = word; kind = Loading; before = old; after = old }
 
+-- of an event that depends on a test
+pub either_event : (P : Event → Type 0) (test : Bool) (e f : Event) → P e → P f → P (if test then e else f)
+either_event P true e f first second = first
+either_event P false e f first second = second
+
+-- and where the access is allowed, of the event that it is
+pub where_allowed : (P : Event → Type 0) (allowed : Bool) (e : Event) → allowed ≡ true → P e →
+    P (if allowed then e else Nothing)
+where_allowed P true e is made = made
+where_allowed P false e is made = absurd (cc)
+
 if_allowed : (P : Event → Type 0) (allowed : Bool) (e : Event) → (allowed ≡ true → P e) → P Nothing →
     P (if allowed then e else Nothing)
 if_allowed P true e made none = made refl
@@ -36,8 +47,8 @@ if_allowed P false e made none = none
 
 module _ {R K : Type 0} where
   -- a load that executes is made, or joins the queue
-  pub by_load : (P : Event → Type 0) (image : Contents) (riding : Riding R) (t : BufferedCore) (p : Port R K) (word : ℕ) →
-      (allows riding p (word / BLOCK_WORDS) Loading ≡ true →
+  pub by_load : (P : Event → Type 0) (image : Contents) (riding : Riding R) (t : BufferedCore) (p : Port R K)
+      (word : ℕ) → (allows riding p (word / BLOCK_WORDS) Loading ≡ true →
       P (Performs (access_of image riding t.core p word Loading))) →
       (allows riding p (word / BLOCK_WORDS) Loading ≡ true → P (Buffers (next_instr t.core)
       (PendingLoad (t.core.count + 1) word (forwarded t.queue word (word_at riding p word))))) →
@@ -60,8 +71,8 @@ module _ {R K : Type 0} where
       by_allowed false made joins = none
 
   -- and an atomic memory operation is made
-  pub by_amo : (P : Event → Type 0) (image : Contents) (riding : Riding R) (t : BufferedCore) (p : Port R K) (word : ℕ) →
-      (allows riding p (word / BLOCK_WORDS) Exchanging ≡ true →
+  pub by_amo : (P : Event → Type 0) (image : Contents) (riding : Riding R) (t : BufferedCore) (p : Port R K)
+      (word : ℕ) → (allows riding p (word / BLOCK_WORDS) Exchanging ≡ true →
       P (Performs (access_of image riding t.core p word Exchanging))) →
       P Nothing → P (event_executing (Amo word) image riding t p)
   by_amo P image riding t p word made none = if_allowed P (allows riding p (word / BLOCK_WORDS) Exchanging) _ made none

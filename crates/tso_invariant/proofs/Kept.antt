@@ -7,7 +7,7 @@ use Rattle.std.proofs.lemmas.Bool.{and_parts, ltb-true}
 use Rattle.std.proofs.lemmas.Bool.Decides.{nat_tests}
 use Rattle.std.proofs.lemmas.List.{length-set, get_or-set_same, get_or-set_other}
 use Rattle.access_times.specs.Riding.{Riding, Carrying}
-use Rattle.msi_memory.specs.Acts.{Act, TakeRequest, TakeResponse, TakeMessage, can, can_all}
+use Rattle.msi_memory.specs.Acts.{Act, TakeRequest, TakeResponse, TakeMessage, can, can_all, port_of}
 use Rattle.msi_memory.specs.Memories.{port_at}
 use Rattle.msi_laws.specs.Holds.{MemoryHolds}
 use Rattle.msi_laws.proofs.PortsKept.{there_of}
@@ -48,18 +48,21 @@ module _ {R K : Type 0} where
       (can_order (core_at s.cores c).queue riding (port_at carrying s.memory.ports c)) e in
       (ltb-true c (length s.cores) parts.0, parts.1)
 
-  -- its core is one of the machine's
+  -- an act that can be done is at the port of one of the machine's cores
+  core_acting : (riding : Riding R) (carrying : Carrying K) (s : State R K) (act : Act R) →
+      can riding carrying s.memory act ≡ true → TsoHolds riding carrying s → port_of act < length s.cores
+  core_acting riding carrying s act e h =
+      subst (λ (n : ℕ). port_of act < n) h.ports_there (there_of riding carrying s.memory act e)
+
+  -- so its core is one of them
   pub enabled_core : (riding : Riding R) (carrying : Carrying K) (s : State R K) (m : Move) →
       enabled riding carrying s m ≡ true →
       TsoHolds riding carrying s → core_of m < length s.cores
   enabled_core riding carrying s (CoreMove c) e h = (core_can riding carrying s c e).0
   enabled_core riding carrying s (OrderMove c) e h = (order_can riding carrying s c e).0
-  enabled_core riding carrying s (RequestMove c) e h =
-      subst (λ (n : ℕ). c < n) h.ports_there (there_of riding carrying s.memory (TakeRequest c) e)
-  enabled_core riding carrying s (ResponseMove c) e h =
-      subst (λ (n : ℕ). c < n) h.ports_there (there_of riding carrying s.memory (TakeResponse c) e)
-  enabled_core riding carrying s (MessageMove c) e h =
-      subst (λ (n : ℕ). c < n) h.ports_there (there_of riding carrying s.memory (TakeMessage c) e)
+  enabled_core riding carrying s (RequestMove c) e h = core_acting riding carrying s (TakeRequest c) e h
+  enabled_core riding carrying s (ResponseMove c) e h = core_acting riding carrying s (TakeResponse c) e h
+  enabled_core riding carrying s (MessageMove c) e h = core_acting riding carrying s (TakeMessage c) e h
 
   -- and has a port
   pub core_port : (riding : Riding R) (carrying : Carrying K) (s : State R K) (c : ℕ) → TsoHolds riding carrying s →

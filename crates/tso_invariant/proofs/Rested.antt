@@ -19,7 +19,6 @@ use Rattle.msi_cache.specs.Lines.{waits}
 use Rattle.msi_memory.specs.declared.port.Port.{Port}
 use Rattle.msi_memory.specs.Acts.{TakeRequest, TakeResponse, TakeMessage, allows, data_next}
 use Rattle.msi_memory.specs.Memories.{port_at, word_at}
-use Rattle.msi_memory.specs.Rests.{has_row_for as has_act_row}
 use Rattle.msi_laws.specs.Ready.{IsReady}
 use Rattle.msi_laws.proofs.Ready.{memory_ready}
 use Rattle.msi_laws.proofs.Spaces.{no_requests}
@@ -125,12 +124,13 @@ module _ {R K : Type 0} where
       ) (omega arith)
 
   -- where data come, the access is allowed that waited for them
-  access_waited : (riding : Riding R) (carrying : Carrying K) (s : State R K) (c : ℕ) → TsoHolds riding carrying s →
-      c < length s.cores →
+  access_waited : (riding : Riding R) (carrying : Carrying K) (s : State R K) (c : ℕ) →
+      TsoHolds riding carrying s → c < length s.cores →
       (not (data_next (port_at carrying s.memory.ports c).messages.items) || may_access (wish_by
       (core_at s.cores c).asker (need s.image (core_at s.cores c).core) (core_at s.cores c).queue) riding
       (port_taken riding carrying (port_at carrying s.memory.ports c))) ≡ true
-  access_waited riding carrying s c h within = by_test (data_next (port_at carrying s.memory.ports c).messages.items) refl
+  access_waited riding carrying s c h within =
+      by_test (data_next (port_at carrying s.memory.ports c).messages.items) refl
     where
       t : BufferedCore
       t = core_at s.cores c
@@ -159,12 +159,7 @@ module _ {R K : Type 0} where
   rows_there riding carrying s (RequestMove c) h e = (home_ready riding carrying s h).rows (TakeRequest c) e
   rows_there riding carrying s (ResponseMove c) h e = (home_ready riding carrying s h).rows (TakeResponse c) e
   rows_there riding carrying s (MessageMove c) h e =
-      let t : BufferedCore = core_at s.cores c in
-      both_true (has_act_row riding carrying s.memory (TakeMessage c))
-      (not (data_next (port_at carrying s.memory.ports c).messages.items)
-      || may_access (wish_by t.asker (need s.image t.core) t.queue) riding
-      (port_taken riding carrying (port_at carrying s.memory.ports c)))
-      ((home_ready riding carrying s h).rows (TakeMessage c) e)
+      both_true _ _ ((home_ready riding carrying s h).rows (TakeMessage c) e)
       (access_waited riding carrying s c h (enabled_core riding carrying s (MessageMove c) e h))
 
   pub rooms_there : (riding : Riding R) (carrying : Carrying K) (s : State R K) (m : Move) →

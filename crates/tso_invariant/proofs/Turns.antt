@@ -35,7 +35,7 @@ use Rattle.tso_state.specs.declared.pending.Pending.{Pending}
 use Rattle.tso_state.specs.declared.pending.Pending.TheVariants.{Load as PendingLoad, Store as PendingStore}
 use Rattle.tso_state.specs.declared.pending.Asker.{Asker}
 use Rattle.tso_state.specs.declared.pending.Asker.TheVariants.{Nobody, Next, Head}
-use Rattle.tso_state.specs.Pending.{count_of, forwarded, left_by, value_of, word_of}
+use Rattle.tso_state.specs.Pending.{count_of, forwarded, value_of, word_of}
 use Rattle.tso_state.specs.States.{BufferedCore}
 use Rattle.tso_state.specs.Events.{Alone, Ordered, Logged, Event, Nothing, Executes, Buffers, Performs, Drains, Logs}
 use Rattle.tso_state.specs.Events.{pending_store, event_loading, event_executing, event_ordering}
@@ -50,6 +50,7 @@ use Rattle.tso_invariant.proofs.Queues.{asks_past, asks_popped, asks_pushed, fit
 use Rattle.tso_invariant.proofs.Queues.{fits_pushed, head_within, is_head}
 use Rattle.tso_invariant.proofs.Queues.{load_asks_not, room_for, wish_past, wish_popped, wish_pushed}
 use Rattle.tso_invariant.proofs.Telling.{Turned, asking_turn, first_tellable, locals_alone, tellable, told_turn}
+use Rattle.tso_invariant.proofs.EventCases.{either_event, where_allowed}
 use Rattle.tso_invariant.proofs.Ordered.{stored}
 
 -- what becomes of a core in which this happens, with this asker
@@ -405,35 +406,24 @@ module _ {R K : Type 0} where
       allows riding (port_at carrying m.ports c) (word / BLOCK_WORDS) Loading ≡ true →
       MessageTurn image riding carrying rider m c t (port_at carrying m.ports c)
       (event_loading image riding t (port_at carrying m.ports c) word)
-  data_loading image riding carrying rider m c t word holds there fits is room still allowed = by_nil (is_nil t.queue)
-    where
-      q : Port R K
-      q = port_at carrying m.ports c
-
-      a : Access
-      a = access_of image riding t.core q word Loading
-
-      x : Pending
-      x = PendingLoad (t.core.count + 1) word (forwarded t.queue word (word_at riding q word))
-
-      more : is_done (need image t.core) ≡ false
-      more = ap is_done is
-
-      by_nil : (b : Bool) →
-          MessageTurn image riding carrying rider m c t q (if b then Performs a else Buffers (next_instr t.core) x)
-      by_nil true =
-          told_turn image riding carrying rider m c (Ordered a ∷ [])
-          (left image t (Performs a) (if waits q.cache then t.asker else Nobody)) holds there
-          (first_tellable riding q (Ordered a) [] allowed refl)
-          (nobody_holds image riding c (left image t (Performs a) Nobody) q (waits q.cache) still still
-          (fits_executed image c t a.before Nobody more fits refl) t.asker)
-      by_nil false =
-          told_turn image riding carrying rider m c [] (left image t (Buffers (next_instr t.core) x)
-          (if waits q.cache then t.asker else Nobody)) holds there refl
-          (nobody_holds image riding c (left image t (Buffers (next_instr t.core) x) Nobody) q
-          (waits q.cache) still still
-          (fits_pushed image c t (value_of x) x Nobody more fits room refl
-          (within_law image t.core Loading word (ap need_access is)) refl) t.asker)
+  data_loading image riding carrying rider m c t word holds there fits is room still allowed =
+      let q : Port R K = port_at carrying m.ports c in
+      let a : Access = access_of image riding t.core q word Loading in
+      let x : Pending = PendingLoad (t.core.count + 1) word (forwarded t.queue word (word_at riding q word)) in
+      let more : is_done (need image t.core) ≡ false = ap is_done is in
+      either_event (λ (e : Event). MessageTurn image riding carrying rider m c t q e) (is_nil t.queue) (Performs a)
+      (Buffers (next_instr t.core) x)
+      (told_turn image riding carrying rider m c (Ordered a ∷ [])
+      (left image t (Performs a) (if waits q.cache then t.asker else Nobody)) holds there
+      (first_tellable riding q (Ordered a) [] allowed refl)
+      (nobody_holds image riding c (left image t (Performs a) Nobody) q (waits q.cache) still still
+      (fits_executed image c t a.before Nobody more fits refl) t.asker))
+      (told_turn image riding carrying rider m c [] (left image t (Buffers (next_instr t.core) x)
+      (if waits q.cache then t.asker else Nobody)) holds there refl
+      (nobody_holds image riding c (left image t (Buffers (next_instr t.core) x) Nobody) q
+      (waits q.cache) still still
+      (fits_pushed image c t (value_of x) x Nobody more fits room refl
+      (within_law image t.core Loading word (ap need_access is)) refl) t.asker))
 
   -- the access that data were asked for is allowed
   granted_access : (riding : Riding R) (needed : Option (Kind × ℕ)) (q : Port R K) → Granted riding needed q →
@@ -451,37 +441,24 @@ module _ {R K : Type 0} where
   data_executing image riding carrying rider m c t (Store word whole) holds there fits is may g = absurd (cc)
   data_executing image riding carrying rider m c t (Done stop) holds there fits is may g = absurd (cc)
   data_executing image riding carrying rider m c t (Load word) holds there fits is may g =
-      by_allowed (allows riding q (word / BLOCK_WORDS) Loading) refl
-      (granted_access riding (need_access (Load word)) q g)
-    where
-      q : Port R K
-      q = port_at carrying m.ports c
-
-      by_allowed : (b : Bool) → allows riding q (word / BLOCK_WORDS) Loading ≡ b →
-          allows riding q (word / BLOCK_WORDS) Loading ≡ true →
-          MessageTurn image riding carrying rider m c t q (if b then event_loading image riding t q word else Nothing)
-      by_allowed true e f = data_loading image riding carrying rider m c t word holds there fits is may g.still f
-      by_allowed false e f = absurd (cc (sym e ∙ f))
+      let q : Port R K = port_at carrying m.ports c in
+      let allowed : allows riding q (word / BLOCK_WORDS) Loading ≡ true =
+      granted_access riding (need_access (Load word)) q g in
+      where_allowed (λ (e : Event). MessageTurn image riding carrying rider m c t q e)
+      (allows riding q (word / BLOCK_WORDS) Loading) (event_loading image riding t q word) allowed
+      (data_loading image riding carrying rider m c t word holds there fits is may g.still allowed)
   data_executing image riding carrying rider m c t (Amo word) holds there fits is may g =
-      by_allowed (allows riding q (word / BLOCK_WORDS) Exchanging) refl
-      (granted_access riding (need_access (Amo word)) q g)
-    where
-      q : Port R K
-      q = port_at carrying m.ports c
-
-      a : Access
-      a = access_of image riding t.core q word Exchanging
-
-      by_allowed : (b : Bool) → allows riding q (word / BLOCK_WORDS) Exchanging ≡ b →
-          allows riding q (word / BLOCK_WORDS) Exchanging ≡ true →
-          MessageTurn image riding carrying rider m c t q (if b then Performs a else Nothing)
-      by_allowed true e f =
-          told_turn image riding carrying rider m c (Ordered a ∷ [])
-          (left image t (Performs a) (if waits q.cache then t.asker else Nobody)) holds there
-          (first_tellable riding q (Ordered a) [] f refl)
-          (nobody_holds image riding c (left image t (Performs a) Nobody) q (waits q.cache) g.still g.still
-          (fits_executed image c t a.before Nobody (ap is_done is) fits refl) t.asker)
-      by_allowed false e f = absurd (cc (sym e ∙ f))
+      let q : Port R K = port_at carrying m.ports c in
+      let a : Access = access_of image riding t.core q word Exchanging in
+      let allowed : allows riding q (word / BLOCK_WORDS) Exchanging ≡ true =
+      granted_access riding (need_access (Amo word)) q g in
+      where_allowed (λ (e : Event). MessageTurn image riding carrying rider m c t q e)
+      (allows riding q (word / BLOCK_WORDS) Exchanging) (Performs a) allowed
+      (told_turn image riding carrying rider m c (Ordered a ∷ [])
+      (left image t (Performs a) (if waits q.cache then t.asker else Nobody)) holds there
+      (first_tellable riding q (Ordered a) [] allowed refl)
+      (nobody_holds image riding c (left image t (Performs a) Nobody) q (waits q.cache) g.still g.still
+      (fits_executed image c t a.before Nobody (ap is_done is) fits refl) t.asker))
 
   data_draining : (image : Contents) (riding : Riding R) (carrying : Carrying K) (rider : R) (m : Memory R K) (c : ℕ)
       (t : BufferedCore)
@@ -494,28 +471,20 @@ module _ {R K : Type 0} where
   data_draining image riding carrying rider m c t (PendingLoad count word value ∷ rest) holds there fits is g =
       absurd (let n = g.needs in cc)
   data_draining image riding carrying rider m c t (PendingStore count word mask bits ∷ rest) holds there fits is g =
-      by_allowed (allows riding q (word / BLOCK_WORDS) Storing) refl
-      (granted_access riding (head_access (PendingStore count word mask bits ∷ rest)) q g)
-    where
-      q : Port R K
-      q = port_at carrying m.ports c
-
-      a : Access
-      a = stored t.core.id count word mask bits (word_at riding q word)
-
-      by_allowed : (b : Bool) → allows riding q (word / BLOCK_WORDS) Storing ≡ b →
-          allows riding q (word / BLOCK_WORDS) Storing ≡ true →
-          MessageTurn image riding carrying rider m c t q (if b then Drains a else Nothing)
-      by_allowed true e f =
-          told_turn image riding carrying rider m c (tellings t (Drains a))
-          (left image t (Drains a) (if waits q.cache then t.asker else Nobody)) holds there
-          (first_tellable riding q (Ordered a)
-          (locals_behind t.core count (drop 1 t.queue)) f (locals_alone t.core count (drop 1 t.queue)))
-          (nobody_holds image riding c (left image t (Drains a) Nobody) q (waits q.cache) g.still g.still
-          (subst (λ (queue : List Pending). BufferedFits image c
-          (record { core = t.core; queue = queue; asker = Nobody })) (sym (ap (drop 1) is))
-          (fits_popped image c t (PendingStore count word mask bits) rest Nobody fits is refl)) t.asker)
-      by_allowed false e f = absurd (cc (sym e ∙ f))
+      let q : Port R K = port_at carrying m.ports c in
+      let a : Access = stored t.core.id count word mask bits (word_at riding q word) in
+      let allowed : allows riding q (word / BLOCK_WORDS) Storing ≡ true =
+      granted_access riding (head_access (PendingStore count word mask bits ∷ rest)) q g in
+      where_allowed (λ (e : Event). MessageTurn image riding carrying rider m c t q e)
+      (allows riding q (word / BLOCK_WORDS) Storing) (Drains a) allowed
+      (told_turn image riding carrying rider m c (tellings t (Drains a))
+      (left image t (Drains a) (if waits q.cache then t.asker else Nobody)) holds there
+      (first_tellable riding q (Ordered a)
+      (locals_behind t.core count (drop 1 t.queue)) allowed (locals_alone t.core count (drop 1 t.queue)))
+      (nobody_holds image riding c (left image t (Drains a) Nobody) q (waits q.cache) g.still g.still
+      (subst (λ (queue : List Pending). BufferedFits image c
+      (record { core = t.core; queue = queue; asker = Nobody })) (sym (ap (drop 1) is))
+      (fits_popped image c t (PendingStore count word mask bits) rest Nobody fits is refl)) t.asker))
 
   -- a block's data end the access that asked for them
   granted_turn : (image : Contents) (riding : Riding R) (carrying : Carrying K) (rider : R) (m : Memory R K) (c : ℕ)

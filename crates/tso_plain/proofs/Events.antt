@@ -38,8 +38,8 @@ use Rattle.tso_state.specs.Pending.{forwarded, left_by}
 use Rattle.tso_state.specs.States.{State, BufferedCore, core_at}
 use Rattle.tso_state.specs.Events.{Event, Nothing, Buffers, Performs, Drains, Logs, event_executing, event_granted}
 use Rattle.tso_state.specs.Events.{event_ordering, event_receiving}
-use Rattle.tso_state.specs.Steps.{can_order, case_holds, enabled, has_room, is_fence, is_next}
-use Rattle.tso_plain.specs.Plain.{PlainEvent, PlainMoves, plain}
+use Rattle.tso_state.specs.Steps.{can_order, case_holds, enabled, event, has_room, is_fence, is_next, moves}
+use Rattle.tso_plain.specs.Plain.{plain}
 
 filter_same : {X : Type 0} (f g : X → Bool) → ((x : X) → f x ≡ g x) → (xs : List X) → filter f xs ≡ filter g xs
 filter_same f g same [] = refl
@@ -132,7 +132,7 @@ module _ {R K : Type 0} where
       (plain_data_next p.messages.items)
 
   pub plain_event : (riding : Riding R) (carrying : Carrying K) (s : State R K) (m : Move) →
-      PlainEvent riding carrying s m
+      event riding carrying s m ≡ event none_riding none_carrying (plain s) m
   plain_event riding carrying s (CoreMove c) =
       let t : BufferedCore = core_at s.cores c in
       plain_executing (need s.image t.core) s.image riding t (port_at carrying s.memory.ports c)
@@ -192,7 +192,8 @@ module _ {R K : Type 0} where
   plain_enabled riding carrying s (ResponseMove c) = plain_can riding carrying s.memory (TakeResponse c)
   plain_enabled riding carrying s (MessageMove c) = plain_can riding carrying s.memory (TakeMessage c)
 
-  pub plain_moves : (riding : Riding R) (carrying : Carrying K) (s : State R K) → PlainMoves riding carrying s
+  pub plain_moves : (riding : Riding R) (carrying : Carrying K) (s : State R K) →
+      moves riding carrying s ≡ moves none_riding none_carrying (plain s)
   plain_moves riding carrying s =
       filter_same (enabled riding carrying s) (enabled none_riding none_carrying (plain s))
       (plain_enabled riding carrying s)

@@ -27,12 +27,13 @@ use Rattle.tso_state.specs.declared.moves.Move.TheVariants.{FromHome as MessageM
 use Rattle.tso_state.specs.declared.pending.Asker.{Asker}
 use Rattle.tso_state.specs.declared.pending.Asker.TheVariants.{Nobody, Next, Head}
 use Rattle.tso_state.specs.Moves.{core_of}
-use Rattle.tso_state.specs.States.{State, PlainState, BufferedCore, core_at, state_start}
+use Rattle.tso_state.specs.FinalMemory.{final_word}
+use Rattle.tso_state.specs.States.{State, PlainState, BufferedCore, all_done, core_at, state_start}
 use Rattle.tso_state.specs.Events.{Event, Nothing, Executes, Buffers, Performs, Drains, Logs, Told, Alone, Ordered}
 use Rattle.tso_state.specs.Events.{Logged, asker_after, core_after, queue_after, tellings}
-use Rattle.tso_state.specs.Steps.{acts, acts_asking, acts_told, cores_after, core_left, event, head_access}
-use Rattle.tso_plain.specs.Plain.{PlainStep, PlainTold, plain}
-use Rattle.tso_plain.specs.Shows.{PlainDone, PlainStart, PlainWord}
+use Rattle.tso_state.specs.Steps.{acts, acts_asking, acts_told, cores_after, core_left, event, head_access, step}
+use Rattle.tso_state.specs.Steps.{told}
+use Rattle.tso_plain.specs.Plain.{plain}
 use Rattle.tso_plain.proofs.Events.{plain_event}
 
 -- what an event leaves of a core, of which this one asks
@@ -42,7 +43,7 @@ left_by image t x e =
 
 module _ {R K : Type 0} where
   pub plain_told : (riding : Riding R) (carrying : Carrying K) (s : State R K) (m : Move) →
-      PlainTold riding carrying s m
+      told riding carrying s m ≡ told none_riding none_carrying (plain s) m
   plain_told riding carrying s m = ap (tellings (core_at s.cores (core_of m))) (plain_event riding carrying s m)
 
 -- ---- which acts it is
@@ -135,7 +136,7 @@ module _ {R K : Type 0} where
   -- ---- the step
 
   pub plain_step : (riding : Riding R) (carrying : Carrying K) (rider : R) (s : State R K) (m : Move) →
-      PlainStep riding carrying rider s m
+      plain (step riding carrying rider s m) ≡ step none_riding none_carrying tt (plain s) m
   plain_step riding carrying rider s m =
       let by : List BufferedCore → Memory (Unit {0}) (Unit {0}) → PlainState =
       λ (cores : List BufferedCore)
@@ -151,17 +152,17 @@ module _ {R K : Type 0} where
   -- ---- the start, the end and the memory
 
   pub plain_start : (riding : Riding R) (carrying : Carrying K) (image : Contents) (cores limit : ℕ) →
-      PlainStart riding carrying image cores limit
+      plain (state_start riding carrying image cores limit) ≡ state_start none_riding none_carrying image cores limit
   plain_start riding carrying image cores limit =
       let start : PlainState = state_start none_riding none_carrying image cores limit in
       ap (λ (x : Memory (Unit {0}) (Unit {0})). record start { memory = x })
       (plain_memory_start riding carrying image cores)
 
-  pub plain_done : (s : State R K) → PlainDone s
+  pub plain_done : (s : State R K) → all_done s ≡ all_done (plain s)
   plain_done s = refl
 
   pub plain_word : (riding : Riding R) (carrying : Carrying K) (s : State R K) (word : ℕ) →
-      PlainWord riding carrying s word
+      final_word riding carrying s word ≡ final_word none_riding none_carrying (plain s) word
   plain_word riding carrying s word =
       let machine : MachineState R K = record { image = s.image; cores = []; memory = s.memory } in
       ap (λ (words : List ℕ). slice_index words (word % BLOCK_WORDS))

@@ -233,6 +233,25 @@ module _ {R K : Type 0} where
       by_data true = granted_tells s.image parts.riding q t t.asker alone (holds.cores c within).fits.queue.ordered
       by_data false = quiet_tells s.image parts.riding q t
 
+  -- a core's own turn, in which it may ask for what an access needs
+  own_times : (parts : TimesParts R) (carrying : Carrying K) → AbsorbsAll parts → (h : List NotedAccess)
+      (s : State R K) (c : ℕ) (rider : R) (clock : Clock) (wanted : Option (Kind × ℕ)) (e : Event) →
+      c < length s.cores → TsoHolds parts.riding carrying s → StandsAfter parts carrying h s →
+      OrderedComes parts.riding (port_at carrying s.memory.ports c) (core_at s.cores c).core.id
+      (count_before (core_at s.cores c).core (core_at s.cores c).queue)
+      (count_before (core_after s.image (core_at s.cores c).core e) (queue_after (core_at s.cores c).queue e)) e →
+      RiderFits parts clock rider (ordering_of e) (port_at carrying s.memory.ports c) →
+      can_all parts.riding carrying s.memory
+      (acts_asking c wanted e ++ acts_told c rider (tellings (core_at s.cores c) e)) ≡ true →
+      HaveTimes parts carrying (noted_after (ordering_of e) clock h) (after_acts parts.riding carrying s.memory
+      (acts_asking c wanted e ++ acts_told c rider (tellings (core_at s.cores c) e)))
+  own_times parts carrying well h s c rider clock wanted e lc holds f comes notes can_them =
+      let t : BufferedCore = core_at s.cores c in
+      turn_times parts carrying well h s.memory c t rider clock wanted e (count_before t.core t.queue)
+      (count_before (core_after s.image t.core e) (queue_after t.queue e))
+      (core_port parts.riding carrying s c holds lc) (holds.cores c lc).fits.number (λ w. f.told c w lc) comes notes
+      can_them holds.memory f.all
+
   step_times : (parts : TimesParts R) (carrying : Carrying K) → AbsorbsAll parts →
       (h : List NotedAccess) (s : State R K) (m : Move) (rider : R)
       (clock : Clock) → TsoHolds parts.riding carrying s → enabled parts.riding carrying s m ≡ true →
@@ -241,26 +260,15 @@ module _ {R K : Type 0} where
       HaveTimes parts carrying (noted_after (ordering_of (event parts.riding carrying s m)) clock h)
       (step parts.riding carrying rider s m).memory
   step_times parts carrying well h s (CoreMove c) rider clock holds e notes f =
-      let t : BufferedCore = core_at s.cores c in
-      let lc = enabled_core parts.riding carrying s (CoreMove c) e holds in
-      let now = event parts.riding carrying s (CoreMove c) in
-      turn_times parts carrying well h s.memory c t rider clock (need_access (need s.image t.core)) now
-      (count_before t.core t.queue)
-      (count_before (core_after s.image t.core now) (queue_after t.queue now))
-      (core_port parts.riding carrying s c holds lc) (holds.cores c lc).fits.number
-      (λ w. f.told c w lc) (move_tells parts carrying s (CoreMove c) holds e).comes notes
+      own_times parts carrying well h s c rider clock (need_access (need s.image (core_at s.cores c).core))
+      (event parts.riding carrying s (CoreMove c)) (enabled_core parts.riding carrying s (CoreMove c) e holds) holds f
+      (move_tells parts carrying s (CoreMove c) holds e).comes notes
       (acts_can parts.riding carrying s (CoreMove c) rider e holds)
-      holds.memory f.all
   step_times parts carrying well h s (OrderMove c) rider clock holds e notes f =
-      let t : BufferedCore = core_at s.cores c in
-      let lc = enabled_core parts.riding carrying s (OrderMove c) e holds in
-      let now = event parts.riding carrying s (OrderMove c) in
-      turn_times parts carrying well h s.memory c t rider clock (head_access t.queue) now (count_before t.core t.queue)
-      (count_before (core_after s.image t.core now) (queue_after t.queue now))
-      (core_port parts.riding carrying s c holds lc) (holds.cores c lc).fits.number
-      (λ w. f.told c w lc) (move_tells parts carrying s (OrderMove c) holds e).comes notes
+      own_times parts carrying well h s c rider clock (head_access (core_at s.cores c).queue)
+      (event parts.riding carrying s (OrderMove c)) (enabled_core parts.riding carrying s (OrderMove c) e holds) holds f
+      (move_tells parts carrying s (OrderMove c) holds e).comes notes
       (acts_can parts.riding carrying s (OrderMove c) rider e holds)
-      holds.memory f.all
   step_times parts carrying well h s (RequestMove c) rider clock holds e notes f =
       other_times parts carrying well h s.memory (TakeRequest c) e refl holds.memory f.all
   step_times parts carrying well h s (ResponseMove c) rider clock holds e notes f =

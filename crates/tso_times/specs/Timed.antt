@@ -6,9 +6,10 @@ use Rattle.rtr_types.specs.declared.access.Access.{Access}
 use Rattle.msi_memory.specs.declared.port.Port.{Port}
 use Rattle.msi_memory.specs.Memories.{port_at, rider_at}
 use Rattle.machine_times.specs.History.{NotedAccess, last_noted_read, rank}
-use Rattle.machine_times.specs.Retirements.{IsExactRider, RiderNotes, noted_after}
+use Rattle.machine_times.specs.Retirements.{IsExactRider, noted_after}
 use Rattle.machine_times.specs.StandsFor.{HaveTimes, TimesParts}
-use Rattle.msi_state.specs.Events.{Event as ClerkEvent, Accesses, port_taken}
+pub use Rattle.machine_times.specs.Retirements.{RiderFits}
+use Rattle.msi_state.specs.Events.{Accesses, port_taken}
 use Rattle.tso_state.specs.declared.moves.Move.{Move}
 use Rattle.tso_state.specs.declared.moves.Move.TheVariants.{FromHome as MessageMove}
 use Rattle.tso_state.specs.Events.{count_before}
@@ -36,11 +37,13 @@ pub record StandsAfter {R K : Type 0} (parts : TimesParts R) (carrying : Carryin
   pub told : (c word : ℕ) → c < length s.cores → rank (last_noted_read h word c) ≤ told_count (core_at s.cores c)
 
 module _ {R K : Type 0} where
-  -- where an access is ordered, the rider left is the one found with the access and the clock noted
-  abbrev pub RiderFits : TimesParts R → Clock → R → ClerkEvent → Port R K → Type 0
-  RiderFits parts clock rider e p =
-      (a : Access) → e ≡ Accesses a
-      → RiderNotes parts (record { access = a; clock = clock }) (rider_at parts.riding p a.word) rider
+  -- an ordered access finds exact times
+  abbrev pub FindsTimes : TimesParts R → Carrying K → Type 0
+  FindsTimes parts carrying =
+      (h : List NotedAccess) (s : State R K) (m : Move) (a : Access)
+      → TsoHolds parts.riding carrying s → IsTrue (enabled parts.riding carrying s m)
+      → ordering_of (event parts.riding carrying s m) ≡ Accesses a → StandsAfter parts carrying h s
+      → IsExactRider parts h a (rider_at parts.riding (ordering_port parts.riding carrying s m) a.word)
 
   -- after each step the riders have the times with the access that it ordered
   abbrev pub TimedStep : TimesParts R → Carrying K → Type 0
@@ -51,11 +54,3 @@ module _ {R K : Type 0} where
       RiderFits parts clock rider e (ordering_port parts.riding carrying s m)
       → StandsAfter parts carrying h s
       → StandsAfter parts carrying (noted_after e clock h) (step parts.riding carrying rider s m)
-
-  -- an ordered access finds exact times
-  abbrev pub FindsTimes : TimesParts R → Carrying K → Type 0
-  FindsTimes parts carrying =
-      (h : List NotedAccess) (s : State R K) (m : Move) (a : Access)
-      → TsoHolds parts.riding carrying s → IsTrue (enabled parts.riding carrying s m)
-      → ordering_of (event parts.riding carrying s m) ≡ Accesses a → StandsAfter parts carrying h s
-      → IsExactRider parts h a (rider_at parts.riding (ordering_port parts.riding carrying s m) a.word)

@@ -1,6 +1,6 @@
 -- What a core's loads read is told with them, or still pending. A load's word is noted as it executes, and is either
 -- told in the same move or pending until it is told.
-use Rattle.std.proofs.Common.{◌≡◌, ◌∙◌, ap, refl, sym, subst, ℕ, ◌+◌, ◌-◌, ◌/◌, ◌==◌, Bool, true, false, not, ◌&&◌}
+use Rattle.std.proofs.Common.{◌≡◌, ◌∙◌, ap, refl, sym, subst, ℕ, ◌+◌, ◌/◌, ◌==◌, Bool, true, false, not, ◌&&◌}
 use Rattle.std.proofs.Common.{List, [], ◌∷◌, ◌++◌, arith, eqb-true, length, ◌<◌}
 use Rattle.std.specs.Prelude.{drop, if◌then◌else◌}
 use Rattle.std.proofs.lemmas.Bool.Decides.{nat_tests}
@@ -41,7 +41,7 @@ use Rattle.tso_state.specs.Events.{queue_after}
 use Rattle.tso_state.specs.Runs.{read_by, read_in}
 use Rattle.tso_state.specs.Steps.{case_holds, enabled, event, is_fence, is_next}
 use Rattle.tso_invariant.specs.Holds.{TsoHolds}
-use Rattle.tso_invariant.proofs.EventCases.{by_message}
+use Rattle.tso_invariant.proofs.EventCases.{by_amo, by_load, by_message, by_ordered_load, by_ordered_store}
 use Rattle.tso_invariant.proofs.Kept.{core_can, core_port, enabled_core}
 use Rattle.tso_told.specs.Played.{read_told, reads_told, reads_pending}
 use Rattle.tso_told.proofs.Telling.{amo_alone, next_alone}
@@ -165,23 +165,10 @@ module _ {R K : Type 0} where
   executing_own image riding t p Local c id = tt
   executing_own image riding t p (Store word whole) c id = id
   executing_own image riding t p (Done stop) c id = tt
-  executing_own image riding t p (Load word) c id = by_allowed (allows riding p (word / BLOCK_WORDS) Loading)
-    where
-      by_nil : (n : Bool) → IsOwn c (if n then Performs (access_of image riding t.core p word Loading)
-          else Buffers (next_instr t.core)
-          (PendingLoad (t.core.count + 1) word (forwarded t.queue word (word_at riding p word))))
-      by_nil true = id
-      by_nil false = id
-
-      by_allowed : (l : Bool) → IsOwn c (if l then event_loading image riding t p word else Nothing)
-      by_allowed true = by_nil (is_nil t.queue)
-      by_allowed false = tt
-  executing_own image riding t p (Amo word) c id = by_allowed (allows riding p (word / BLOCK_WORDS) Exchanging)
-    where
-      by_allowed : (l : Bool) →
-          IsOwn c (if l then Performs (access_of image riding t.core p word Exchanging) else Nothing)
-      by_allowed true = id
-      by_allowed false = tt
+  executing_own image riding t p (Load word) c id =
+      by_load (λ (e : Event). IsOwn c e) image riding t p word (λ allowed. id) (λ allowed. id) tt
+  executing_own image riding t p (Amo word) c id =
+      by_amo (λ (e : Event). IsOwn c e) image riding t p word (λ allowed. id) tt
 
   pub ordering_reads : (riding : Riding R) (t : BufferedCore) (p : Port R K) (queue : List Pending) → t.queue ≡ queue →
       EventReads t (event_ordering queue riding t.core.id p)
@@ -216,33 +203,9 @@ module _ {R K : Type 0} where
       IsOwn c (event_ordering queue riding core p)
   ordering_own riding core p [] c = tt
   ordering_own riding core p (PendingLoad count word value ∷ rest) c =
-      by_test (allows riding p (word / BLOCK_WORDS) Loading && (word_at riding p word == value))
-    where
-      at : Instr
-      at = record { core = core; count = count }
-
-      found : Access
-      found = record {
-        at = at;
-        word = word;
-        kind = Loading;
-        before = word_at riding p word;
-        after =
-            word_at riding p word;
-      }
-
-      by_test : (b : Bool) → IsOwn c (if b then Drains found else Logs at word value)
-      by_test true = tt
-      by_test false = tt
+      by_ordered_load (λ (e : Event). IsOwn c e) riding core count word value rest p (λ allowed. tt) tt
   ordering_own riding core p (PendingStore count word mask bits ∷ rest) c =
-      by_allowed (allows riding p (word / BLOCK_WORDS) Storing)
-    where
-      b : Access
-      b = stored core count word mask bits (word_at riding p word)
-
-      by_allowed : (l : Bool) → IsOwn c (if l then Drains b else Nothing)
-      by_allowed true = tt
-      by_allowed false = tt
+      by_ordered_store (λ (e : Event). IsOwn c e) riding core count word mask bits rest p (λ allowed. tt) tt
 
   granted_reads : (riding : Riding R) (carrying : Carrying K) (s : State R K) (c : ℕ) (q : Port R K) →
       TsoHolds riding carrying s → c < length s.cores → (x : Asker) → (core_at s.cores c).asker ≡ x →

@@ -1,5 +1,5 @@
 -- The accesses that a run orders, and the loads that it logs, are those that are told.
-use Rattle.std.proofs.Common.{◌≡◌, ◌∙◌, ap, refl, sym, ℕ, ◌+◌, ◌-◌, List, [], ◌∷◌, ◌++◌, Option}
+use Rattle.std.proofs.Common.{◌≡◌, ◌∙◌, ap, refl, sym, ℕ, List, [], ◌∷◌, ◌++◌, Option}
 use Rattle.std.proofs.Common.{Some, None, zero, suc}
 use Rattle.std.specs.Prelude.{drop}
 use Rattle.access_times.specs.Riding.{none_riding, none_carrying}
@@ -13,8 +13,8 @@ use Rattle.tso_state.specs.declared.pending.Pending.{Pending}
 use Rattle.tso_state.specs.Events.{Event, Nothing, Executes, Buffers, Performs, Drains, Logs, Told, Alone, Ordered}
 use Rattle.tso_state.specs.Events.{Logged, locals_behind, tellings}
 use Rattle.tso_state.specs.Moves.{core_of}
-use Rattle.tso_state.specs.Runs.{LoggedLoad, accesses, all_told, chosen, event_at, event_by, logged_in, logged_loads, ordered_in}
-use Rattle.tso_state.specs.Runs.{run, told_by}
+use Rattle.tso_state.specs.Runs.{LoggedLoad, accesses, all_told, chosen, event_at, event_by, logged_in}
+use Rattle.tso_state.specs.Runs.{logged_loads, ordered_in, run, told_by}
 use Rattle.tso_state.specs.States.{PlainState, BufferedCore, core_at}
 use Rattle.tso_state.specs.Steps.{event}
 use Rattle.tso_told.specs.Played.{logged_told, ordered_told}
