@@ -1,11 +1,12 @@
 -- Where a move is marked some core isn't done: what is marked can be made, and at the end nothing can.
 use Rattle.std.proofs.Common.{◌≡◌, ◌∙◌, ◌⊎◌, inl, inr, refl, sym, subst, ap, ℕ, zero, suc, ◌*◌, ◌<◌, ◌≤◌, Bool, true}
 use Rattle.std.proofs.Common.{false, cond, List, [], ◌∷◌, length, nat_lt, arith, ◌==◌}
-use Rattle.std.specs.Prelude.{not}
+use Rattle.std.specs.Prelude.{IsTrue, not}
 use Rattle.std.specs.List.{filter}
 use Rattle.std.proofs.lemmas.Bool.{cases_eq}
 use Rattle.access_times.specs.Riding.{Riding, Carrying}
 use Rattle.rtr_types.specs.declared.TheConstants.{CORES_MAX}
+use Rattle.rtr_types.proofs.Truths.{true_is}
 use Rattle.rv_core.specs.Steps.{need, is_done}
 use Rattle.msi_cache.specs.Lines.{waits}
 use Rattle.msi_memory.specs.Acts.{TakeRequest}
@@ -15,7 +16,7 @@ use Rattle.msi_state.specs.declared.moves.Move.{Move}
 use Rattle.msi_state.specs.declared.moves.Move.TheVariants.{Core as CoreMove, Request as RequestMove}
 use Rattle.msi_state.specs.declared.moves.Move.TheVariants.{Response as ResponseMove, FromHome as MessageMove}
 use Rattle.msi_state.specs.Moves.{candidates, core_of}
-use Rattle.msi_state.specs.States.{State, all_done, core_at}
+use Rattle.msi_state.specs.States.{Machinery, State, all_done, core_at}
 use Rattle.msi_state.specs.Steps.{enabled, step}
 use Rattle.machine_invariant.specs.Holds.{MachineHolds}
 use Rattle.machine_invariant.proofs.Stepping.{step_ports}
@@ -58,18 +59,27 @@ filter_fewer {X} p q (x ∷ xs) passes none = by (p x) (q x) refl refl (filter_f
     by false false isp isq rest none = rest none
 
 module _ {R K : Type 0} where
-  -- a core that may move by itself has no request that the home could take
+  -- the port of a core that may move by itself doesn't wait, so there is no request that the home could take
+  pub core_still : (riding : Riding R) (carrying : Carrying K) (s : State R K) (c : ℕ) →
+      enabled riding carrying s (CoreMove c) ≡ true → waits (port_at carrying s.memory.ports c).cache ≡ false
+  core_still riding carrying s c can_be =
+      let waiting : Bool = waits (port_at carrying s.memory.ports c).cache in
+      not_true waiting (right_of (not (is_done (need s.image (core_at s.cores c)))) (not waiting)
+      (right_of (nat_lt c (length s.cores)) _ can_be))
+
   pub asks_first : (riding : Riding R) (carrying : Carrying K) (s : State R K) (c : ℕ) →
       MachineHolds riding carrying s → c < length s.memory.ports →
       enabled riding carrying s (CoreMove c) ≡ true → enabled riding carrying s (RequestMove c) ≡ false
   asks_first riding carrying s c holds within can_be =
-      let waiting : Bool = waits (port_at carrying s.memory.ports c).cache in
-      let still : waiting ≡ false =
-      not_true waiting (right_of (not (is_done (need s.image (core_at s.cores c)))) (not waiting)
-      (right_of (nat_lt c (length s.cores)) _ can_be)) in
       none_left riding carrying s.memory c
       (requests_within carrying s.memory.ports c within
-      ∙ no_requests riding carrying s.memory c holds.memory within still)
+      ∙ no_requests riding carrying s.memory c holds.memory within (core_still riding carrying s c can_be))
+
+  -- a machine whose state is seen to be done is done inside
+  pub ended : (inside seen : Machinery R K) (done : Bool) → inside ≡ seen → done ≡ all_done seen.state → IsTrue done →
+      all_done inside.state ≡ true
+  ended inside seen done view is told =
+      ap (λ (m : Machinery R K). all_done m.state) view ∙ sym is ∙ true_is done told
 
   -- no request of a core is left open where no core asked
   pub no_asker : (riding : Riding R) (carrying : Carrying K) (rider : R) (s t : State R K) (m : Move) (marks : Marks) →

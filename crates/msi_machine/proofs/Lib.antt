@@ -11,3 +11,4 @@ pub mod Roomed
 pub mod Standings
 pub mod Touched
 pub mod Ended
+pub mod OwnMoves

@@ -1,5 +1,5 @@
 -- What the cores stand at and whether their ports wait, from which the moves that can be made are found.
-use Rattle.std.specs.Prelude.{◌≡◌, ℕ, Bool, false, List, map, slice_index_or, not, ◌&&◌, Option}
+use Rattle.std.specs.Prelude.{◌≡◌, ℕ, Bool, false, List, map, slice_index_or, not, ◌&&◌, IsTrue, Option}
 use Rattle.access_times.specs.Riding.{Riding, Carrying}
 use Rattle.rtr_types.specs.CoreSets.{has}
 use Rattle.image_mem.specs.Contents.{Contents}
@@ -12,6 +12,7 @@ use Rattle.msi_memory.specs.Memories.{port_at}
 use Rattle.move_marks.specs.declared.marks.MoveKind.TheVariants.{Own, Request}
 use Rattle.move_marks.specs.Kinds.{set_of}
 use Rattle.move_marks.specs.Ports.{PortsNoted}
+use Rattle.msi_state.specs.declared.moves.Move.{Move}
 use Rattle.msi_state.specs.declared.moves.Move.TheVariants.{Core as CoreMove}
 use Rattle.msi_state.specs.States.{Machinery, State, core_at}
 use Rattle.msi_state.specs.Steps.{enabled}
@@ -49,6 +50,17 @@ module _ {R K : Type 0} where
   pub record StandingsFit (s : State R K) (standings : List Standing) : Type 0 where
     pub next : map next_of standings ≡ map (next_in s.image) s.cores
     pub waits : map (λ x. x.waits) standings ≡ map (λ p. waits p.cache) s.memory.ports
+
+  -- the state has the machine's invariant, and the move can be made in it
+  pub record CanMove (riding : Riding R) (carrying : Carrying K) (s : State R K) (m : Move) : Type 0 where
+    pub holds : MachineHolds riding carrying s
+    pub enabled : IsTrue (enabled riding carrying s m)
+
+  -- exactly the moves that can be made are marked, but for the oldest request of the core that asked last: it isn't
+  pub record AskerOpen (riding : Riding R) (carrying : Carrying K) (s : State R K) (marks : Marks) (asker : ℕ)
+      : Type 0 where
+    pub others : OthersMarked riding carrying s marks asker
+    pub unmarked : has (set_of Request marks.moves) asker ≡ false
 
   -- what is noted beside the state after a move fits, in which this core asked, if one did; its request isn't marked
   pub record MoveNoted (riding : Riding R) (carrying : Carrying K) (s : State R K) (standings : List Standing)

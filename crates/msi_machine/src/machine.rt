@@ -255,6 +255,7 @@ impl<R: Rider, K: Carry> Machine<R, K> {
     pub fn data_alone_retire(&self)
         ensures { MessagesRetire R.riding K.carrying self.now.state }
     {
+        // What always holds of a machine says this.
         let _ = &self.parts;
     }
 
@@ -265,6 +266,7 @@ impl<R: Rider, K: Carry> Machine<R, K> {
         ensures numbers { (core : ℕ) → core < length self.now.state.cores
             → (core_at self.now.state.cores core).id ≡ core }
     {
+        // What always holds of a machine says this.
         let _ = &self.parts;
     }
 }

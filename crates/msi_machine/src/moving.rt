@@ -1,16 +1,13 @@
 //! Each kind of move, with what is noted beside the state.
-ghost use Rattle.std.specs.Prelude.{◌≡◌, IsTrue, false};
-ghost use Rattle.rtr_types.specs.CoreSets.{has};
+ghost use Rattle.std.specs.Prelude.{◌≡◌, IsTrue};
 ghost use Rattle.rtr_types.specs.declared.TheConstants.{CORES_MAX};
 ghost use Rattle.machine_invariant.specs.Holds.{MachineHolds};
-ghost use Rattle.move_marks.specs.Kinds.{set_of};
-ghost use Rattle.move_marks.specs.declared.marks.MoveKind.TheVariants.{Request};
-ghost use Rattle.msi_machine.specs.Marks.{AllMarked, OthersMarked, asker_of};
-ghost use Rattle.msi_machine.specs.Standings.{MoveNoted, StandingsFit, standing_at};
+ghost use Rattle.msi_machine.specs.Marks.{AllMarked, asker_of};
+ghost use Rattle.msi_machine.specs.Standings.{AskerOpen, CanMove, MoveNoted, StandingsFit, standing_at};
+ghost use Rattle.msi_machine.specs.Workings.{Makes};
 ghost use Rattle.msi_state.specs.declared.moves.Move.{Move};
-ghost use Rattle.msi_state.specs.Events.{instr_of};
 ghost use Rattle.msi_state.specs.Rests.{heads_roomy};
-ghost use Rattle.msi_state.specs.Steps.{AcceptsNext, StepsTo, TellsOf, enabled, event};
+ghost use Rattle.msi_state.specs.Steps.{AcceptsNext, enabled};
 
 use crate::marks::Marks;
 use crate::parts::Parts;
@@ -38,11 +35,8 @@ impl<R: Rider, K: Carry> Parts<R, K> {
         requires marked { AllMarked R.riding K.carrying self.old.state marks.old }
         requires roomy { IsTrue (heads_roomy self.old) }
         requires accepts { AcceptsNext C.accepts clerk.old self.old.state }
-        ensures state { StepsTo R.riding K.carrying self.old.state self.new.state taken }
-        ensures rooms { self.new.rooms ≡ self.old.rooms }
-        ensures retired { result ≡ instr_of (event R.riding K.carrying self.old.state taken) }
-        ensures told { TellsOf C.told_local C.told_touch R.riding K.carrying self.old.state self.new.state
-            taken clerk.old clerk.new }
+        ensures made { Makes C.told_local C.told_touch R.riding K.carrying self.old self.new taken result
+            clerk.old clerk.new }
         ensures asker { asker.new ≡ asker_of taken result }
         ensures noted { MoveNoted R.riding K.carrying self.new.state standings.new marks.new asker.new }
     {
@@ -70,21 +64,16 @@ impl<R: Rider, K: Carry> Parts<R, K> {
         asker: &mut u8,
         clerk: &mut C,
     ) -> Option<Instr>
-        requires holds { MachineHolds R.riding K.carrying self.old.state }
-        requires enabled { IsTrue (enabled R.riding K.carrying self.old.state (Move.Core c)) }
-        requires stands { standing.old ≡ standing_at K.carrying self.old.state c }
+        requires can { CanMove R.riding K.carrying self.old.state (Move.Core c) }
         requires marked { AllMarked R.riding K.carrying self.old.state marks.old }
         requires none { asker.old ≡ CORES_MAX }
+        requires stands { standing.old ≡ standing_at K.carrying self.old.state c }
         requires accepts { AcceptsNext C.accepts clerk.old self.old.state }
-        ensures state { StepsTo R.riding K.carrying self.old.state self.new.state (Move.Core c) }
-        ensures rooms { self.new.rooms ≡ self.old.rooms }
-        ensures retired { result ≡ instr_of (event R.riding K.carrying self.old.state (Move.Core c)) }
-        ensures told { TellsOf C.told_local C.told_touch R.riding K.carrying self.old.state self.new.state
-            (Move.Core c) clerk.old clerk.new }
+        ensures made { Makes C.told_local C.told_touch R.riding K.carrying self.old self.new (Move.Core c) result
+            clerk.old clerk.new }
         ensures renewed { standing.new ≡ standing_at K.carrying self.new.state c }
         ensures asker { asker.new ≡ asker_of (Move.Core c) result }
-        ensures marked { OthersMarked R.riding K.carrying self.new.state marks.new asker.new }
-        ensures unmarked { has (set_of Request marks.new.moves) asker.new ≡ false }
+        ensures open { AskerOpen R.riding K.carrying self.new.state marks.new asker.new }
     {
         let retired = self.work(c, standing, clerk);
         marks.moves.set(MoveKind::Own, c, standing.may_move());
@@ -102,16 +91,12 @@ impl<R: Rider, K: Carry> Parts<R, K> {
         marks: &mut Marks,
         clerk: &mut C,
     ) -> Option<Instr>
-        requires holds { MachineHolds R.riding K.carrying self.old.state }
-        requires enabled { IsTrue (enabled R.riding K.carrying self.old.state (Move.FromHome c)) }
+        requires can { CanMove R.riding K.carrying self.old.state (Move.FromHome c) }
         requires stands { standing.old ≡ standing_at K.carrying self.old.state c }
         requires marked { AllMarked R.riding K.carrying self.old.state marks.old }
         requires accepts { AcceptsNext C.accepts clerk.old self.old.state }
-        ensures state { StepsTo R.riding K.carrying self.old.state self.new.state (Move.FromHome c) }
-        ensures rooms { self.new.rooms ≡ self.old.rooms }
-        ensures retired { result ≡ instr_of (event R.riding K.carrying self.old.state (Move.FromHome c)) }
-        ensures told { TellsOf C.told_local C.told_touch R.riding K.carrying self.old.state self.new.state
-            (Move.FromHome c) clerk.old clerk.new }
+        ensures made { Makes C.told_local C.told_touch R.riding K.carrying self.old self.new (Move.FromHome c) result
+            clerk.old clerk.new }
         ensures renewed { standing.new ≡ standing_at K.carrying self.new.state c }
         ensures marked { AllMarked R.riding K.carrying self.new.state marks.new }
     {

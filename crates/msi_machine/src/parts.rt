@@ -1,13 +1,12 @@
 //! The parts of a machine's state, and what its cores do in their moves.
-ghost use Rattle.std.specs.Prelude.{◌≡◌, ◌<◌, ◌/◌, IfOk, IsTrue, Some, false, length, map, true};
+ghost use Rattle.std.specs.Prelude.{◌≡◌, ◌<◌, ◌/◌, IfOk, IsTrue, false, length, map, true};
 ghost use Rattle.std.specs.List.{range_with_len};
 ghost use Rattle.rtr_types.specs.declared.TheConstants.{BLOCK_WORDS};
 ghost use Rattle.rv_core.specs.States.{starting};
 ghost use Rattle.rv_core.specs.Steps.{access_of as need_access, is_done, need};
-ghost use Rattle.msi_cache.specs.Lines.{waits};
 ghost use Rattle.msi_directory.specs.Blocks.{touched};
 ghost use Rattle.msi_machine.specs.Standings.{standing_at};
-ghost use Rattle.msi_machine.specs.Workings.{HasRetired, IsTold, retiring_access, retiring_local};
+ghost use Rattle.msi_machine.specs.Workings.{CanAsk, Does, IsThere, Makes, retiring_access, retiring_local};
 ghost use Rattle.msi_memory.specs.Acts.{TakeMessage, allows};
 ghost use Rattle.msi_memory.specs.Memories.{port_at};
 ghost use Rattle.msi_memory.specs.Rests.{HasRoomFor as HasActRoom};
@@ -15,7 +14,7 @@ ghost use Rattle.msi_state.specs.declared.moves.Move.{Move};
 ghost use Rattle.msi_state.specs.Events.{instr_of, next_instr};
 ghost use Rattle.msi_state.specs.Rests.{has_row_for, may_access};
 ghost use Rattle.msi_state.specs.States.{core_at, state_start};
-ghost use Rattle.msi_state.specs.Steps.{StepsTo, TellsOf, event};
+ghost use Rattle.msi_state.specs.Steps.{event};
 
 use crate::standing::Standing;
 use access_times::{Carry, Clerk, Rider};
@@ -89,24 +88,26 @@ impl<R: Rider, K: Carry> Parts<R, K> {
         standing: &mut Standing,
         clerk: &mut C,
     ) -> Option<Instr>
-        requires here { c < length self.old.state.cores }
-        requires port { c < length self.old.state.memory.ports }
-        requires stands { standing.old ≡ standing_at K.carrying self.old.state c }
         requires more { is_done (need self.old.state.image (core_at self.old.state.cores c)) ≡ false }
-        requires still { waits (port_at K.carrying self.old.state.memory.ports c).cache ≡ false }
+        requires there { IsThere self.old.state c }
+        requires stands { standing.old ≡ standing_at K.carrying self.old.state c }
         requires accepts { C.accepts clerk.old (next_instr (core_at self.old.state.cores c)) }
-        requires room { let port = port_at K.carrying self.old.state.memory.ports c in
-            length port.requests.items < port.requests.room }
-        ensures state { StepsTo R.riding K.carrying self.old.state self.new.state (Move.Core c) }
-        ensures rooms { self.new.rooms ≡ self.old.rooms }
-        ensures retired { result ≡ instr_of (event R.riding K.carrying self.old.state (Move.Core c)) }
-        ensures told { TellsOf C.told_local C.told_touch R.riding K.carrying self.old.state self.new.state
-            (Move.Core c) clerk.old clerk.new }
+        requires asks { CanAsk K.carrying self.old.state c }
+        ensures made { Makes C.told_local C.told_touch R.riding K.carrying self.old self.new (Move.Core c) result
+            clerk.old clerk.new }
         ensures renewed { standing.new ≡ standing_at K.carrying self.new.state c }
     {
         match standing.need.access() {
-            Some((kind, word)) => self.try_access(c, word, kind, standing, clerk),
             None => Some(self.retire_local(c, standing, clerk)),
+            Some((kind, word)) => {
+                let block = word / BLOCK_WORDS as u32;
+                if self.memory.allows(c, block, kind) {
+                    return Some(self.retire_access(c, word, kind, standing, clerk));
+                }
+                self.memory.want(c, block, kind);
+                standing.waits = true;
+                None
+            }
         }
     }
 
@@ -118,18 +119,14 @@ impl<R: Rider, K: Carry> Parts<R, K> {
         standing: &mut Standing,
         clerk: &mut C,
     ) -> Option<Instr>
-        requires here { c < length self.old.state.cores }
-        requires port { c < length self.old.state.memory.ports }
-        requires stands { standing.old ≡ standing_at K.carrying self.old.state c }
         requires row { IsTrue (has_row_for R.riding K.carrying self.old.state (Move.FromHome c)) }
         requires room { HasActRoom R.riding K.carrying self.old.state.memory (TakeMessage c) }
+        requires there { IsThere self.old.state c }
+        requires stands { standing.old ≡ standing_at K.carrying self.old.state c }
         requires accepts { is_done (need self.old.state.image (core_at self.old.state.cores c)) ≡ false
             → C.accepts clerk.old (next_instr (core_at self.old.state.cores c)) }
-        ensures state { StepsTo R.riding K.carrying self.old.state self.new.state (Move.FromHome c) }
-        ensures rooms { self.new.rooms ≡ self.old.rooms }
-        ensures retired { result ≡ instr_of (event R.riding K.carrying self.old.state (Move.FromHome c)) }
-        ensures told { TellsOf C.told_local C.told_touch R.riding K.carrying self.old.state self.new.state
-            (Move.FromHome c) clerk.old clerk.new }
+        ensures made { Makes C.told_local C.told_touch R.riding K.carrying self.old self.new (Move.FromHome c) result
+            clerk.old clerk.new }
         ensures renewed { standing.new ≡ standing_at K.carrying self.new.state c }
     {
         if self.memory.take_message(c, &mut standing.waits) {
@@ -161,16 +158,12 @@ impl<R: Rider, K: Carry> Parts<R, K> {
         standing: &mut Standing,
         clerk: &mut C,
     ) -> Instr
-        requires here { c < length self.old.state.cores }
-        requires port { c < length self.old.state.memory.ports }
+        requires there { IsThere self.old.state c }
         requires stands { standing.old ≡ standing_at K.carrying self.old.state c }
         requires more { is_done (need self.old.state.image (core_at self.old.state.cores c)) ≡ false }
         requires accepts { C.accepts clerk.old (next_instr (core_at self.old.state.cores c)) }
-        ensures state { HasRetired R.riding K.carrying self.old.state self.new.state c
-            (retiring_local self.old.state c) }
-        ensures rooms { self.new.rooms ≡ self.old.rooms }
         ensures retired { result ≡ next_instr (core_at self.old.state.cores c) }
-        ensures told { IsTold C.told_local C.told_touch R.riding K.carrying self.old.state self.new.state c
+        ensures done { Does C.told_local C.told_touch R.riding K.carrying self.old self.new c
             (retiring_local self.old.state c) clerk.old clerk.new }
         ensures renewed { standing.new ≡ standing_at K.carrying self.new.state c }
     {
@@ -192,18 +185,14 @@ impl<R: Rider, K: Carry> Parts<R, K> {
         standing: &mut Standing,
         clerk: &mut C,
     ) -> Instr
-        requires here { c < length self.old.state.cores }
-        requires port { c < length self.old.state.memory.ports }
-        requires stands { standing.old ≡ standing_at K.carrying self.old.state c }
-        requires more { is_done (need self.old.state.image (core_at self.old.state.cores c)) ≡ false }
+        requires there { IsThere self.old.state c }
         requires allowed { IsTrue (allows R.riding (port_at K.carrying self.old.state.memory.ports c)
             (word / BLOCK_WORDS) kind) }
+        requires stands { standing.old ≡ standing_at K.carrying self.old.state c }
+        requires more { is_done (need self.old.state.image (core_at self.old.state.cores c)) ≡ false }
         requires accepts { C.accepts clerk.old (next_instr (core_at self.old.state.cores c)) }
-        ensures state { HasRetired R.riding K.carrying self.old.state self.new.state c
-            (retiring_access R.riding K.carrying self.old.state c word kind) }
-        ensures rooms { self.new.rooms ≡ self.old.rooms }
         ensures retired { result ≡ next_instr (core_at self.old.state.cores c) }
-        ensures told { IsTold C.told_local C.told_touch R.riding K.carrying self.old.state self.new.state c
+        ensures done { Does C.told_local C.told_touch R.riding K.carrying self.old self.new c
             (retiring_access R.riding K.carrying self.old.state c word kind) clerk.old clerk.new }
         ensures renewed { standing.new ≡ standing_at K.carrying self.new.state c }
     {
@@ -224,41 +213,6 @@ impl<R: Rider, K: Carry> Parts<R, K> {
         at
     }
 
-    /// An access is made where the port allows it, and its instruction retires. Else what it needs is asked
-    /// for.
-    fn try_access<C: Clerk<R, K>>(
-        &mut self,
-        c: u8,
-        word: u32,
-        kind: Kind,
-        standing: &mut Standing,
-        clerk: &mut C,
-    ) -> Option<Instr>
-        requires here { c < length self.old.state.cores }
-        requires port { c < length self.old.state.memory.ports }
-        requires stands { standing.old ≡ standing_at K.carrying self.old.state c }
-        requires needed { need_access (need self.old.state.image (core_at self.old.state.cores c))
-            ≡ Some (kind, word) }
-        requires still { waits (port_at K.carrying self.old.state.memory.ports c).cache ≡ false }
-        requires accepts { C.accepts clerk.old (next_instr (core_at self.old.state.cores c)) }
-        requires room { let port = port_at K.carrying self.old.state.memory.ports c in
-            length port.requests.items < port.requests.room }
-        ensures state { StepsTo R.riding K.carrying self.old.state self.new.state (Move.Core c) }
-        ensures rooms { self.new.rooms ≡ self.old.rooms }
-        ensures retired { result ≡ instr_of (event R.riding K.carrying self.old.state (Move.Core c)) }
-        ensures told { TellsOf C.told_local C.told_touch R.riding K.carrying self.old.state self.new.state
-            (Move.Core c) clerk.old clerk.new }
-        ensures renewed { standing.new ≡ standing_at K.carrying self.new.state c }
-    {
-        let block = word / BLOCK_WORDS as u32;
-        if self.memory.allows(c, block, kind) {
-            return Some(self.retire_access(c, word, kind, standing, clerk));
-        }
-        self.memory.want(c, block, kind);
-        standing.waits = true;
-        None
-    }
-
     /// The access is made that the core needs, and its instruction retires.
     fn retire_waiting<C: Clerk<R, K>>(
         &mut self,
@@ -266,17 +220,13 @@ impl<R: Rider, K: Carry> Parts<R, K> {
         standing: &mut Standing,
         clerk: &mut C,
     ) -> Option<Instr>
-        requires here { c < length self.old.state.cores }
-        requires port { c < length self.old.state.memory.ports }
-        requires stands { standing.old ≡ standing_at K.carrying self.old.state c }
         requires ready { IsTrue (may_access (need_access (need self.old.state.image (core_at self.old.state.cores c)))
             R.riding (port_at K.carrying self.old.state.memory.ports c)) }
+        requires there { IsThere self.old.state c }
+        requires stands { standing.old ≡ standing_at K.carrying self.old.state c }
         requires accepts { C.accepts clerk.old (next_instr (core_at self.old.state.cores c)) }
-        ensures state { HasRetired R.riding K.carrying self.old.state self.new.state c
-            (event R.riding K.carrying self.old.state (Move.Core c)) }
-        ensures rooms { self.new.rooms ≡ self.old.rooms }
         ensures retired { result ≡ instr_of (event R.riding K.carrying self.old.state (Move.Core c)) }
-        ensures told { IsTold C.told_local C.told_touch R.riding K.carrying self.old.state self.new.state c
+        ensures done { Does C.told_local C.told_touch R.riding K.carrying self.old self.new c
             (event R.riding K.carrying self.old.state (Move.Core c)) clerk.old clerk.new }
         ensures renewed { standing.new ≡ standing_at K.carrying self.new.state c }
     {

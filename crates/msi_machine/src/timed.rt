@@ -54,6 +54,7 @@ impl<K: Carry> Machine<Times, K> {
             → let later = with_step K.carrying self.old.state result.taken (C.clock clerk.new) list in
             AreLastClocks (C.clock clerk.new) later }
     {
+        // What always holds of a machine says this.
         let _ = &self.parts;
         self.step(choice, clerk)
     }

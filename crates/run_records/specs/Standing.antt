@@ -2,7 +2,6 @@
 use Rattle.std.specs.Prelude.{◌≡◌, ℕ, ◌<◌, List, [], reverse}
 use Rattle.access_times.specs.declared.times.Times.{Times}
 use Rattle.image_mem.specs.Contents.{Contents}
-use Rattle.rtr_types.specs.Parameters.{Fits}
 use Rattle.rtr_types.specs.declared.access.Access.{Access}
 use Rattle.rtr_types.specs.declared.instr.Edge.{Edge}
 use Rattle.rtr_types.specs.declared.params.Params.{Params}
@@ -58,12 +57,3 @@ pub record RecordsAt (image : Contents) (params : Params) (schedule : Choices) (
   pub history : Notes
   pub notes : NotesAt image params schedule t s clerk.reduction.state history rest
   pub regulates : Regulates history clerk
-
--- they stand somewhere in a run of parameters that fit
-pub record IsRecording (s : State Times Known) (clerk : Noted) (rest : Choices) : Type 0 where
-  pub image : Contents
-  pub params : Params
-  pub schedule : Choices
-  pub t : ℕ
-  pub fits : Fits params
-  pub records : RecordsAt image params schedule t s clerk rest

@@ -188,7 +188,8 @@ module _ (image : Contents) (params : Params) (schedule : Choices) (fits : Fits 
         → retired_in (happening_at image params (choice_at schedule)) (end_of image params (choice_at schedule)) c
         ≡ slice_index (recording_of image params schedule).totals c
     all_retire c within =
-        sym (counts_are events (end_of image params choices) c) ∙ ap (λ (l : List ℕ). counts nought l c) (order_is image params schedule)
+        sym (counts_are events (end_of image params choices) c)
+        ∙ ap (λ (l : List ℕ). counts nought l c) (order_is image params schedule)
         ∙ by_reduced.whole.each c within
 
     -- so an edge's target retires, and its source in an event before
@@ -201,7 +202,8 @@ module _ (image : Contents) (params : Params) (schedule : Choices) (fits : Fits 
         let whole = valid.each_core in
         let all = all_retire y.core (omega arith) in
         let most = lies.target_most in
-        let there = retired_there events (end_of image params choices) (λ u lt. run_orderly_law image params choices fits.cores u) y
+        let there = retired_there events (end_of image params choices)
+        (λ u lt. run_orderly_law image params choices fits.cores u) y
         lies.some_target (omega arith) in
         let t : ℕ = there.0 in
         let within : t < end_of image params choices = there.1 in

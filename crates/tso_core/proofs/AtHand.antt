@@ -29,19 +29,17 @@ use Rattle.msi_laws.proofs.Final.{all_quiet}
 use Rattle.msi_laws.proofs.KindsShown.{blocks_hold}
 use Rattle.tso_core.specs.Writers.{OneWriterEach}
 
+-- what a line allows hangs on the state that a block has in it, which is I where the line holds another
+seen_in : (allows : LineState → Bool) → allows I ≡ false → (held : Bool) (state : LineState) →
+    (held && allows state) ≡ allows (if held then state else I)
+seen_in allows none true state = refl
+seen_in allows none false state = sym none
+
 writable_seen : {R : Type 0} (b : ℕ) (line : Line R) → can_write line b ≡ is_writable (line_state b line)
-writable_seen b line = by_test (line.block == b) line.state
-  where
-    by_test : (t : Bool) (s : LineState) → (t && is_writable s) ≡ is_writable (if t then s else I)
-    by_test true s = refl
-    by_test false s = refl
+writable_seen b line = seen_in is_writable refl (line.block == b) line.state
 
 readable_seen : {R : Type 0} (b : ℕ) (line : Line R) → can_read line b ≡ is_readable (line_state b line)
-readable_seen b line = by_test (line.block == b) line.state
-  where
-    by_test : (t : Bool) (s : LineState) → (t && is_readable s) ≡ is_readable (if t then s else I)
-    by_test true s = refl
-    by_test false s = refl
+readable_seen b line = seen_in is_readable refl (line.block == b) line.state
 
 module _ {R K : Type 0} where
   below : (riding : Riding R) (carrying : Carrying K) (m : Memory R K) (c : ℕ) → MemoryHolds riding carrying m →

@@ -12,9 +12,11 @@ use Rattle.msi_memory.specs.Acts.{after_acts, port_retiring}
 use Rattle.msi_memory.specs.Memories.{Memory, port_at, rider_at}
 use Rattle.msi_laws.proofs.Acting.{ports_after_acts}
 use Rattle.msi_laws.proofs.Waits.{port_there}
+use Rattle.tso_clerk.specs.Telling.{AcceptsAll, TellsAll, TellsOne}
 use Rattle.tso_state.specs.Events.{Drains, Logs, Told, Alone, Ordered, Logged, count_before, instr_told, locals_behind}
 use Rattle.tso_state.specs.States.{BufferedCore, State, buffered_start, core_at}
 use Rattle.tso_state.specs.Steps.{acts_told}
+use Rattle.tso_core.specs.Machineries.{IsThere}
 use Rattle.tso_core.specs.Workings.{HasDone, HasLeft, HasTold, locals_of, popped, rider_in}
 use Rattle.tso_core.proofs.AtPort.{acts_here, port_acts, telling_here}
 use Rattle.tso_core.proofs.Telling.{carried}
@@ -48,7 +50,7 @@ module _ {R K : Type 0} where
       (buffered_start 0 0) here
 
   -- what is told behind it
-  pub behind_is : (old first next : State R K) (c count : ℕ) → HasLeft old first c → next.cores ≡ first.cores →
+  behind_is : (old first next : State R K) (c count : ℕ) → HasLeft old first c → next.cores ≡ first.cores →
       c < length old.cores →
       let t = core_at next.cores c in let u = core_at old.cores c in
       locals_behind t.core count t.queue ≡ locals_behind u.core count (drop 1 u.queue)
@@ -130,7 +132,7 @@ module _ {R K : Type 0} where
   told_carry riding carrying c rider (Logged at word value ∷ list) p =
       told_carry riding carrying c rider list (port_retiring carrying p at)
 
-  pub carry_told : (riding : Riding R) (carrying : Carrying K) (old first next : State R K) (c : ℕ) (rider : R)
+  carry_told : (riding : Riding R) (carrying : Carrying K) (old first next : State R K) (c : ℕ) (rider : R)
       (e : Told) → HasLeft old first c →
       HasTold riding carrying first next c rider (e ∷ []) → c < length old.memory.ports →
       (port_at carrying next.memory.ports c).carry ≡ carrying.retired (port_at carrying old.memory.ports c).carry
@@ -146,6 +148,44 @@ module _ {R K : Type 0} where
       ∙ ap (λ (q : Port R K). q.carry) (port_there carrying m c p there)
       ∙ told_carry riding carrying c rider (e ∷ []) (port_at carrying m.ports c)
       ∙ ap (λ (n : Memory R K). carrying.retired (port_at carrying n.ports c).carry (instr_told e)) same
+
+  -- ---- what it is told behind the access that left
+  module _ {C : Type 0} (accepts accepts_alone : C → Instr → Type 0) (local : C → Instr → K → C → Type 0)
+      (touch : C → R → Access → K → C → R → Type 0) (logged : C → Instr → ℕ → ℕ → K → C → Type 0)
+      (riding : Riding R) (carrying : Carrying K) (old first next : State R K) (c count : ℕ) (rider : R) (e : Told)
+      (found : Memory R K → R) (before between : C) (left : HasLeft old first c)
+      (made : HasTold riding carrying first next c rider (e ∷ [])) (there : IsThere old c) where
+    abbrev behind : List Told
+    behind = let u = core_at old.cores c in locals_behind u.core count (drop 1 u.queue)
+
+    abbrev One : Memory R K → R → Type 0
+    One m after = TellsOne local touch logged e (carrying.retired (port_at carrying m.ports c).carry (instr_told e))
+        before (found m) between after
+
+    first_told : (after : R) → One first.memory after → One old.memory after
+    first_told after = subst (λ (m : Memory R K). One m after) (ap (λ (s : State R K). s.memory) left)
+
+    list_is : let t = core_at next.cores c in locals_behind t.core count t.queue ≡ behind
+    list_is = behind_is old first next c count left (ap (λ (s : State R K). s.cores) made) there.core
+
+    carry_is : (port_at carrying next.memory.ports c).carry ≡ carrying.retired
+        (port_at carrying old.memory.ports c).carry (instr_told e)
+    carry_is = carry_told riding carrying old first next c rider e left made there.port
+
+    pub accepts_behind : AcceptsAll accepts accepts_alone local touch logged carrying (e ∷ behind)
+        (port_at carrying old.memory.ports c).carry before (found old.memory) → (after : R) → One first.memory after →
+        let t = core_at next.cores c in
+        AcceptsAll accepts accepts_alone local touch logged carrying (locals_behind t.core count t.queue)
+        (port_at carrying next.memory.ports c).carry between (found old.memory)
+    accepts_behind all after one = rw (list_is, carry_is) (all.1 between after (first_told after one))
+
+    pub tells_behind : (last : C) (after : R) → One first.memory after →
+        (let t = core_at next.cores c in
+        TellsAll local touch logged carrying (locals_behind t.core count t.queue)
+        (port_at carrying next.memory.ports c).carry between (found old.memory) last after) →
+        TellsAll local touch logged carrying (e ∷ behind) (port_at carrying old.memory.ports c).carry before
+        (found old.memory) last after
+    tells_behind last after one rest = (between, first_told after one, rw (list_is, carry_is) at rest)
 
   -- ---- a logged load
   pub logged_state : (riding : Riding R) (carrying : Carrying K) (old first next last : State R K) (c : ℕ) (at : Instr)

@@ -25,7 +25,7 @@ use Rattle.tso_core.specs.declared.standing.Standing.{Standing}
 use Rattle.tso_core.specs.Machineries.{Machinery, heads_roomy}
 use Rattle.tso_core.specs.Marks.{AllMarked, CoresMarked, OthersMarked}
 use Rattle.tso_core.specs.Moving.{StepsTo, rider_left}
-use Rattle.tso_core.specs.Standings.{NotesFit, OwnMarked, StandingsFit, may_execute, standing_at}
+use Rattle.tso_core.specs.Standings.{IsAtPort, NotesFit, OwnMarked, StandingsFit, may_execute, standing_at}
 use Rattle.tso_core.specs.Workings.{MayAsk}
 use Rattle.rtr_types.specs.CoreSets.{has}
 use Rattle.rtr_types.specs.declared.TheConstants.{CORES_MAX}
@@ -183,44 +183,29 @@ module _ {R K : Type 0} where
       stands_at s standings c d fit (subst (λ (k : ℕ). k < length s.cores) at (enabled_core riding carrying s taken
       can_be holds))
 
-  pub core_stands : (riding : Riding R) (carrying : Carrying K) (rider : R) (s t : State R K) (taken : Move) (c : ℕ)
-      (standings : List Standing)
-      (kept : Standing) → TsoHolds riding carrying s → enabled riding carrying s taken ≡ true → taken ≡ CoreMove c →
-      StandingsFit s standings →
-      t ≡ step riding carrying rider s (CoreMove c) → kept ≡ standing_at t c →
+  pub kept_moved : (riding : Riding R) (carrying : Carrying K) (s t : State R K) (taken : Move) (c : ℕ)
+      (standings : List Standing) (kept : Standing) → TsoHolds riding carrying s →
+      enabled riding carrying s taken ≡ true → core_of taken ≡ c → StandingsFit s standings →
+      (c < length s.memory.ports → MovedAt s t c) → kept ≡ standing_at t c →
       StandingsFit t (slice_set standings c kept)
-  core_stands riding carrying rider s t taken c standings kept holds can_be at fit is stands =
-      let here : c < length s.cores = subst (λ (m : Move). core_of m < length s.cores) at
-      (enabled_core riding carrying s taken can_be holds) in
-      let port : c < length s.memory.ports = core_port riding carrying s c holds here in
-      moved_stands carrying s t standings c kept (core_moves riding carrying rider s t c port is) fit here stands
+  kept_moved riding carrying s t taken c standings kept holds can_be at fit moved stands =
+      let here : c < length s.cores = subst (λ (k : ℕ). k < length s.cores) at (enabled_core riding carrying s taken
+      can_be holds) in
+      moved_stands carrying s t standings c kept (moved (core_port riding carrying s c holds here)) fit here stands
 
+  -- where a core's oldest access is ordered, what is kept of it stays
   pub order_stands : (riding : Riding R) (carrying : Carrying K) (rider : R) (s t : State R K) (taken : Move) (c : ℕ)
-      (standings : List Standing)
-      (d : Standing) → TsoHolds riding carrying s → enabled riding carrying s taken ≡ true → taken ≡ OrderMove c →
-      StandingsFit s standings →
+      (standings : List Standing) (d : Standing) → TsoHolds riding carrying s →
+      enabled riding carrying s taken ≡ true → core_of taken ≡ c → StandingsFit s standings →
       t ≡ step riding carrying rider s (OrderMove c) → StandingsFit t standings
   order_stands riding carrying rider s t taken c standings d holds can_be at fit is =
-      let here : c < length s.cores = subst (λ (m : Move). core_of m < length s.cores) at
-      (enabled_core riding carrying s taken can_be holds) in
-      let port : c < length s.memory.ports = core_port riding carrying s c holds here in
-      let same : get_or standings c d ≡ standing_at t c = stands_at s standings c d fit here
-      ∙ order_standing riding carrying rider s t c is here in
+      let here : c < length s.cores = subst (λ (k : ℕ). k < length s.cores) at (enabled_core riding carrying s taken
+      can_be holds) in
       subst (λ (xs : List Standing). StandingsFit t xs) (set-get_or standings c d)
-      (moved_stands carrying s t standings c (get_or standings c d) (order_moves riding carrying rider s t c port is)
-      fit here same)
-
-  pub message_stands : (riding : Riding R) (carrying : Carrying K) (rider : R) (s t : State R K) (taken : Move) (c : ℕ)
-      (standings : List Standing)
-      (kept : Standing) → TsoHolds riding carrying s → enabled riding carrying s taken ≡ true → taken ≡ MessageMove c →
-      StandingsFit s standings →
-      t ≡ step riding carrying rider s (MessageMove c) → kept ≡ standing_at t c →
-      StandingsFit t (slice_set standings c kept)
-  message_stands riding carrying rider s t taken c standings kept holds can_be at fit is stands =
-      let here : c < length s.cores = subst (λ (m : Move). core_of m < length s.cores) at
-      (enabled_core riding carrying s taken can_be holds) in
-      let port : c < length s.memory.ports = core_port riding carrying s c holds here in
-      moved_stands carrying s t standings c kept (message_moves riding carrying rider s t c port is) fit here stands
+      (kept_moved riding carrying s t taken c standings (get_or standings c d) holds can_be at fit
+      (λ port. order_moves riding carrying rider s t c port is)
+      (kept_here riding carrying s taken c standings d holds can_be at fit
+      ∙ order_standing riding carrying rider s t c is here))
 
   -- a machine's notes follow a move
   pub notes_kept : (riding : Riding R) (carrying : Carrying K) (old new : Machinery R K) (m : Move)
@@ -277,7 +262,7 @@ module _ {R K : Type 0} where
     pub port_before : c < length s.memory.ports
     port_before = core_port riding carrying s c holds core_before
 
-    pub core_few : c < CORES_MAX
+    core_few : c < CORES_MAX
     core_few =
         let few : length s.memory.ports ≤ CORES_MAX = holds.memory.cores in
         let there : c < length s.memory.ports = port_before in
@@ -302,12 +287,15 @@ module _ {R K : Type 0} where
         read (buffered_start 0 0)
         ∙ ap (λ (x : Machinery R K). core_at x.state.cores c) view
 
-    pub asked_seen : (t : BufferedCore) → t ≡ get_or seen.state.cores c t →
+    asked_seen : (t : BufferedCore) → t ≡ get_or seen.state.cores c t →
         waits (port_at carrying seen.state.memory.ports c).cache ≡ is_asking t.asker
     asked_seen t read =
         ap (λ (x : Machinery R K). waits (port_at carrying x.state.memory.ports c).cache) view
         ∙ (after.cores c core_after).waiting
         ∙ ap (λ (u : BufferedCore). is_asking u.asker) (sym (core_seen t read))
+
+    pub at_port : (t : BufferedCore) → t ≡ get_or seen.state.cores c t → IsAtPort carrying seen.state.memory t c
+    at_port t read = record { few = core_few; here = port_seen; asked = asked_seen t read }
 
     -- what was seen to be possible
     pub executes_seen : (kept : Standing) (t : BufferedCore) → t ≡ get_or seen.state.cores c t →

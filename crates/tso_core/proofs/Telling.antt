@@ -1,7 +1,8 @@
 -- Instructions without data that are told one after the other: what is told so far, what is still to be told, and what
 -- both make of the memory system.
 use Rattle.std.proofs.Common.{◌⊎◌, inl, inr, ◌≡◌, ◌∙◌, refl, sym, subst, ap, ℕ, suc, ◌+◌, ◌-◌, ◌<◌, ◌≤◌, List, []}
-use Rattle.std.proofs.Common.{◌∷◌, ◌++◌, arith}
+use Rattle.std.proofs.Common.{◌∷◌, ◌++◌, arith, get_or, length}
+use Rattle.std.proofs.lemmas.List.{get_or_read}
 use Rattle.std.proofs.lemmas.List.FromFn.{map-range_with_len_more}
 use Rattle.access_times.specs.Riding.{Riding, Carrying}
 use Rattle.rtr_types.specs.declared.access.Access.{Access}
@@ -10,10 +11,11 @@ use Rattle.msi_memory.specs.Acts.{Act, after_acts, retire}
 use Rattle.msi_memory.specs.Memories.{Memory, port_at}
 use Rattle.msi_laws.proofs.PortWaits.{after_append}
 use Rattle.tso_clerk.specs.Telling.{AcceptsAll, TellsAll}
-use Rattle.tso_state.specs.Events.{Told, Alone, Ordered, Logged, clerk_event, instr_told}
+use Rattle.tso_state.specs.Events.{Told, Alone, Ordered, Logged, clerk_event, count_before, instr_told}
 use Rattle.tso_state.specs.Steps.{acts_told}
 use Rattle.msi_state.specs.Steps.{acts_of}
-use Rattle.tso_state.specs.States.{State}
+use Rattle.tso_state.specs.States.{BufferedCore, State, buffered_start, core_at}
+use Rattle.tso_core.specs.Machineries.{Machinery}
 use Rattle.tso_core.specs.Workings.{HasTold, locals_of}
 use Rattle.move_marks.proofs.Delivered.{split}
 
@@ -36,13 +38,28 @@ locals_first core last until within =
     let one : until - last ≡ suc (until - (last + 1)) = omega arith in ap (λ (n : ℕ). locals_of core last n) one
 
 -- where as many were told as are to be
-pub told_many : (count last until : ℕ) → until ≤ last → (count ≤ until → last ≤ until) →
+told_many : (count last until : ℕ) → until ≤ last → (count ≤ until → last ≤ until) →
     (until ≤ count → last ≡ count) → last - count ≡ until - count
 told_many count last until past within few = by (split count until)
   where
     by : (count < until) ⊎ (until ≤ count) → last - count ≡ until - count
     by (inl more) = let end = within (omega arith) in omega arith
     by (inr none) = let end = few none in omega arith
+
+-- so it is at the end of a loop that ends at the count before the oldest pending access
+pub all_told : {R K : Type 0} (seen now : Machinery R K) (c count last until : ℕ) (station : BufferedCore) →
+    seen ≡ now → c < length now.state.cores → station ≡ get_or seen.state.cores c station →
+    until ≡ count_before station.core station.queue → until ≤ last → (count ≤ until → last ≤ until) →
+    (until ≤ count → last ≡ count) →
+    let t = core_at now.state.cores c in last - count ≡ count_before t.core t.queue - count
+all_told {R} {K} seen now c count last until station view here read is past within few =
+    let there : c < length seen.state.cores =
+    subst (λ (m : Machinery R K). c < length m.state.cores) (sym view) here in
+    let same : station ≡ core_at now.state.cores c =
+    get_or_read seen.state.cores c station there read (buffered_start 0 0)
+    ∙ ap (λ (m : Machinery R K). core_at m.state.cores c) view in
+    told_many count last until past within few
+    ∙ ap (λ (n : ℕ). n - count) (is ∙ ap (λ (x : BufferedCore). count_before x.core x.queue) same)
 
 -- ---- what they do to the memory system
 

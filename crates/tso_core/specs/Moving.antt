@@ -12,6 +12,7 @@ use Rattle.tso_state.specs.Steps.{event, step, told}
 use Rattle.tso_data.specs.Orders.{ordering_of}
 use Rattle.tso_times.specs.Timed.{ordering_port}
 use Rattle.tso_clerk.specs.Telling.{AcceptsAll, TellsAll}
+use Rattle.tso_core.specs.Machineries.{Machinery}
 
 module _ {R K : Type 0} where
   -- the rider that the access which a move orders finds on its copy
@@ -43,3 +44,11 @@ module _ {R K : Type 0} where
   AcceptsOf accepts accepts_alone local touch logged riding carrying s m clerk =
       AcceptsAll accepts accepts_alone local touch logged carrying (told riding carrying s m)
       (ordering_port riding carrying s m).carry clerk (rider_found riding carrying s m)
+
+  -- the move made the new machine of the old: it told the clerk what it tells, and no block of the home got room
+  pub record Makes {C : Type 0} (local : C → Instr → K → C → Type 0) (touch : C → R → Access → K → C → R → Type 0)
+      (logged : C → Instr → ℕ → ℕ → K → C → Type 0) (riding : Riding R) (carrying : Carrying K)
+      (old new : Machinery R K) (m : Move) (before after : C) : Type 0 where
+    pub state : StepsTo riding carrying old.state new.state m
+    pub rooms : new.rooms ≡ old.rooms
+    pub told : TellsOf local touch logged riding carrying old.state new.state m before after

@@ -1,18 +1,21 @@
 -- What the cores stand at, and what a machine notes beside its state.
-use Rattle.std.specs.Prelude.{◌≡◌, ◌≢◌, ℕ, Bool, false, List, map, slice_index_or, not, ◌&&◌}
+use Rattle.std.specs.Prelude.{◌≡◌, ◌≢◌, ◌<◌, ℕ, Bool, false, List, length, map, slice_index_or, not, ◌&&◌}
 use Rattle.access_times.specs.Riding.{Riding, Carrying}
 use Rattle.image_mem.specs.Contents.{Contents}
 use Rattle.rtr_types.specs.CoreSets.{has}
+use Rattle.rtr_types.specs.declared.TheConstants.{CORES_MAX}
 use Rattle.rv_core.specs.declared.core_state.Core.{Core}
 use Rattle.rv_core.specs.Steps.{need, instruction_at, is_done}
+use Rattle.msi_cache.specs.Lines.{waits}
 use Rattle.msi_memory.specs.declared.port.Port.{Port}
+use Rattle.msi_memory.specs.Memories.{Memory, port_at}
 use Rattle.move_marks.specs.declared.marks.MoveKind.{MoveKind}
 use Rattle.move_marks.specs.declared.marks.MoveKind.TheVariants.{Own}
 use Rattle.move_marks.specs.Kinds.{set_of}
 use Rattle.move_marks.specs.Ports.{PortsNoted}
 use Rattle.tso_state.specs.States.{BufferedCore, State, core_at}
 use Rattle.tso_state.specs.Steps.{can_order, case_holds, is_fence_op, is_next}
-use Rattle.tso_invariant.specs.Holds.{TsoHolds}
+use Rattle.tso_invariant.specs.Holds.{TsoHolds, is_asking}
 use Rattle.tso_core.specs.declared.marks.Marks.{Marks}
 use Rattle.tso_core.specs.declared.standing.Standing.{Standing}
 use Rattle.tso_core.specs.Machineries.{Machinery}
@@ -30,6 +33,12 @@ module _ {R K : Type 0} where
   -- a core that stands so can execute its next instruction at this port, or ask for the block that this needs
   abbrev pub may_execute : Riding R → Standing → BufferedCore → Port R K → Bool
   may_execute riding s t p = not (is_next t.asker) && case_holds s.need (is_fence_op s.op) riding t.queue p
+
+  -- core c's number is that of a core, and its port is there, which waits exactly where the core has asked
+  pub record IsAtPort (carrying : Carrying K) (m : Memory R K) (t : BufferedCore) (c : ℕ) : Type 0 where
+    pub few : c < CORES_MAX
+    pub here : c < length m.ports
+    pub asked : waits (port_at carrying m.ports c).cache ≡ is_asking t.asker
 
   -- what core c, which stands so at this port, can do by itself is marked anew, and nothing else is
   pub record OwnMarked (riding : Riding R) (p : Port R K) (t : BufferedCore) (standing : Standing) (c : ℕ)

@@ -21,6 +21,7 @@ use Rattle.tso_state.specs.States.{BufferedCore, State, core_at}
 use Rattle.tso_state.specs.Steps.{acts_told}
 use Rattle.tso_data.specs.Orders.{ordering_of}
 use Rattle.tso_clerk.specs.Telling.{AcceptsAll, TellsAll}
+use Rattle.tso_core.specs.Machineries.{Machinery}
 
 -- what becomes of a core by an event, while whom its port waits for stays
 abbrev pub core_doing : Contents → BufferedCore → Event → BufferedCore
@@ -75,6 +76,14 @@ module _ {R K : Type 0} where
       TellsAll local touch logged carrying (tellings (core_at old.cores c) e)
       (port_at carrying old.memory.ports c).carry
       before (rider_in riding carrying old c e) after (rider_in riding carrying new c e)
+
+  -- core c did this: the clerk was told of it, and no block of the home got room
+  pub record Does {C : Type 0} (local : C → Instr → K → C → Type 0) (touch : C → R → Access → K → C → R → Type 0)
+      (logged : C → Instr → ℕ → ℕ → K → C → Type 0) (riding : Riding R) (carrying : Carrying K)
+      (old new : Machinery R K) (c : ℕ) (e : Event) (before after : C) : Type 0 where
+    pub state : HasDone riding carrying old.state new.state c e
+    pub rooms : new.rooms ≡ old.rooms
+    pub told : ToldDoing local touch logged riding carrying old.state new.state c e before after
 
   -- ---- the events by which core c executes its next instruction
 

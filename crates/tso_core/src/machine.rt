@@ -111,6 +111,7 @@ impl<R: Rider, K: Carry> BufferedMachine<R, K> {
         ensures last { (memory : ℕ → List ℕ) → IsTrue result → Coherent R.riding K.carrying self.now.state memory
             → (block : ℕ) → block_words R.riding K.carrying self.now.state.memory block ≡ memory block }
     {
+        // What always holds of a machine says this.
         let _ = &self.parts;
         self.all_marks().count() == 0
     }
@@ -258,6 +259,7 @@ impl<R: Rider, K: Carry> BufferedMachine<R, K> {
         ensures numbers { (core : ℕ) → core < length self.now.state.cores
             → (core_at self.now.state.cores core).core.id ≡ core }
     {
+        // What always holds of a machine says this.
         let _ = &self.parts;
     }
 }

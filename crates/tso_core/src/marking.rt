@@ -1,9 +1,8 @@
 //! What a core's moves change of the marks.
 ghost use Rattle.std.specs.Prelude.{◌≡◌, ◌<◌, ◌/◌, ◌||◌, length, not};
-ghost use Rattle.rtr_types.specs.declared.TheConstants.{CORES_MAX};
 ghost use Rattle.msi_cache.specs.Lines.{waits};
 ghost use Rattle.msi_memory.specs.Acts.{allows};
-ghost use Rattle.tso_core.specs.Standings.{OwnMarked, may_execute};
+ghost use Rattle.tso_core.specs.Standings.{IsAtPort, OwnMarked, may_execute};
 ghost use Rattle.tso_invariant.specs.Holds.{is_asking};
 ghost use Rattle.tso_state.specs.Steps.{can_order};
 ghost use Rattle.msi_memory.specs.Memories.{port_at};
@@ -15,7 +14,7 @@ use crate::station::{Station, is_asking, is_next};
 use access_times::{Carry, Rider};
 use move_marks::{MoveKind, set_to};
 use msi_memory::MemorySystem;
-use rtr_types::{BLOCK_WORDS, CORES_MAX, Kind};
+use rtr_types::{BLOCK_WORDS, Kind};
 use rv_core::Need;
 use tso_state::Pending;
 
@@ -27,9 +26,7 @@ pub(crate) fn mark_own<R: Rider, K: Carry>(
     standing: Standing,
     marks: &mut Marks,
 )
-    requires few { core < CORES_MAX }
-    requires here { core < length memory.now.memory.ports }
-    requires asked { waits (port_at K.carrying memory.now.memory.ports core).cache ≡ is_asking station.now.asker }
+    requires { IsAtPort K.carrying memory.now.memory station.now core }
     ensures { OwnMarked R.riding (port_at K.carrying memory.now.memory.ports core) station.now standing core marks.old
         marks.new }
 {

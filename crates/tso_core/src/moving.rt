@@ -6,7 +6,7 @@ ghost use Rattle.tso_state.specs.Moves.{core_of};
 ghost use Rattle.tso_state.specs.Steps.{enabled};
 ghost use Rattle.tso_core.specs.Machineries.{heads_roomy};
 ghost use Rattle.tso_core.specs.Marks.{AllMarked, OthersMarked};
-ghost use Rattle.tso_core.specs.Moving.{AcceptsOf, StepsTo, TellsOf};
+ghost use Rattle.tso_core.specs.Moving.{AcceptsOf, Makes};
 ghost use Rattle.tso_core.specs.Standings.{StandingsFit, standing_at};
 
 use crate::marking::mark_own;
@@ -35,10 +35,8 @@ impl<R: Rider, K: Carry> Parts<R, K> {
         requires roomy { IsTrue (heads_roomy self.old) }
         requires accepts { AcceptsOf C.accepts C.accepts_alone C.told_local C.told_touch C.told_logged R.riding
             K.carrying self.old.state taken clerk.old }
-        ensures state { StepsTo R.riding K.carrying self.old.state self.new.state taken }
-        ensures rooms { self.new.rooms ≡ self.old.rooms }
-        ensures told { TellsOf C.told_local C.told_touch C.told_logged R.riding K.carrying self.old.state
-            self.new.state taken clerk.old clerk.new }
+        ensures made { Makes C.told_local C.told_touch C.told_logged R.riding K.carrying self.old self.new
+            taken clerk.old clerk.new }
         ensures stands { StandingsFit self.new.state standings.new }
         ensures marked { OthersMarked R.riding K.carrying self.new.state marks.new (core_of taken) }
     {
@@ -65,10 +63,8 @@ impl<R: Rider, K: Carry> Parts<R, K> {
         requires marked { AllMarked R.riding K.carrying self.old.state marks.old }
         requires accepts { AcceptsOf C.accepts C.accepts_alone C.told_local C.told_touch C.told_logged R.riding
             K.carrying self.old.state (Move.Core c) clerk.old }
-        ensures state { StepsTo R.riding K.carrying self.old.state self.new.state (Move.Core c) }
-        ensures rooms { self.new.rooms ≡ self.old.rooms }
-        ensures told { TellsOf C.told_local C.told_touch C.told_logged R.riding K.carrying self.old.state
-            self.new.state (Move.Core c) clerk.old clerk.new }
+        ensures made { Makes C.told_local C.told_touch C.told_logged R.riding K.carrying self.old self.new
+            (Move.Core c) clerk.old clerk.new }
         ensures renewed { standing.new ≡ standing_at self.new.state c }
         ensures marked { OthersMarked R.riding K.carrying self.new.state marks.new c }
     {
@@ -90,10 +86,8 @@ impl<R: Rider, K: Carry> Parts<R, K> {
         requires marked { AllMarked R.riding K.carrying self.old.state marks.old }
         requires accepts { AcceptsOf C.accepts C.accepts_alone C.told_local C.told_touch C.told_logged R.riding
             K.carrying self.old.state (Move.Order c) clerk.old }
-        ensures state { StepsTo R.riding K.carrying self.old.state self.new.state (Move.Order c) }
-        ensures rooms { self.new.rooms ≡ self.old.rooms }
-        ensures told { TellsOf C.told_local C.told_touch C.told_logged R.riding K.carrying self.old.state
-            self.new.state (Move.Order c) clerk.old clerk.new }
+        ensures made { Makes C.told_local C.told_touch C.told_logged R.riding K.carrying self.old self.new
+            (Move.Order c) clerk.old clerk.new }
         ensures marked { OthersMarked R.riding K.carrying self.new.state marks.new c }
     {
         self.order(c, clerk);
@@ -114,10 +108,8 @@ impl<R: Rider, K: Carry> Parts<R, K> {
         requires marked { AllMarked R.riding K.carrying self.old.state marks.old }
         requires accepts { AcceptsOf C.accepts C.accepts_alone C.told_local C.told_touch C.told_logged R.riding
             K.carrying self.old.state (Move.FromHome c) clerk.old }
-        ensures state { StepsTo R.riding K.carrying self.old.state self.new.state (Move.FromHome c) }
-        ensures rooms { self.new.rooms ≡ self.old.rooms }
-        ensures told { TellsOf C.told_local C.told_touch C.told_logged R.riding K.carrying self.old.state
-            self.new.state (Move.FromHome c) clerk.old clerk.new }
+        ensures made { Makes C.told_local C.told_touch C.told_logged R.riding K.carrying self.old self.new
+            (Move.FromHome c) clerk.old clerk.new }
         ensures renewed { standing.new ≡ standing_at self.new.state c }
         ensures marked { OthersMarked R.riding K.carrying self.new.state marks.new c }
     {

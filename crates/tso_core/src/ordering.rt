@@ -13,9 +13,10 @@ ghost use Rattle.tso_state.specs.declared.pending.Pending.TheVariants.{Load as P
 ghost use Rattle.tso_state.specs.Events.{Drains, Logged, Logs, Ordered, locals_behind};
 ghost use Rattle.tso_state.specs.States.{core_at};
 ghost use Rattle.tso_state.specs.Steps.{can_order, head_access};
-ghost use Rattle.tso_core.specs.Moving.{AcceptsOf, StepsTo, TellsOf};
+ghost use Rattle.tso_core.specs.Machineries.{IsThere};
+ghost use Rattle.tso_core.specs.Moving.{AcceptsOf, Makes};
 ghost use Rattle.tso_core.specs.Queues.{oldest};
-ghost use Rattle.tso_core.specs.Workings.{AcceptsDoing, HasDone, HasLeft, HasTold, MayAsk, ToldDoing, ordering};
+ghost use Rattle.tso_core.specs.Workings.{AcceptsDoing, Does, HasLeft, HasTold, MayAsk, ordering};
 
 use crate::marking::allows;
 use crate::parts::Parts;
@@ -28,17 +29,14 @@ use tso_state::{Asker, Pending};
 impl<R: Rider, K: Carry> Parts<R, K> {
     /// The oldest pending access of core `c` is ordered or logged, or the block is asked for that it needs.
     pub(crate) fn order<C: TsoClerk<R, K>>(&mut self, c: u8, clerk: &mut C)
-        requires here { c < length self.old.state.cores }
-        requires port { c < length self.old.state.memory.ports }
+        requires there { IsThere self.old.state c }
+        requires room { MayAsk K.carrying self.old.state c }
         requires able { IsTrue (can_order (core_at self.old.state.cores c).queue R.riding
             (port_at K.carrying self.old.state.memory.ports c)) }
-        requires room { MayAsk K.carrying self.old.state c }
         requires accepts { AcceptsOf C.accepts C.accepts_alone C.told_local C.told_touch C.told_logged R.riding
             K.carrying self.old.state (Move.Order c) clerk.old }
-        ensures state { StepsTo R.riding K.carrying self.old.state self.new.state (Move.Order c) }
-        ensures rooms { self.new.rooms ≡ self.old.rooms }
-        ensures told { TellsOf C.told_local C.told_touch C.told_logged R.riding K.carrying self.old.state
-            self.new.state (Move.Order c) clerk.old clerk.new }
+        ensures made { Makes C.told_local C.told_touch C.told_logged R.riding K.carrying self.old self.new
+            (Move.Order c) clerk.old clerk.new }
     {
         match self.cores[c as usize].queue.oldest() {
             None => {}
@@ -64,17 +62,13 @@ impl<R: Rider, K: Carry> Parts<R, K> {
 
     /// The oldest pending access of core `c` is ordered, a store that waited for its block. The port allows it now.
     pub(crate) fn order_granted<C: TsoClerk<R, K>>(&mut self, c: u8, clerk: &mut C)
-        requires here { c < length self.old.state.cores }
-        requires port { c < length self.old.state.memory.ports }
+        requires there { IsThere self.old.state c }
         requires ready { IsTrue (may_access (head_access (core_at self.old.state.cores c).queue) R.riding
             (port_at K.carrying self.old.state.memory.ports c)) }
         requires accepts { AcceptsDoing C.accepts C.accepts_alone C.told_local C.told_touch C.told_logged R.riding
             K.carrying self.old.state c (ordering R.riding K.carrying self.old.state c) clerk.old }
-        ensures state { HasDone R.riding K.carrying self.old.state self.new.state c
-            (ordering R.riding K.carrying self.old.state c) }
-        ensures rooms { self.new.rooms ≡ self.old.rooms }
-        ensures told { ToldDoing C.told_local C.told_touch C.told_logged R.riding K.carrying self.old.state
-            self.new.state c (ordering R.riding K.carrying self.old.state c) clerk.old clerk.new }
+        ensures done { Does C.told_local C.told_touch C.told_logged R.riding K.carrying self.old self.new c
+            (ordering R.riding K.carrying self.old.state c) clerk.old clerk.new }
     {
         if let Some(
             Pending::Store {
@@ -99,18 +93,14 @@ impl<R: Rider, K: Carry> Parts<R, K> {
         bits: u32,
         clerk: &mut C,
     )
-        requires here { c < length self.old.state.cores }
-        requires port { c < length self.old.state.memory.ports }
+        requires there { IsThere self.old.state c }
         requires oldest { oldest (core_at self.old.state.cores c).queue ≡ Some (PendingStore count word mask bits) }
         requires allowed { IsTrue (allows R.riding (port_at K.carrying self.old.state.memory.ports c)
             (word / BLOCK_WORDS) Storing) }
         requires accepts { AcceptsDoing C.accepts C.accepts_alone C.told_local C.told_touch C.told_logged R.riding
             K.carrying self.old.state c (ordering R.riding K.carrying self.old.state c) clerk.old }
-        ensures state { HasDone R.riding K.carrying self.old.state self.new.state c
-            (ordering R.riding K.carrying self.old.state c) }
-        ensures rooms { self.new.rooms ≡ self.old.rooms }
-        ensures told { ToldDoing C.told_local C.told_touch C.told_logged R.riding K.carrying self.old.state
-            self.new.state c (ordering R.riding K.carrying self.old.state c) clerk.old clerk.new }
+        ensures done { Does C.told_local C.told_touch C.told_logged R.riding K.carrying self.old self.new c
+            (ordering R.riding K.carrying self.old.state c) clerk.old clerk.new }
     {
         let before = self.memory.word(c, word);
         let pending = Pending::Store {
@@ -140,16 +130,12 @@ impl<R: Rider, K: Carry> Parts<R, K> {
         value: u32,
         clerk: &mut C,
     )
-        requires here { c < length self.old.state.cores }
-        requires port { c < length self.old.state.memory.ports }
+        requires there { IsThere self.old.state c }
         requires oldest { oldest (core_at self.old.state.cores c).queue ≡ Some (PendingLoad count word value) }
         requires accepts { AcceptsDoing C.accepts C.accepts_alone C.told_local C.told_touch C.told_logged R.riding
             K.carrying self.old.state c (ordering R.riding K.carrying self.old.state c) clerk.old }
-        ensures state { HasDone R.riding K.carrying self.old.state self.new.state c
-            (ordering R.riding K.carrying self.old.state c) }
-        ensures rooms { self.new.rooms ≡ self.old.rooms }
-        ensures told { ToldDoing C.told_local C.told_touch C.told_logged R.riding K.carrying self.old.state
-            self.new.state c (ordering R.riding K.carrying self.old.state c) clerk.old clerk.new }
+        ensures done { Does C.told_local C.told_touch C.told_logged R.riding K.carrying self.old self.new c
+            (ordering R.riding K.carrying self.old.state c) clerk.old clerk.new }
     {
         let at = self.instr(c, count);
         if self.finds(c, word, value) {
@@ -192,16 +178,13 @@ impl<R: Rider, K: Carry> Parts<R, K> {
 
     /// The oldest pending access of core `c` leaves the queue with this access, which its port allows.
     fn drain<C: TsoClerk<R, K>>(&mut self, c: u8, access: Access, clerk: &mut C)
-        requires here { c < length self.old.state.cores }
-        requires port { c < length self.old.state.memory.ports }
+        requires there { IsThere self.old.state c }
         requires allowed { IsTrue (allows R.riding (port_at K.carrying self.old.state.memory.ports c)
             (access.word / BLOCK_WORDS) access.kind) }
         requires accepts { AcceptsDoing C.accepts C.accepts_alone C.told_local C.told_touch C.told_logged R.riding
             K.carrying self.old.state c (Drains access) clerk.old }
-        ensures state { HasDone R.riding K.carrying self.old.state self.new.state c (Drains access) }
-        ensures rooms { self.new.rooms ≡ self.old.rooms }
-        ensures told { ToldDoing C.told_local C.told_touch C.told_logged R.riding K.carrying self.old.state
-            self.new.state c (Drains access) clerk.old clerk.new }
+        ensures done { Does C.told_local C.told_touch C.told_logged R.riding K.carrying self.old self.new c
+            (Drains access) clerk.old clerk.new }
     {
         self.leave(c);
         self.tell_access(c, access, clerk);
@@ -210,14 +193,11 @@ impl<R: Rider, K: Carry> Parts<R, K> {
 
     /// The oldest pending access of core `c`, a load, leaves the queue and is logged with the value that it got.
     fn log<C: TsoClerk<R, K>>(&mut self, c: u8, at: Instr, word: u32, value: u32, clerk: &mut C)
-        requires here { c < length self.old.state.cores }
-        requires port { c < length self.old.state.memory.ports }
+        requires there { IsThere self.old.state c }
         requires accepts { AcceptsDoing C.accepts C.accepts_alone C.told_local C.told_touch C.told_logged R.riding
             K.carrying self.old.state c (Logs at word value) clerk.old }
-        ensures state { HasDone R.riding K.carrying self.old.state self.new.state c (Logs at word value) }
-        ensures rooms { self.new.rooms ≡ self.old.rooms }
-        ensures told { ToldDoing C.told_local C.told_touch C.told_logged R.riding K.carrying self.old.state
-            self.new.state c (Logs at word value) clerk.old clerk.new }
+        ensures done { Does C.told_local C.told_touch C.told_logged R.riding K.carrying self.old self.new c
+            (Logs at word value) clerk.old clerk.new }
     {
         self.leave(c);
         self.tell_logged(c, at, word, value, clerk);
@@ -275,8 +255,7 @@ impl<R: Rider, K: Carry> Parts<R, K> {
     /// The instructions of core `c` behind this count and before its oldest pending access are told: none of them
     /// touches data.
     fn tell_behind<C: TsoClerk<R, K>>(&mut self, c: u8, count: u32, clerk: &mut C)
-        requires here { c < length self.old.state.cores }
-        requires port { c < length self.old.state.memory.ports }
+        requires there { IsThere self.old.state c }
         requires accepts { let t = core_at self.old.state.cores c in
             (found : R) × AcceptsAll C.accepts C.accepts_alone C.told_local C.told_touch C.told_logged K.carrying
             (locals_behind t.core count t.queue) (port_at K.carrying self.old.state.memory.ports c).carry

@@ -10,9 +10,10 @@ ghost use Rattle.tso_invariant.specs.Holds.{is_asking, may_ask, wish_by};
 ghost use Rattle.tso_invariant.specs.Rests.{has_row_for};
 ghost use Rattle.tso_state.specs.declared.moves.Move.{Move};
 ghost use Rattle.tso_state.specs.States.{core_at};
-ghost use Rattle.tso_core.specs.Moving.{AcceptsOf, StepsTo, TellsOf};
+ghost use Rattle.tso_core.specs.Machineries.{IsThere};
+ghost use Rattle.tso_core.specs.Moving.{AcceptsOf, Makes};
 ghost use Rattle.tso_core.specs.Standings.{standing_at};
-ghost use Rattle.tso_core.specs.Workings.{AcceptsDoing, HasDone, ToldDoing, asked_by, granting};
+ghost use Rattle.tso_core.specs.Workings.{AcceptsDoing, Does, asked_by, granting};
 
 use crate::parts::Parts;
 use crate::standing::Standing;
@@ -30,11 +31,10 @@ impl<R: Rider, K: Carry> Parts<R, K> {
         standing: &mut Standing,
         clerk: &mut C,
     )
-        requires here { c < length self.old.state.cores }
-        requires port { c < length self.old.state.memory.ports }
-        requires stands { standing.old ≡ standing_at self.old.state c }
         requires asked { waits (port_at K.carrying self.old.state.memory.ports c).cache
             ≡ is_asking (core_at self.old.state.cores c).asker }
+        requires there { IsThere self.old.state c }
+        requires stands { standing.old ≡ standing_at self.old.state c }
         requires asks { may_ask (core_at self.old.state.cores c).asker
             (need self.old.state.image (core_at self.old.state.cores c).core)
             (core_at self.old.state.cores c).queue ≡ true }
@@ -42,10 +42,8 @@ impl<R: Rider, K: Carry> Parts<R, K> {
         requires room { HasActRoom R.riding K.carrying self.old.state.memory (TakeMessage c) }
         requires accepts { AcceptsOf C.accepts C.accepts_alone C.told_local C.told_touch C.told_logged R.riding
             K.carrying self.old.state (Move.FromHome c) clerk.old }
-        ensures state { StepsTo R.riding K.carrying self.old.state self.new.state (Move.FromHome c) }
-        ensures rooms { self.new.rooms ≡ self.old.rooms }
-        ensures told { TellsOf C.told_local C.told_touch C.told_logged R.riding K.carrying self.old.state
-            self.new.state (Move.FromHome c) clerk.old clerk.new }
+        ensures made { Makes C.told_local C.told_touch C.told_logged R.riding K.carrying self.old self.new
+            (Move.FromHome c) clerk.old clerk.new }
         ensures renewed { standing.new ≡ standing_at self.new.state c }
     {
         let mut waiting = is_asking(self.cores[c as usize].asker);
@@ -68,8 +66,7 @@ impl<R: Rider, K: Carry> Parts<R, K> {
 
     /// The access is made for which core `c` asked, and which the port allows now.
     fn grant<C: TsoClerk<R, K>>(&mut self, c: u8, standing: &mut Standing, clerk: &mut C)
-        requires here { c < length self.old.state.cores }
-        requires port { c < length self.old.state.memory.ports }
+        requires there { IsThere self.old.state c }
         requires stands { standing.old ≡ standing_at self.old.state c }
         requires asks { may_ask (core_at self.old.state.cores c).asker
             (need self.old.state.image (core_at self.old.state.cores c).core)
@@ -79,11 +76,8 @@ impl<R: Rider, K: Carry> Parts<R, K> {
             (port_at K.carrying self.old.state.memory.ports c)) }
         requires accepts { AcceptsDoing C.accepts C.accepts_alone C.told_local C.told_touch C.told_logged R.riding
             K.carrying self.old.state c (granting R.riding K.carrying self.old.state c) clerk.old }
-        ensures state { HasDone R.riding K.carrying self.old.state self.new.state c
-            (granting R.riding K.carrying self.old.state c) }
-        ensures rooms { self.new.rooms ≡ self.old.rooms }
-        ensures told { ToldDoing C.told_local C.told_touch C.told_logged R.riding K.carrying self.old.state
-            self.new.state c (granting R.riding K.carrying self.old.state c) clerk.old clerk.new }
+        ensures done { Does C.told_local C.told_touch C.told_logged R.riding K.carrying self.old self.new c
+            (granting R.riding K.carrying self.old.state c) clerk.old clerk.new }
         ensures renewed { standing.new ≡ standing_at self.new.state c }
     {
         match self.cores[c as usize].asker {

@@ -60,6 +60,7 @@ impl<K: Carry> BufferedMachine<Times, K> {
         ensures alike { (h : List NotedAccess) → StandsAfter times_parts K.carrying h self.old.state
             → MeetsAlike times_parts K.carrying self.old.state result }
     {
+        // What always holds of a machine says this.
         let _ = &self.parts;
         self.step(choice, clerk)
     }

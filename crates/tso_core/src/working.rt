@@ -13,9 +13,10 @@ ghost use Rattle.tso_state.specs.declared.moves.Move.{Move};
 ghost use Rattle.tso_state.specs.Events.{pending_store};
 ghost use Rattle.tso_state.specs.States.{core_at};
 ghost use Rattle.tso_state.specs.Steps.{can_execute, has_room};
-ghost use Rattle.tso_core.specs.Moving.{AcceptsOf, StepsTo, TellsOf};
+ghost use Rattle.tso_core.specs.Machineries.{IsThere};
+ghost use Rattle.tso_core.specs.Moving.{AcceptsOf, Makes};
 ghost use Rattle.tso_core.specs.Standings.{standing_at};
-ghost use Rattle.tso_core.specs.Workings.{AcceptsDoing, HasAsked, HasDone, MayAsk, ToldDoing, buffering};
+ghost use Rattle.tso_core.specs.Workings.{AcceptsDoing, Does, HasAsked, HasDone, MayAsk, buffering};
 ghost use Rattle.tso_core.specs.Workings.{executing, executing_local, loading, performing};
 
 use crate::marking::allows;
@@ -32,18 +33,15 @@ impl<R: Rider, K: Carry> Parts<R, K> {
     /// Core `c` moves: its next instruction executes, or the block is asked for that this needs. What was kept of
     /// the core is renewed.
     pub(crate) fn work<C: TsoClerk<R, K>>(&mut self, c: u8, standing: &mut Standing, clerk: &mut C)
-        requires here { c < length self.old.state.cores }
-        requires port { c < length self.old.state.memory.ports }
+        requires there { IsThere self.old.state c }
         requires stands { standing.old ≡ standing_at self.old.state c }
         requires able { IsTrue (can_execute self.old.state.image R.riding (core_at self.old.state.cores c)
             (port_at K.carrying self.old.state.memory.ports c)) }
         requires room { MayAsk K.carrying self.old.state c }
         requires accepts { AcceptsOf C.accepts C.accepts_alone C.told_local C.told_touch C.told_logged R.riding
             K.carrying self.old.state (Move.Core c) clerk.old }
-        ensures state { StepsTo R.riding K.carrying self.old.state self.new.state (Move.Core c) }
-        ensures rooms { self.new.rooms ≡ self.old.rooms }
-        ensures told { TellsOf C.told_local C.told_touch C.told_logged R.riding K.carrying self.old.state
-            self.new.state (Move.Core c) clerk.old clerk.new }
+        ensures made { Makes C.told_local C.told_touch C.told_logged R.riding K.carrying self.old self.new
+            (Move.Core c) clerk.old clerk.new }
         ensures renewed { standing.new ≡ standing_at self.new.state c }
     {
         match standing.need {
@@ -71,8 +69,7 @@ impl<R: Rider, K: Carry> Parts<R, K> {
     /// of its pending accesses.
     #[inline(always)]
     pub(crate) fn ask(&mut self, c: u8, word: u32, kind: Kind, asker: Asker)
-        requires here { c < length self.old.state.cores }
-        requires port { c < length self.old.state.memory.ports }
+        requires there { IsThere self.old.state c }
         requires still { waits (port_at K.carrying self.old.state.memory.ports c).cache ≡ false }
         requires needed { allows R.riding (port_at K.carrying self.old.state.memory.ports c) (word / BLOCK_WORDS) kind
             ≡ false }
@@ -87,17 +84,13 @@ impl<R: Rider, K: Carry> Parts<R, K> {
     /// An instruction executes that touches no data. It is told where no access is pending.
     #[tactic(auto, using(rv_core::proofs::LawLemmas::room_law))]
     fn execute_local<C: TsoClerk<R, K>>(&mut self, c: u8, standing: &mut Standing, clerk: &mut C)
-        requires here { c < length self.old.state.cores }
-        requires port { c < length self.old.state.memory.ports }
+        requires there { IsThere self.old.state c }
         requires stands { standing.old ≡ standing_at self.old.state c }
         requires more { is_done (need self.old.state.image (core_at self.old.state.cores c).core) ≡ false }
         requires accepts { AcceptsDoing C.accepts C.accepts_alone C.told_local C.told_touch C.told_logged R.riding
             K.carrying self.old.state c (executing_local self.old.state c) clerk.old }
-        ensures state { HasDone R.riding K.carrying self.old.state self.new.state c
-            (executing_local self.old.state c) }
-        ensures rooms { self.new.rooms ≡ self.old.rooms }
-        ensures told { ToldDoing C.told_local C.told_touch C.told_logged R.riding K.carrying self.old.state
-            self.new.state c (executing_local self.old.state c) clerk.old clerk.new }
+        ensures done { Does C.told_local C.told_touch C.told_logged R.riding K.carrying self.old self.new c
+            (executing_local self.old.state c) clerk.old clerk.new }
         ensures renewed { standing.new ≡ standing_at self.new.state c }
     {
         let station = &mut self.cores[c as usize];
@@ -160,8 +153,7 @@ impl<R: Rider, K: Carry> Parts<R, K> {
     /// A load executes that its port allows: with pending accesses it joins them, with the value that it sees.
     #[tactic(auto, using(rv_core::proofs::LawLemmas::room_law))]
     fn load<C: TsoClerk<R, K>>(&mut self, c: u8, word: u32, standing: &mut Standing, clerk: &mut C)
-        requires here { c < length self.old.state.cores }
-        requires port { c < length self.old.state.memory.ports }
+        requires there { IsThere self.old.state c }
         requires stands { standing.old ≡ standing_at self.old.state c }
         requires more { is_done (need self.old.state.image (core_at self.old.state.cores c).core) ≡ false }
         requires room { IsTrue (has_room (core_at self.old.state.cores c).queue) }
@@ -169,11 +161,8 @@ impl<R: Rider, K: Carry> Parts<R, K> {
             (word / BLOCK_WORDS) Loading) }
         requires accepts { AcceptsDoing C.accepts C.accepts_alone C.told_local C.told_touch C.told_logged R.riding
             K.carrying self.old.state c (loading R.riding K.carrying self.old.state c word) clerk.old }
-        ensures state { HasDone R.riding K.carrying self.old.state self.new.state c
-            (loading R.riding K.carrying self.old.state c word) }
-        ensures rooms { self.new.rooms ≡ self.old.rooms }
-        ensures told { ToldDoing C.told_local C.told_touch C.told_logged R.riding K.carrying self.old.state
-            self.new.state c (loading R.riding K.carrying self.old.state c word) clerk.old clerk.new }
+        ensures done { Does C.told_local C.told_touch C.told_logged R.riding K.carrying self.old self.new c
+            (loading R.riding K.carrying self.old.state c word) clerk.old clerk.new }
         ensures renewed { standing.new ≡ standing_at self.new.state c }
     {
         let station = &self.cores[c as usize];
@@ -197,19 +186,15 @@ impl<R: Rider, K: Carry> Parts<R, K> {
         standing: &mut Standing,
         clerk: &mut C,
     )
-        requires here { c < length self.old.state.cores }
-        requires port { c < length self.old.state.memory.ports }
+        requires there { IsThere self.old.state c }
         requires stands { standing.old ≡ standing_at self.old.state c }
         requires more { is_done (need self.old.state.image (core_at self.old.state.cores c).core) ≡ false }
         requires allowed { IsTrue (allows R.riding (port_at K.carrying self.old.state.memory.ports c)
             (word / BLOCK_WORDS) kind) }
         requires accepts { AcceptsDoing C.accepts C.accepts_alone C.told_local C.told_touch C.told_logged R.riding
             K.carrying self.old.state c (performing R.riding K.carrying self.old.state c word kind) clerk.old }
-        ensures state { HasDone R.riding K.carrying self.old.state self.new.state c
-            (performing R.riding K.carrying self.old.state c word kind) }
-        ensures rooms { self.new.rooms ≡ self.old.rooms }
-        ensures told { ToldDoing C.told_local C.told_touch C.told_logged R.riding K.carrying self.old.state
-            self.new.state c (performing R.riding K.carrying self.old.state c word kind) clerk.old clerk.new }
+        ensures done { Does C.told_local C.told_touch C.told_logged R.riding K.carrying self.old self.new c
+            (performing R.riding K.carrying self.old.state c word kind) clerk.old clerk.new }
         ensures renewed { standing.new ≡ standing_at self.new.state c }
     {
         let before = self.memory.word(c, word);
@@ -237,21 +222,17 @@ impl<R: Rider, K: Carry> Parts<R, K> {
         standing: &mut Standing,
         clerk: &mut C,
     )
-        requires here { c < length self.old.state.cores }
-        requires port { c < length self.old.state.memory.ports }
+        requires there { IsThere self.old.state c }
         requires stands { standing.old ≡ standing_at self.old.state c }
-        requires asks { IsTrue (next_may_ask (need self.old.state.image (core_at self.old.state.cores c).core)
-            (core_at self.old.state.cores c).queue) }
         requires ready { IsTrue (may_access
             (need_access (need self.old.state.image (core_at self.old.state.cores c).core)) R.riding
             (port_at K.carrying self.old.state.memory.ports c)) }
+        requires asks { IsTrue (next_may_ask (need self.old.state.image (core_at self.old.state.cores c).core)
+            (core_at self.old.state.cores c).queue) }
         requires accepts { AcceptsDoing C.accepts C.accepts_alone C.told_local C.told_touch C.told_logged R.riding
             K.carrying self.old.state c (executing R.riding K.carrying self.old.state c) clerk.old }
-        ensures state { HasDone R.riding K.carrying self.old.state self.new.state c
-            (executing R.riding K.carrying self.old.state c) }
-        ensures rooms { self.new.rooms ≡ self.old.rooms }
-        ensures told { ToldDoing C.told_local C.told_touch C.told_logged R.riding K.carrying self.old.state
-            self.new.state c (executing R.riding K.carrying self.old.state c) clerk.old clerk.new }
+        ensures done { Does C.told_local C.told_touch C.told_logged R.riding K.carrying self.old self.new c
+            (executing R.riding K.carrying self.old.state c) clerk.old clerk.new }
         ensures renewed { standing.new ≡ standing_at self.new.state c }
     {
         match standing.need {

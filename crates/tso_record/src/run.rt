@@ -126,6 +126,7 @@ pub fn tso_record(
 fn are_bytes(bytes: &[u8])
     ensures { (i : ℕ) → slice_index bytes.now i < 256 }
 {
+    // The type of a byte says so.
     let _ = bytes;
 }
 

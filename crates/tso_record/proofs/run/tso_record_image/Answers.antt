@@ -1,3 +1,5 @@
+-- The run's clerk ends with the log and the values of what it was told, and the laws of recordings say that these are
+-- the run's.
 use Rattle.std.proofs.Common.{◌<◌, ◌*◌, ◌≤◌, ℕ, List, ap, sym, subst, ◌∙◌, arith, length}
 use Rattle.std.specs.Prelude.{slice_index}
 use Rattle.conflict_edge.specs.Least.{IsLeast}

@@ -1,5 +1,6 @@
+-- A marked move shows a core that isn't done; without a mark each core's standing decides. What follows from being done
+-- follows from what a machine always holds.
 use Rattle.std.proofs.Common.{◌≡◌, ◌∙◌, sym, ap, false, length, subst}
-use Rattle.rtr_types.proofs.Truths.{true_is}
 use Rattle.machine_bound.proofs.Ends.{done_earned}
 use Rattle.machine_data.specs.Coherent.{Coherent}
 use Rattle.machine_data.proofs.Final.{final_current}
@@ -8,7 +9,7 @@ use Rattle.machine_invariant.proofs.Ended.{links_left}
 use Rattle.msi_state.specs.FinalMemory.{final_words}
 use Rattle.msi_state.specs.States.{Machinery, State, all_done}
 use Rattle.msi_machine.specs.Marks.{marked}
-use Rattle.msi_machine.proofs.Ended.{marked_goes_on, some_there}
+use Rattle.msi_machine.proofs.Ended.{ended, marked_goes_on, some_there}
 use Rattle.msi_machine.proofs.Standings.{done_stands}
 use Rattle.msi_machine.proofs.machine.Machine.done.Goals as goal
 
@@ -37,30 +38,21 @@ returns-clause-plain g c = returns-clause-done g c ∙ plain_done c.args.self.no
 
 pub returns-clause-links : goal.returns-clause-links
 returns-clause-links g c = λ e.
-    let s : State g.row.R.Denot g.row.K.Denot = c.self.inside.parts.state in
-    let done : c.are_done.result ≡ all_done s =
-    c.are_done.ensures ∙ done_stands s c.self.inside.standings.items c.as_slice.result.now c.as_slice.ensures.value
-    c.self.invariant.stands in
-    rw (← c.self.view_is) (links_left g.R.Rider.riding g.K.Carry.carrying s c.self.invariant.holds (sym done
-    ∙ true_is c.are_done.result e))
+    rw (← c.self.view_is) (links_left g.R.Rider.riding g.K.Carry.carrying c.self.inside.parts.state
+    c.self.invariant.holds (ended c.self.inside.parts c.args.self.now c.are_done.result c.self.view_is
+    (returns-clause-done g c) e))
 
 pub returns-clause-paid : goal.returns-clause-paid
 returns-clause-paid g c = λ e.
     let s : State g.row.R.Denot g.row.K.Denot = c.self.inside.parts.state in
-    let done : c.are_done.result ≡ all_done s =
-    c.are_done.ensures ∙ done_stands s c.self.inside.standings.items c.as_slice.result.now c.as_slice.ensures.value
-    c.self.invariant.stands in
     rw (← c.self.view_is) (done_earned s.image g.R.Rider.riding (length s.cores) s.cores s.memory.ports
-    c.self.invariant.holds.ports_there
-    (sym done ∙ true_is c.are_done.result e))
+    c.self.invariant.holds.ports_there (ended c.self.inside.parts c.args.self.now c.are_done.result c.self.view_is
+    (returns-clause-done g c) e))
 
 pub returns-clause-last : goal.returns-clause-last
 returns-clause-last g c = λ memory e k b.
     let s : State g.row.R.Denot g.row.K.Denot = c.self.inside.parts.state in
-    let done : c.are_done.result ≡ all_done s =
-    c.are_done.ensures ∙ done_stands s c.self.inside.standings.items c.as_slice.result.now c.as_slice.ensures.value
-    c.self.invariant.stands in
-    let same : c.self.inside.parts.state ≡ c.args.self.now.state =
+    let same : s ≡ c.args.self.now.state =
     ap (λ (m : Machinery g.row.R.Denot g.row.K.Denot). m.state) c.self.view_is in
     let old : Coherent g.R.Rider.riding g.K.Carry.carrying s memory =
     subst (λ (x : State g.row.R.Denot g.row.K.Denot). Coherent g.R.Rider.riding g.K.Carry.carrying x memory) (sym same)
@@ -68,5 +60,5 @@ returns-clause-last g c = λ memory e k b.
     subst (λ (x : State g.row.R.Denot g.row.K.Denot). final_words g.R.Rider.riding g.K.Carry.carrying x b ≡ memory b)
     same
     (final_current g.R.Rider.riding g.K.Carry.carrying s memory c.self.invariant.holds
-    (links_left g.R.Rider.riding g.K.Carry.carrying s c.self.invariant.holds (sym done ∙ true_is c.are_done.result e))
-    old b)
+    (links_left g.R.Rider.riding g.K.Carry.carrying s c.self.invariant.holds (ended c.self.inside.parts c.args.self.now
+    c.are_done.result c.self.view_is (returns-clause-done g c) e)) old b)

@@ -1,3 +1,5 @@
+-- At the start no move is marked but the cores' own, and all that a machine holds is true of the opening state by the
+-- laws of the start.
 use Rattle.std.proofs.Common.{◌≡◌, ◌∙◌, ap, sym, subst, false, length, ℕ, arith, List}
 use Rattle.std.specs.Prelude.{map}
 use Rattle.std.proofs.lemmas.List.{length-map}

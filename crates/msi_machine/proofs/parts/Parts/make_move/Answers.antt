@@ -30,9 +30,9 @@ returns-in-Core-clause-noted g c =
           c.args.taken c.in-Core.c c.args.standings.now c.move_core.new.standing c.requires.holds c.requires.enabled
           (ap core_of c.in-Core.is) c.requires.stands
           (λ port. core_moves g.R.Rider.riding g.K.Carry.carrying _ c.args.self.now.state c.move_core.new.self.state
-          c.in-Core.c port c.move_core.ensures.state) c.move_core.ensures.renewed;
-      marked = c.move_core.ensures.marked;
-      unmarked = c.move_core.ensures.unmarked;
+          c.in-Core.c port c.move_core.ensures.made.state) c.move_core.ensures.renewed;
+      marked = c.move_core.ensures.open.others;
+      unmarked = c.move_core.ensures.open.unmarked;
     }
 
 pub returns-in-FromHome-clause-noted : goal.returns-in-FromHome-clause-noted
@@ -44,12 +44,12 @@ returns-in-FromHome-clause-noted g c =
       stands = kept_moved g.R.Rider.riding g.K.Carry.carrying s t c.args.taken core c.args.standings.now
           c.take_message.new.standing c.requires.holds c.requires.enabled (ap core_of c.in-FromHome.is)
           c.requires.stands (λ port. message_moves g.R.Rider.riding g.K.Carry.carrying _ s t core port
-          c.take_message.ensures.state) c.take_message.ensures.renewed;
+          c.take_message.ensures.made.state) c.take_message.ensures.renewed;
       marked = all_others g.R.Rider.riding g.K.Carry.carrying t c.take_message.new.marks c.take_message.ensures.marked
           CORES_MAX;
       unmarked = no_asker g.R.Rider.riding g.K.Carry.carrying
           (rider_left g.R.Rider.riding g.K.Carry.carrying s t (FromHome core)) s t (FromHome core)
-          c.take_message.new.marks c.requires.holds c.take_message.ensures.state c.take_message.ensures.marked;
+          c.take_message.new.marks c.requires.holds c.take_message.ensures.made.state c.take_message.ensures.marked;
     }
 
 pub returns-in-Request-clause-noted : goal.returns-in-Request-clause-noted

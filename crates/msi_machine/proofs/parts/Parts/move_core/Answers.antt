@@ -1,76 +1,35 @@
-use Rattle.std.proofs.Common.{◌≡◌, ◌∙◌, ◌<◌, ℕ, ap, false, length, subst, sym}
+-- A core's move changes its own port alone, so the other cores' marks stand; where it asked, its request is the one not
+-- looked at.
+use Rattle.std.proofs.Common.{◌∙◌, ap, subst, sym, ℕ}
 use Rattle.std.specs.Prelude.{not}
 use Rattle.msi_state.specs.declared.moves.Move.TheVariants.{Core}
-use Rattle.msi_state.specs.States.{State}
-use Rattle.msi_state.specs.Steps.{rider_left}
 use Rattle.machine_progress.proofs.Rested.{rooms_there}
-use Rattle.machine_invariant.proofs.Awaits.{core_port, enabled_core}
-use Rattle.rtr_types.specs.CoreSets.{has}
-use Rattle.move_marks.specs.declared.marks.MoveKind.TheVariants.{Own, Request}
-use Rattle.move_marks.specs.Kinds.{set_of}
-use Rattle.msi_machine.proofs.Ended.{asks_first, no_asker}
-use Rattle.msi_machine.proofs.Moves.{core_marks, core_retired_marks}
-use Rattle.msi_machine.proofs.Renewed.{all_others}
+use Rattle.msi_machine.specs.Standings.{AskerOpen}
+use Rattle.msi_machine.proofs.Ended.{core_still}
+use Rattle.msi_machine.proofs.OwnMoves.{asked_open, retired_open}
 use Rattle.msi_machine.proofs.parts.Parts.move_core.Goals as goal
 
-pub work-retired-requires-clause-room : goal.work-retired-requires-clause-room
-work-retired-requires-clause-room g c =
-    rooms_there g.R.Rider.riding g.K.Carry.carrying c.args.self.now.state (Core c.args.c) c.requires.holds
-    c.requires.enabled
+pub work-retired-requires-clause-asks : goal.work-retired-requires-clause-asks
+work-retired-requires-clause-asks g c =
+    record {
+      still = core_still g.R.Rider.riding g.K.Carry.carrying c.args.self.now.state c.args.c c.requires.can.enabled;
+      room = rooms_there g.R.Rider.riding g.K.Carry.carrying c.args.self.now.state (Core c.args.c) c.requires.can.holds
+          c.requires.can.enabled;
+    }
 
-pub returns-then-is_none-clause-marked : goal.returns-then-is_none-clause-marked
-returns-then-is_none-clause-marked g c =
-    let s : State g.row.R.Denot g.row.K.Denot = c.args.self.now.state in
-    let t : State g.row.R.Denot g.row.K.Denot = c.work-retired.new.self.state in
-    let here : c.args.c < length s.cores = enabled_core g.R.Rider.riding g.K.Carry.carrying s (Core c.args.c)
-    c.requires.enabled c.requires.holds in
-    core_marks g.R.Rider.riding g.K.Carry.carrying (rider_left g.R.Rider.riding g.K.Carry.carrying s t (Core c.args.c))
-    s t c.args.marks.now
-    c.set.new.self c.args.c c.work-retired.new.standing c.requires.marked c.work-retired.ensures.state here
-    (core_port g.R.Rider.riding g.K.Carry.carrying s c.args.c c.requires.holds here) c.work-retired.ensures.renewed
+pub returns-then-is_none-clause-open : goal.returns-then-is_none-clause-open
+returns-then-is_none-clause-open g c =
+    asked_open g.R.Rider.riding g.K.Carry.carrying c.args.self.now.state c.work-retired.new.self.state
+    c.args.marks.now c.set.new.self c.args.c c.work-retired.new.standing c.requires.can.holds c.requires.can.enabled
+    c.requires.marked c.work-retired.ensures.made.state c.work-retired.ensures.renewed
     (c.set.ensures.this ∙ c.may_move.ensures) c.set.ensures.others
 
-pub returns-else-is_none-clause-marked : goal.returns-else-is_none-clause-marked
-returns-else-is_none-clause-marked g c =
-    let s : State g.row.R.Denot g.row.K.Denot = c.args.self.now.state in
-    let t : State g.row.R.Denot g.row.K.Denot = c.work-retired.new.self.state in
-    let here : c.args.c < length s.cores = enabled_core g.R.Rider.riding g.K.Carry.carrying s (Core c.args.c)
-    c.requires.enabled c.requires.holds in
-    all_others g.R.Rider.riding g.K.Carry.carrying t (record c.args.marks.now { moves = c.set.new.self })
-    (core_retired_marks g.R.Rider.riding g.K.Carry.carrying
-    (rider_left g.R.Rider.riding g.K.Carry.carrying s t (Core c.args.c)) s t c.args.marks.now
-    c.set.new.self c.args.c c.work-retired.new.standing c.work-retired.result c.work-retired.ensures.retired
-    (c.is_none.ensures ∙ ap not c.if-is_none.false)
-    c.requires.marked c.work-retired.ensures.state here
-    (core_port g.R.Rider.riding g.K.Carry.carrying s c.args.c c.requires.holds here) c.work-retired.ensures.renewed
-    (c.set.ensures.this ∙ c.may_move.ensures) c.set.ensures.others)
-    c.args.asker.now
-
-pub returns-then-is_none-clause-unmarked : goal.returns-then-is_none-clause-unmarked
-returns-then-is_none-clause-unmarked g c =
-    let s : State g.row.R.Denot g.row.K.Denot = c.args.self.now.state in
-    let here : c.args.c < length s.cores = enabled_core g.R.Rider.riding g.K.Carry.carrying s (Core c.args.c)
-    c.requires.enabled c.requires.holds in
-    c.set.ensures.others Request c.args.c (λ (e : Request ≡ Own). cc)
-    ∙ c.requires.marked.ports.requests c.args.c
-    ∙ asks_first g.R.Rider.riding g.K.Carry.carrying s c.args.c c.requires.holds
-    (core_port g.R.Rider.riding g.K.Carry.carrying s c.args.c c.requires.holds here) c.requires.enabled
-
-pub returns-else-is_none-clause-unmarked : goal.returns-else-is_none-clause-unmarked
-returns-else-is_none-clause-unmarked g c =
-    let s : State g.row.R.Denot g.row.K.Denot = c.args.self.now.state in
-    let t : State g.row.R.Denot g.row.K.Denot = c.work-retired.new.self.state in
-    let here : c.args.c < length s.cores = enabled_core g.R.Rider.riding g.K.Carry.carrying s (Core c.args.c)
-    c.requires.enabled c.requires.holds in
-    let rider = rider_left g.R.Rider.riding g.K.Carry.carrying s t (Core c.args.c) in
-    subst (λ (n : ℕ). has (set_of Request c.set.new.self) n ≡ false) (sym c.requires.none)
-    (no_asker g.R.Rider.riding g.K.Carry.carrying rider s t (Core c.args.c)
-    (record c.args.marks.now { moves = c.set.new.self }) c.requires.holds
-    c.work-retired.ensures.state
-    (core_retired_marks g.R.Rider.riding g.K.Carry.carrying
-    (rider_left g.R.Rider.riding g.K.Carry.carrying s t (Core c.args.c)) s t c.args.marks.now
-    c.set.new.self c.args.c c.work-retired.new.standing c.work-retired.result c.work-retired.ensures.retired
-    (c.is_none.ensures ∙ ap not c.if-is_none.false)
-    c.requires.marked c.work-retired.ensures.state here
-    (core_port g.R.Rider.riding g.K.Carry.carrying s c.args.c c.requires.holds here) c.work-retired.ensures.renewed
-    (c.set.ensures.this ∙ c.may_move.ensures) c.set.ensures.others))
+pub returns-else-is_none-clause-open : goal.returns-else-is_none-clause-open
+returns-else-is_none-clause-open g c =
+    subst (λ (n : ℕ). AskerOpen g.R.Rider.riding g.K.Carry.carrying c.work-retired.new.self.state
+    (record c.args.marks.now { moves = c.set.new.self }) n) (sym c.requires.none)
+    (retired_open g.R.Rider.riding g.K.Carry.carrying c.args.self.now.state c.work-retired.new.self.state
+    c.args.marks.now c.set.new.self c.args.c c.work-retired.new.standing c.requires.can.holds c.requires.can.enabled
+    c.requires.marked c.work-retired.ensures.made.state c.work-retired.ensures.renewed
+    (c.set.ensures.this ∙ c.may_move.ensures) c.set.ensures.others c.work-retired.result
+    c.work-retired.ensures.made.retired (c.is_none.ensures ∙ ap not c.if-is_none.false))

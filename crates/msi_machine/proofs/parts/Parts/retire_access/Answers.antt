@@ -15,10 +15,10 @@ pub returns-clause-renewed : goal.returns-clause-renewed
 returns-clause-renewed g c =
     let here : c.args.c < length c.self.inside.cores.items =
     subst (λ (m : Machinery g.row.R.Denot g.row.K.Denot). c.args.c < length m.state.cores) (sym c.self.view_is)
-    c.requires.here in
+    c.requires.there.core in
     let port : c.args.c < length c.self.inside.memory.memory.ports =
     subst (λ (m : Machinery g.row.R.Denot g.row.K.Denot). c.args.c < length m.state.memory.ports) (sym c.self.view_is)
-    c.requires.port in
+    c.requires.there.port in
     let core : c.finish_op-after.new.self ≡ core_at (slice_set c.self.inside.cores.items c.args.c
     c.finish_op-after.new.self) c.args.c =
     sym (get_or-set_same c.self.inside.cores.items c.args.c c.finish_op-after.new.self (starting 0 0) here) in

@@ -1,3 +1,4 @@
+-- The step's event is one retirement more, or none: the laws of times carry what the riders and the clerk hold over it.
 use Rattle.std.proofs.Common.{sym, subst}
 use Rattle.access_times.specs.Times.{times_riding}
 use Rattle.access_times.specs.declared.times.Times.{Times}

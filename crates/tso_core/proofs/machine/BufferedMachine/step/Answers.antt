@@ -1,3 +1,5 @@
+-- The marks are those of the moves that can be made, so the one picked can be; after it the notes fit again, and the
+-- laws of moves give the promises.
 use Rattle.std.proofs.Common.{◌≡◌, ◌∙◌, ap, sym, subst, ◌<◌, ◌%◌, List, length, true, ℕ}
 use Rattle.std.proofs.lemmas.List.{with_items_is}
 use Rattle.std.proofs.lemmas.Nat.{mod_below}
@@ -67,7 +69,7 @@ invariant_of-self g c =
     let roomy = rw (← c.self.view_is) at c.requires.roomy in
     let long : length c.make_move.new.standings ≡ c.self.inside.standings.len =
     standings_long t c.make_move.new.standings c.make_move.ensures.stands
-    ∙ ap (λ (x : State g.row.R.Denot g.row.K.Denot). length x.cores) c.make_move.ensures.state
+    ∙ ap (λ (x : State g.row.R.Denot g.row.K.Denot). length x.cores) c.make_move.ensures.made.state
     ∙ step_cores g.R.Rider.riding g.K.Carry.carrying (rider_left g.R.Rider.riding g.K.Carry.carrying s t
     c.pick-taken.result) s c.pick-taken.result
     ∙ sym (standings_long s c.self.inside.standings.items c.self.invariant.stands)
@@ -75,8 +77,8 @@ invariant_of-self g c =
     ∙ c.as_mut_slice-standings.ensures.len in
     notes_kept g.R.Rider.riding g.K.Carry.carrying c.self.inside.parts c.make_move.new.self c.pick-taken.result _
     c.make_move.new.standings
-    c.make_move.new.marks c.core-self-inside.result roomy c.self.invariant.holds can_be c.make_move.ensures.state
-    c.make_move.ensures.rooms c.make_move.ensures.stands
+    c.make_move.new.marks c.core-self-inside.result roomy c.self.invariant.holds can_be c.make_move.ensures.made.state
+    c.make_move.ensures.made.rooms c.make_move.ensures.stands
     (with_items_is c.self.inside.standings c.make_move.new.standings long) c.make_move.ensures.marked
     c.core-self-inside.ensures
 
@@ -108,15 +110,15 @@ returns-clause-moved g c =
     c.make_move.new.self c.pick-taken.result)
     c.self.view_is
     (record {
-      state = c.make_move.ensures.state;
-      plainly = ap (plain {R = g.row.R.Denot} {K = g.row.K.Denot}) c.make_move.ensures.state
+      state = c.make_move.ensures.made.state;
+      plainly = ap (plain {R = g.row.R.Denot} {K = g.row.K.Denot}) c.make_move.ensures.made.state
           ∙ plain_step g.R.Rider.riding g.K.Carry.carrying rider s c.pick-taken.result;
       does = plain_event g.R.Rider.riding g.K.Carry.carrying s c.pick-taken.result;
       tells = plain_told g.R.Rider.riding g.K.Carry.carrying s c.pick-taken.result;
-      image = ap (λ (x : State g.row.R.Denot g.row.K.Denot). x.image) c.make_move.ensures.state;
-      cores = ap (λ (x : State g.row.R.Denot g.row.K.Denot). length x.cores) c.make_move.ensures.state
+      image = ap (λ (x : State g.row.R.Denot g.row.K.Denot). x.image) c.make_move.ensures.made.state;
+      cores = ap (λ (x : State g.row.R.Denot g.row.K.Denot). length x.cores) c.make_move.ensures.made.state
           ∙ step_cores g.R.Rider.riding g.K.Carry.carrying rider s c.pick-taken.result;
-      rooms = c.make_move.ensures.rooms;
+      rooms = c.make_move.ensures.made.rooms;
     })
 
 pub returns-clause-keeps : goal.returns-clause-keeps
@@ -135,7 +137,7 @@ returns-clause-keeps g c =
     c.make_move.new.self.state
     (event g.R.Rider.riding g.K.Carry.carrying m.state c.pick-taken.result)) c.self.view_is
     (subst (λ (t : State g.row.R.Denot g.row.K.Denot). KeepsPromises g.R.Rider.riding g.K.Carry.carrying s t e)
-    (sym c.make_move.ensures.state)
+    (sym c.make_move.ensures.made.state)
     (record {
       earns = earns g.R.Rider.riding g.K.Carry.carrying s c.pick-taken.result rider can_be c.self.invariant.holds;
       nearer = nearer g.R.Rider.riding g.K.Carry.carrying s c.pick-taken.result rider can_be c.self.invariant.holds

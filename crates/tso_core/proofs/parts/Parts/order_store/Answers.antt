@@ -8,12 +8,12 @@ use Rattle.tso_state.specs.Events.{Drains, Event}
 use Rattle.tso_state.specs.Pending.{left_by}
 use Rattle.tso_state.specs.States.{BufferedCore, State, core_at}
 use Rattle.tso_core.specs.Machineries.{Machinery}
-use Rattle.tso_core.specs.Workings.{HasDone}
+use Rattle.tso_core.specs.Workings.{Does}
 use Rattle.tso_core.proofs.Heads.{store_drains, written}
 use Rattle.tso_core.proofs.parts.Parts.order_store.Goals as goal
 
-pub returns-clause-state : goal.returns-clause-state
-returns-clause-state g c =
+pub returns : goal.returns
+returns g c =
     let s : State g.row.R.Denot g.row.K.Denot = c.args.self.now.state in
     let t : BufferedCore = core_at s.cores c.args.c in
     let p : Port g.row.R.Denot g.row.K.Denot = port_at g.K.Carry.carrying s.memory.ports c.args.c in
@@ -45,6 +45,8 @@ returns-clause-state g c =
       after =
           after i;
     }) in
-    subst (λ (e : Event). HasDone g.R.Rider.riding g.K.Carry.carrying s c.drain.new.self.state c.args.c e)
-    (ap Drains access ∙ sym is)
-    c.drain.ensures.state
+    record {
+      done = subst (λ (e : Event). Does g.C.Clerk.told_local g.C.Clerk.told_touch g.C.TsoClerk.told_logged
+          g.R.Rider.riding g.K.Carry.carrying c.args.self.now c.drain.new.self c.args.c e c.args.clerk.now
+          c.drain.new.clerk) (ap Drains access ∙ sym is) c.drain.ensures.done;
+    }

@@ -1,4 +1,4 @@
-use Rattle.std.proofs.Common.{◌≡◌, ◌∙◌, ap, sym}
+use Rattle.std.proofs.Common.{◌≡◌, ◌∙◌, ap, rules, sym}
 use Rattle.msi_cache.specs.Lines.{waits}
 use Rattle.msi_memory.specs.Acts.{data_next}
 use Rattle.msi_memory.specs.Memories.{Memory, port_at}
@@ -9,8 +9,8 @@ use Rattle.tso_core.proofs.Doing.{message_granted, message_quiet, taken}
 use Rattle.tso_core.proofs.parts.Parts.receive.Goals as goal
 use Rattle.tso_core.proofs.parts.Parts.receive.Goals.{then-take_message, else-take_message}
 
-pub returns-clause-state : goal.returns-clause-state
-returns-clause-state g c =
+pub returns-clause-made : goal.returns-clause-made
+returns-clause-made g c =
     let s : State g.row.R.Denot g.row.K.Denot = c.args.self.now.state in
     let first : State g.row.R.Denot g.row.K.Denot =
     record {
@@ -37,20 +37,25 @@ returns-clause-state g c =
     let still = c.take_message.ensures.waits
     ∙ ap (λ (x : State g.row.R.Denot g.row.K.Denot). waits (port_at g.K.Carry.carrying x.memory.ports c.args.c).cache)
     took in
-    elim c.if-take_message.branch [
-      | then-take_message w ↦
-          message_granted g.R.Rider.riding g.K.Carry.carrying s first w.grant.new.self.state c.keep_asker.new.self.state
-          c.args.c
-          c.take_message.new.waiting c.requires.here c.requires.port (sym w.if-take_message.true
-          ∙ came) still took w.grant.ensures.state
-          (c.keep_asker.ensures.state
-          ∙ ap (λ (m : Machinery g.row.R.Denot g.row.K.Denot). asked_by m.state c.args.c c.take_message.new.waiting)
-          w.self-is)
-      | else-take_message w ↦
-          message_quiet g.R.Rider.riding g.K.Carry.carrying s first c.keep_asker.new.self.state c.args.c
-          c.take_message.new.waiting c.requires.port
-          (sym w.if-take_message.false ∙ came) still took
-          (c.keep_asker.ensures.state
-          ∙ ap (λ (m : Machinery g.row.R.Denot g.row.K.Denot). asked_by m.state c.args.c c.take_message.new.waiting)
-          w.self-is)
-    ]
+    record {
+      state = elim c.if-take_message.branch [
+        | then-take_message w ↦
+            message_granted g.R.Rider.riding g.K.Carry.carrying s first w.grant.new.self.state
+            c.keep_asker.new.self.state
+            c.args.c
+            c.take_message.new.waiting c.requires.there.core c.requires.there.port (sym w.if-take_message.true
+            ∙ came) still took w.grant.ensures.done.state
+            (c.keep_asker.ensures.state
+            ∙ ap (λ (m : Machinery g.row.R.Denot g.row.K.Denot). asked_by m.state c.args.c c.take_message.new.waiting)
+            w.self-is)
+        | else-take_message w ↦
+            message_quiet g.R.Rider.riding g.K.Carry.carrying s first c.keep_asker.new.self.state c.args.c
+            c.take_message.new.waiting c.requires.there.port
+            (sym w.if-take_message.false ∙ came) still took
+            (c.keep_asker.ensures.state
+            ∙ ap (λ (m : Machinery g.row.R.Denot g.row.K.Denot). asked_by m.state c.args.c c.take_message.new.waiting)
+            w.self-is)
+      ];
+      rooms = search rules;
+      told = search rules;
+    }

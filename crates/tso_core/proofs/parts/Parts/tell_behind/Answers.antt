@@ -1,12 +1,13 @@
-use Rattle.std.proofs.Common.{◌≡◌, ◌∙◌, ◌<◌, ◌-◌, ◌+◌, sym, subst, ap, ℕ, List, length, arith}
-use Rattle.std.proofs.lemmas.List.{get_or_read, length-set}
+-- Count by count: what was told so far are the first of the instructions behind the count, each alone, and the state
+-- changes by what rides on the port.
+use Rattle.std.proofs.Common.{◌≡◌, ◌∙◌, ◌<◌, ◌+◌, sym, subst, ap, ℕ, List, length, arith}
+use Rattle.std.proofs.lemmas.List.{length-set}
 use Rattle.msi_memory.specs.Memories.{Memory, port_at}
 use Rattle.tso_clerk.specs.Telling.{TellsAll}
-use Rattle.tso_state.specs.Events.{count_before}
-use Rattle.tso_state.specs.States.{BufferedCore, buffered_start, core_at}
+use Rattle.tso_state.specs.States.{BufferedCore, core_at}
 use Rattle.tso_core.specs.Machineries.{Machinery}
 use Rattle.tso_core.specs.Workings.{HasTold, locals_of}
-use Rattle.tso_core.proofs.Telling.{Behind, instr, one_told, told_many}
+use Rattle.tso_core.proofs.Telling.{Behind, all_told, instr, one_told}
 use Rattle.tso_core.proofs.parts.Parts.tell_behind.Goals as goal
 
 pub loop-last-preserved : goal.loop-last-preserved
@@ -46,39 +47,20 @@ loop-last-preserved g c =
 
 pub returns-clause-state : goal.returns-clause-state
 returns-clause-state g c = λ rider.
-    let t : BufferedCore = core_at c.args.self.now.state.cores c.args.c in
-    let here : c.args.c < length c.self.inside.cores.items =
-    subst (λ (m : Machinery g.row.R.Denot g.row.K.Denot). c.args.c < length m.state.cores) (sym c.self.view_is)
-    c.requires.here in
-    let station : c.index.result.now ≡ t =
-    get_or_read c.self.inside.cores.items c.args.c c.index.result.now here c.index.ensures (buffered_start 0 0)
-    ∙ ap (λ (m : Machinery g.row.R.Denot g.row.K.Denot). core_at m.state.cores c.args.c) c.self.view_is in
-    let until : c.count_before-until.result ≡ count_before t.core t.queue =
-    c.count_before-until.ensures ∙ ap (λ (x : BufferedCore). count_before x.core x.queue) station in
-    let many : c.loop-last.last - c.args.count ≡ count_before t.core t.queue - c.args.count =
-    told_many c.args.count c.loop-last.last c.count_before-until.result c.loop-last-test.false c.loop-last.auto.last-end
-    c.loop-last.invariant.few
-    ∙ ap (λ (n : ℕ). n - c.args.count) until in
     subst (λ (n : ℕ). HasTold g.R.Rider.riding g.K.Carry.carrying c.args.self.now.state c.loop-last.self.state c.args.c
-    rider
-    (locals_of t.core.id c.args.count n)) many (c.loop-last.invariant.behind.state rider)
+    rider (locals_of (core_at c.args.self.now.state.cores c.args.c).core.id c.args.count n))
+    (all_told _ c.args.self.now c.args.c c.args.count c.loop-last.last c.count_before-until.result
+    c.index.result.now c.self.view_is c.requires.there.core c.index.ensures c.count_before-until.ensures
+    c.loop-last-test.false c.loop-last.auto.last-end c.loop-last.invariant.few)
+    (c.loop-last.invariant.behind.state rider)
 
 pub returns-clause-told : goal.returns-clause-told
 returns-clause-told g c = λ found left.
-    let t : BufferedCore = core_at c.args.self.now.state.cores c.args.c in
-    let here : c.args.c < length c.self.inside.cores.items =
-    subst (λ (m : Machinery g.row.R.Denot g.row.K.Denot). c.args.c < length m.state.cores) (sym c.self.view_is)
-    c.requires.here in
-    let station : c.index.result.now ≡ t =
-    get_or_read c.self.inside.cores.items c.args.c c.index.result.now here c.index.ensures (buffered_start 0 0)
-    ∙ ap (λ (m : Machinery g.row.R.Denot g.row.K.Denot). core_at m.state.cores c.args.c) c.self.view_is in
-    let until : c.count_before-until.result ≡ count_before t.core t.queue =
-    c.count_before-until.ensures ∙ ap (λ (x : BufferedCore). count_before x.core x.queue) station in
-    let many : c.loop-last.last - c.args.count ≡ count_before t.core t.queue - c.args.count =
-    told_many c.args.count c.loop-last.last c.count_before-until.result c.loop-last-test.false c.loop-last.auto.last-end
-    c.loop-last.invariant.few
-    ∙ ap (λ (n : ℕ). n - c.args.count) until in
     subst (λ (n : ℕ). TellsAll g.C.Clerk.told_local g.C.Clerk.told_touch g.C.TsoClerk.told_logged g.K.Carry.carrying
-    (locals_of t.core.id c.args.count n) (port_at g.K.Carry.carrying c.args.self.now.state.memory.ports c.args.c).carry
-    c.args.clerk.now found
-    c.loop-last.clerk left) many (c.loop-last.invariant.behind.told found left)
+    (locals_of (core_at c.args.self.now.state.cores c.args.c).core.id c.args.count n)
+    (port_at g.K.Carry.carrying c.args.self.now.state.memory.ports c.args.c).carry c.args.clerk.now found
+    c.loop-last.clerk left)
+    (all_told _ c.args.self.now c.args.c c.args.count c.loop-last.last c.count_before-until.result
+    c.index.result.now c.self.view_is c.requires.there.core c.index.ensures c.count_before-until.ensures
+    c.loop-last-test.false c.loop-last.auto.last-end c.loop-last.invariant.few)
+    (c.loop-last.invariant.behind.told found left)
