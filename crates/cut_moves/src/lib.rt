@@ -11,4 +11,4 @@ mod moves;
 pub use between::way;
 pub use by_rounds::timeline;
 pub use lattice::{intersection, union};
-pub use moves::{earliest, hull, latest, step, step_back};
+pub use moves::{earliest, hull, latest, step, step_back, whole};

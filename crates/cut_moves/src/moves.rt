@@ -57,6 +57,7 @@ pub fn earliest(audited: &Audited, cut: &Cut, core: u8) -> Result<Cut, AllocErro
     ensures least { IsOkAnd result (IsLeastWith audited.now.which audited.now.recording (last_in cut.now core)) }
     ensures stays { IsOkAnd result (λ to. count_in to core ≡ count_in cut.now core) }
 {
+    // A valid recording has no more cores than there may be.
     let _ = audited.recording();
     least_with(audited, core, cut.counts[core as usize])
 }
@@ -118,7 +119,7 @@ fn least_with(audited: &Audited, core: u8, count: u32) -> Result<Cut, AllocError
 }
 
 /// The cut with all instructions of each core.
-pub(crate) fn whole(audited: &Audited) -> Cut
+pub fn whole(audited: &Audited) -> Cut
     ensures { IsWholeCut audited.now.recording result }
 {
     let cores = audited.recording().params.cores;

@@ -219,6 +219,7 @@ impl<'a> Place<'a> {
         match last_stop(alloc, self.audited, timeline, stops, to, &here)? {
             Some(seen) => {
                 self.seek(alloc, &seen.cut)?;
+                // The cut at which it stands by now is the one that was seen.
                 let _ = self.cut();
                 Ok(Some(seen.core))
             }

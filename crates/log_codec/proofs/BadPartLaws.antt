@@ -22,8 +22,8 @@ use Rattle.race_log.specs.Validity.{AreVectors, bound_at}
 use Rattle.log_codec.specs.Versions.{FitsIn}
 use Rattle.log_codec.proofs.FieldLaws.{header_again, header_takes, image_again, image_takes}
 use Rattle.race_log.proofs.InTurn.{places-stand, stand-places}
-use Rattle.log_codec.proofs.Named.{Names, bind-err, guard-names, header-names, image-names, reduced-names}
-use Rattle.log_codec.proofs.Named.{regulated-names, totals-name}
+use Rattle.log_codec.proofs.Named.{Missing, Names, bind-err, guard-names, header-names, image-names, missing_within}
+use Rattle.log_codec.proofs.Named.{reduced-names, regulated-names, totals-name}
 use Rattle.log_codec.proofs.ReducedLaws.{reduced_again, reduced_takes}
 use Rattle.log_codec.proofs.Steps.{bind_ok, ok_is}
 use Rattle.log_codec.proofs.Whole.{after_header, after_image, after_reduced, after_totals, regulated_again}
@@ -249,10 +249,7 @@ name-regulated bytes are (rest, u, none) =
 
 -- where a reading of the front ends
 abbrev Ends : List ℕ → ℕ → Type 0
-Ends bytes p = ((p ≡ HEADER) × NoHeader bytes)
-    ⊎ (((p ≡ IMAGE) × NoImage bytes)
-    ⊎ (((p ≡ TOTALS) × NoTotals bytes)
-    ⊎ (((p ≡ REDUCED) × NoReduced bytes) ⊎ ((p ≡ REGULATED) × NoRegulated bytes))))
+Ends bytes = Missing (NoHeader bytes) (NoImage bytes) (NoTotals bytes) (NoReduced bytes) (NoRegulated bytes) ⊥
 
 ends-after-4 : (bytes rest : List ℕ) (p : ℕ) → (u : UpToReduced bytes rest) →
     after_reduced u.three.two.first.params u.three.two.image u.three.totals (u.reduced, rest) ≡ Err p → Ends bytes p
@@ -264,16 +261,13 @@ ends-after-4 bytes rest p u e =
     )) p e) [
       | inl bad ↦
           let f = u.three.two.first in
-          inr (inr (inr (inr (
-            regulated-names u.three.totals rest p bad,
-            (
-              rest,
-              u,
-              λ regulated after is. never-both p (regulated_at u.three.totals rest) (regulated, after) bad
-                  (regulated-read f.version f.params u.three.before u.three.totals u.before rest regulated after
-                  f.header.limits u.three.third is),
-            ),
-          ))))
+          subst (Ends bytes) (sym (regulated-names u.three.totals rest p bad)) (
+            rest,
+            u,
+            λ regulated after is. never-both p (regulated_at u.three.totals rest) (regulated, after) bad
+                (regulated-read f.version f.params u.three.before u.three.totals u.before rest regulated after
+                f.header.limits u.three.third is),
+          )
       | inr more ↦ absurd (let f = more.2 in cc)
     ]
 
@@ -284,15 +278,12 @@ ends-after-3 bytes rest p are u e =
     (after_reduced u.two.first.params u.two.image u.totals) p e) [
       | inl bad ↦
           let f = u.two.first in
-          inr (inr (inr (inl (
-            reduced-names f.version u.totals rest p bad,
-            (
-              rest,
-              u,
-              λ reduced after is. never-both p (reduced_at f.version u.totals rest) (reduced, after) bad
-                  (reduced-read f.version f.params u.before u.totals rest reduced after f.header.limits u.third is),
-            ),
-          ))))
+          subst (Ends bytes) (sym (reduced-names f.version u.totals rest p bad)) (
+            rest,
+            u,
+            λ reduced after is. never-both p (reduced_at f.version u.totals rest) (reduced, after) bad
+                (reduced-read f.version f.params u.before u.totals rest reduced after f.header.limits u.third is),
+          )
       | inr more ↦ ends-after-4 bytes more.0.1 p
           (record {
             before = rest;
@@ -311,15 +302,12 @@ ends-after-2 bytes rest p are u e =
     (after_totals u.first.version u.first.params u.image) p e) [
       | inl bad ↦
           let f = u.first in
-          inr (inr (inl (
-            totals-name f.params.limit f.params.cores rest p bad,
-            (
-              rest,
-              u,
-              λ totals after is. never-both p (totals_at f.params.limit f.params.cores rest) (totals, after) bad
-                  (totals-read f.version f.params rest totals after f.header.limits is),
-            ),
-          )))
+          subst (Ends bytes) (sym (totals-name f.params.limit f.params.cores rest p bad)) (
+            rest,
+            u,
+            λ totals after is. never-both p (totals_at f.params.limit f.params.cores rest) (totals, after) bad
+                (totals-read f.version f.params rest totals after f.header.limits is),
+          )
       | inr more ↦ ends-after-3 bytes more.0.1 p are
           (record {
             before = rest;
@@ -334,15 +322,11 @@ ends-after-1 : (bytes rest : List ℕ) (p : ℕ) → IsBytes bytes → (u : UpTo
     after_header (u.version, u.params, u.len, rest) ≡ Err p →
     Ends bytes p
 ends-after-1 bytes rest p are u e = elim (bind-err (image_at u.len rest) (after_image u.version u.params) p e) [
-  | inl bad ↦ inr (inl (
-    image-names u.len rest p bad,
-    (
-      rest,
-      u,
-      λ image after is. never-both p (image_at u.len rest) (image, after) bad
-          (image-read u.len rest image after is),
-    ),
-  ))
+  | inl bad ↦ subst (Ends bytes) (sym (image-names u.len rest p bad)) (
+    rest,
+    u,
+    λ image after is. never-both p (image_at u.len rest) (image, after) bad (image-read u.len rest image after is),
+  )
   | inr more ↦ ends-after-2 bytes more.0.1 p are
       (record {
         before = rest;
@@ -356,10 +340,8 @@ ends-after-1 bytes rest p are u e = elim (bind-err (image_at u.len rest) (after_
 front-ends : (bytes : List ℕ) (p : ℕ) → IsBytes bytes → front_at bytes ≡ Err p → Ends bytes p
 unfolding front_at
 front-ends bytes p are e = elim (bind-err (header_at bytes) after_header p e) [
-  | inl bad ↦ inl (
-    header-names bytes p bad,
-    λ v q len rest is. never-both p (header_at bytes) (v, q, len, rest) bad (header-read bytes v q len rest is),
-  )
+  | inl bad ↦ subst (Ends bytes) (sym (header-names bytes p bad))
+      (λ v q len rest is. never-both p (header_at bytes) (v, q, len, rest) bad (header-read bytes v q len rest is))
   | inr more ↦
       let h = more.0 in
       let u : UpToHeader bytes h.3 =
@@ -369,55 +351,20 @@ front-ends bytes p are e = elim (bind-err (header_at bytes) after_header p e) [
 
 front_names : (bytes : List ℕ) → IsBytes bytes → FrontNames bytes
 front_names bytes are = record {
-  header = (λ e. first (front-ends bytes HEADER are e), name-header bytes are);
-  image = (λ e. second (front-ends bytes IMAGE are e), name-image bytes are);
-  totals = (λ e. third (front-ends bytes TOTALS are e), name-totals bytes are);
-  reduced = (λ e. fourth (front-ends bytes REDUCED are e), name-reduced bytes are);
-  regulated = (λ e. fifth (front-ends bytes REGULATED are e), name-regulated bytes are);
+  header = (λ e. front-ends bytes HEADER are e, name-header bytes are);
+  image = (λ e. front-ends bytes IMAGE are e, name-image bytes are);
+  totals = (λ e. front-ends bytes TOTALS are e, name-totals bytes are);
+  reduced = (λ e. front-ends bytes REDUCED are e, name-reduced bytes are);
+  regulated = (λ e. front-ends bytes REGULATED are e, name-regulated bytes are);
   no_other = λ part e. within part (front-ends bytes part are e);
 }
   where
-    first : Ends bytes HEADER → NoHeader bytes
-    first (inl x) = x.1
-    first (inr (inl x)) = absurd (let is = x.0 in omega arith)
-    first (inr (inr (inl x))) = absurd (let is = x.0 in omega arith)
-    first (inr (inr (inr (inl x)))) = absurd (let is = x.0 in omega arith)
-    first (inr (inr (inr (inr x)))) = absurd (let is = x.0 in omega arith)
-
-    second : Ends bytes IMAGE → NoImage bytes
-    second (inl x) = absurd (let is = x.0 in omega arith)
-    second (inr (inl x)) = x.1
-    second (inr (inr (inl x))) = absurd (let is = x.0 in omega arith)
-    second (inr (inr (inr (inl x)))) = absurd (let is = x.0 in omega arith)
-    second (inr (inr (inr (inr x)))) = absurd (let is = x.0 in omega arith)
-
-    third : Ends bytes TOTALS → NoTotals bytes
-    third (inl x) = absurd (let is = x.0 in omega arith)
-    third (inr (inl x)) = absurd (let is = x.0 in omega arith)
-    third (inr (inr (inl x))) = x.1
-    third (inr (inr (inr (inl x)))) = absurd (let is = x.0 in omega arith)
-    third (inr (inr (inr (inr x)))) = absurd (let is = x.0 in omega arith)
-
-    fourth : Ends bytes REDUCED → NoReduced bytes
-    fourth (inl x) = absurd (let is = x.0 in omega arith)
-    fourth (inr (inl x)) = absurd (let is = x.0 in omega arith)
-    fourth (inr (inr (inl x))) = absurd (let is = x.0 in omega arith)
-    fourth (inr (inr (inr (inl x)))) = x.1
-    fourth (inr (inr (inr (inr x)))) = absurd (let is = x.0 in omega arith)
-
-    fifth : Ends bytes REGULATED → NoRegulated bytes
-    fifth (inl x) = absurd (let is = x.0 in omega arith)
-    fifth (inr (inl x)) = absurd (let is = x.0 in omega arith)
-    fifth (inr (inr (inl x))) = absurd (let is = x.0 in omega arith)
-    fifth (inr (inr (inr (inl x)))) = absurd (let is = x.0 in omega arith)
-    fifth (inr (inr (inr (inr x)))) = x.1
-
-    within : (part : ℕ) → Ends bytes part → (HEADER ≤ part) × (part ≤ REGULATED)
-    within part (inl x) = let is = x.0 in (omega arith, omega arith)
-    within part (inr (inl x)) = let is = x.0 in (omega arith, omega arith)
-    within part (inr (inr (inl x))) = let is = x.0 in (omega arith, omega arith)
-    within part (inr (inr (inr (inl x)))) = let is = x.0 in (omega arith, omega arith)
-    within part (inr (inr (inr (inr x)))) = let is = x.0 in (omega arith, omega arith)
+    within : (part : ℕ) → Ends bytes part → (1 ≤ part) × (part ≤ 5)
+    within part ended =
+        let six : part ≡ 6 → ⊥ = λ is. subst (Ends bytes) is ended in
+        let range = missing_within (NoHeader bytes) (NoImage bytes) (NoTotals bytes) (NoReduced bytes)
+        (NoRegulated bytes) ⊥ part ended in
+        (range.0, omega (arith, range.1, six))
 
 -- ---- the end
 

@@ -70,6 +70,39 @@ is_done {S} {X} item next front count i s bytes total le so_far =
     rw k (ap (λ (ns : List X). Ok (ns, bytes)) (append-nil front)) in
     sym so_far ∙ one
 
+-- of so many items that are read in turn from these bytes, the front is read, and the others are read from the rest on
+pub record HasRead (S X : Type 0) (item : S → List ℕ → Result (X × List ℕ) ℕ) (next : S → X → S) (count : ℕ) (from : S)
+    (bytes : List ℕ) (i : ℕ) (s : S) (front : List X) (rest : List ℕ) : Type 0 where
+  pub others : with_front front (read_in_turn item next (count - i) s rest) ≡ read_in_turn item next count from bytes
+
+pub reads_none : {S X : Type 0} (item : S → List ℕ → Result (X × List ℕ) ℕ) (next : S → X → S) (count : ℕ) (from : S)
+    (bytes : List ℕ) → HasRead S X item next count from bytes 0 from [] bytes
+reads_none item next count from bytes = record { others = begins item next count from bytes }
+
+pub reads_one : {S X : Type 0} {item : S → List ℕ → Result (X × List ℕ) ℕ} {next : S → X → S} {count : ℕ} {from : S}
+    {bytes : List ℕ} {i : ℕ} {s : S} {front : List X} {rest : List ℕ} {x : X} {after : List ℕ}
+    → HasRead S X item next count from bytes i s front rest → i < count → item s rest ≡ Ok (x, after)
+    → HasRead S X item next count from bytes (i + 1) (next s x) (front ++ x ∷ []) after
+reads_one {S} {X} {item} {next} {count} {from} {bytes} {i} {s} {front} {rest} {x} {after} read lt one = record {
+  others = goes_on item next front count i s rest x after (read_in_turn item next count from bytes) lt one read.others;
+}
+
+pub reads_no_more : {S X : Type 0} {item : S → List ℕ → Result (X × List ℕ) ℕ} {next : S → X → S} {count : ℕ}
+    {from : S} {bytes : List ℕ} {i : ℕ} {s : S} {front : List X} {rest : List ℕ} (e : CodecFault)
+    → HasRead S X item next count from bytes i s front rest → i < count → Fails e (item s rest)
+    → Fails e (read_in_turn item next count from bytes)
+reads_no_more {S} {X} {item} {next} {count} {from} {bytes} {i} {s} {front} {rest} e read lt fails =
+    ends item next e front count i s rest (read_in_turn item next count from bytes) lt fails read.others
+
+pub reads_all : {S X : Type 0} {item : S → List ℕ → Result (X × List ℕ) ℕ} {next : S → X → S} {count : ℕ} {from : S}
+    {bytes : List ℕ} {i : ℕ} {s : S} {front : List X} {rest : List ℕ}
+    → HasRead S X item next count from bytes i s front rest → count ≤ i
+    → read_in_turn item next count from bytes ≡ Ok (front, rest)
+reads_all {S} {X} {item} {next} {count} {from} {bytes} {i} {s} {front} {rest} read le =
+    is_done item next front count i s rest (read_in_turn item next count from bytes) le read.others
+
+pub ruleset reading = (reads_none, reads_one, reads_no_more, reads_all)
+
 -- ---- a loop that writes
 
 pub puts_on : {S X : Type 0} (text : S → X → List ℕ) (next : S → X → S) (out new whole : List ℕ) (s : S) (xs : List X)

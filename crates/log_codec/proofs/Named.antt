@@ -1,5 +1,6 @@
 -- Each part's reader names that part alone.
 use Rattle.std.proofs.Common.{◌≡◌, ℕ, zero, suc, ◌+◌, inl, inr, ◌⊎◌, Bool, true, false, cond, ◌&&◌, nat_lt, nat_le, ◌*◌}
+use Rattle.std.proofs.Common.{◌≤◌, arith}
 use Rattle.std.proofs.Common.{List, [], ◌∷◌, length, take, drop}
 use Rattle.std.proofs.Common.{Result, Ok, Err, refl, ap}
 use Rattle.std.specs.List.{starts_with}
@@ -38,6 +39,29 @@ bind-names {A} {B} k (Err q) f one two p e = let same : q ≡ p = cc in one p (a
 pub guard-names : {A : Type 0} (k : ℕ) (b : Bool) (x : A) → Names k (cond b (Ok x) (Err k))
 guard-names k true x p e = absurd cc
 guard-names k false x p e = cc
+
+-- of six parts, numbered from 1, the one with this number is missing: what is so then is said for each
+abbrev pub Missing : (header image totals reduced last end : Type 0) → (part : ℕ) → Type 0
+Missing header image totals reduced last end zero = ⊥
+Missing header image totals reduced last end (suc zero) = header
+Missing header image totals reduced last end (suc (suc zero)) = image
+Missing header image totals reduced last end (suc (suc (suc zero))) = totals
+Missing header image totals reduced last end (suc (suc (suc (suc zero)))) = reduced
+Missing header image totals reduced last end (suc (suc (suc (suc (suc zero))))) = last
+Missing header image totals reduced last end (suc (suc (suc (suc (suc (suc zero)))))) = end
+Missing header image totals reduced last end (suc (suc (suc (suc (suc (suc (suc more))))))) = ⊥
+
+pub missing_within : (header image totals reduced last end : Type 0) (part : ℕ)
+    → Missing header image totals reduced last end part → (1 ≤ part) × (part ≤ 6)
+missing_within header image totals reduced last end zero it = absurd it
+missing_within header image totals reduced last end (suc zero) it = (omega arith, omega arith)
+missing_within header image totals reduced last end (suc (suc zero)) it = (omega arith, omega arith)
+missing_within header image totals reduced last end (suc (suc (suc zero))) it = (omega arith, omega arith)
+missing_within header image totals reduced last end (suc (suc (suc (suc zero)))) it = (omega arith, omega arith)
+missing_within header image totals reduced last end (suc (suc (suc (suc (suc zero))))) it = (omega arith, omega arith)
+missing_within header image totals reduced last end (suc (suc (suc (suc (suc (suc zero)))))) it =
+    (omega arith, omega arith)
+missing_within header image totals reduced last end (suc (suc (suc (suc (suc (suc (suc more))))))) it = absurd it
 
 -- the step that failed, or that went on
 pub bind-err : {A B : Type 0} (r : Result A ℕ) (f : A → Result B ℕ) (p : ℕ) → (r >>= f) ≡ Err p →

@@ -133,6 +133,12 @@ with_into cores lists target edges =
     ++ (if target_at cores place == target then from_source (source_at cores place) edges else []))
     (range_with_len 0 (pair_count cores))
 
+-- the target is one of these cores, of which there are no more than there may be, and each of their pairs has its list
+pub record TakesInto (totals : List ℕ) (core : ℕ) (found : List (List (ℕ × ℕ))) : Type 0 where
+  pub few : length totals ≤ CORES_MAX
+  pub target : core < length totals
+  pub lists : length found ≡ pair_count (length totals)
+
 -- the edges that are left of each core's, from these places on
 abbrev pub left : (cores : ℕ) (reduced : List (List (ℕ × ℕ))) (target : ℕ) (next : List ℕ) → ℕ → List (ℕ × ℕ)
 left cores reduced target next source = drop (slice_index next source) (edges_out_of cores reduced target source)

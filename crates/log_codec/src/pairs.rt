@@ -40,6 +40,7 @@ fn edge(most: (u32, u32), last: (u32, u32), bytes: &[u8]) -> Result<((u32, u32),
 }
 
 /// As many edges as the count says.
+#[tactic(auto, using(crate::proofs::InTurn::reading))]
 fn edges_from(
     alloc: Global,
     most: (u32, u32),
@@ -74,6 +75,7 @@ fn edges(
 }
 
 /// The edges of all pairs.
+#[tactic(auto, using(crate::proofs::InTurn::reading))]
 pub fn by_pairs<'a>(
     alloc: Global,
     totals: &[u32],

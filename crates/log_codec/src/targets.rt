@@ -1,10 +1,10 @@
 //! Reading the edges of the reduced log target by target.
 ghost use Rattle.std.specs.Prelude.{◌≡◌, ℕ, ◌+◌, ◌<◌, ◌≤◌, List, None, Some, [], length, nat_le, if◌then◌else◌};
 ghost use Rattle.std.specs.Prelude.{replicate, IfOk, IfSome};
-ghost use Rattle.rtr_types.specs.Pairs.{IsPair, pair_count};
+ghost use Rattle.rtr_types.specs.Pairs.{IsPair};
 ghost use Rattle.log_codec.specs.Faults.{Gives};
-ghost use Rattle.log_codec.specs.Incoming.{Keeps, incoming, incoming_stands, last_source, last_target, remember};
-ghost use Rattle.log_codec.specs.Incoming.{target_count};
+ghost use Rattle.log_codec.specs.Incoming.{Keeps, TakesInto, incoming, incoming_stands, last_source, last_target};
+ghost use Rattle.log_codec.specs.Incoming.{remember, target_count};
 ghost use Rattle.log_codec.specs.Reading.{incoming_at, into_at, put_into_lists, targets_at};
 ghost use Rattle.log_codec.specs.Turns.{read_in_turn};
 ghost use Rattle.log_codec.specs.declared.incoming.Incoming.{Incoming};
@@ -92,9 +92,7 @@ fn edges_from<'a>(
     lists: &mut Vec<Items<(u32, u32)>>,
     bytes: &'a [u8],
 ) -> Result<&'a [u8], CodecFault>
-    requires few { length totals.now ≤ CORES_MAX }
-    requires target { target < length totals.now }
-    requires lists { length lists.old.items ≡ pair_count (length totals.now) }
+    requires { TakesInto totals.now target lists.old.items }
     ensures { Gives (λ rest. (lists.new.items, rest.now)) result
         (put_into_lists (length totals.now) lists.old.items target
         (read_in_turn (incoming_at totals.now target) remember count [] bytes.now)) }
@@ -121,9 +119,7 @@ fn into<'a>(
     lists: &mut Vec<Items<(u32, u32)>>,
     bytes: &'a [u8],
 ) -> Result<&'a [u8], CodecFault>
-    requires few { length totals.now ≤ CORES_MAX }
-    requires target { target < length totals.now }
-    requires lists { length lists.old.items ≡ pair_count (length totals.now) }
+    requires { TakesInto totals.now target lists.old.items }
     ensures { Gives (λ rest. (lists.new.items, rest.now)) result
         (put_into_lists (length totals.now) lists.old.items target (into_at totals.now target bytes.now)) }
 {

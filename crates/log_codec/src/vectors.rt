@@ -80,6 +80,7 @@ fn vector(
 }
 
 /// As many vectors as the count says.
+#[tactic(auto, using(crate::proofs::InTurn::reading))]
 fn vectors_from(
     alloc: Global,
     most: (u32, u32),
@@ -114,6 +115,7 @@ fn vectors(
 }
 
 /// The vectors of all pairs.
+#[tactic(auto, using(crate::proofs::InTurn::reading))]
 pub fn regulated<'a>(
     alloc: Global,
     totals: &[u32],

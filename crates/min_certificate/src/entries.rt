@@ -56,6 +56,7 @@ impl<'a> Entries<'a> {
         ensures edges { result.now ≡ reduced_edges self.now.recording }
         ensures valid { Valid self.now.recording }
     {
+        // What always holds of the edge ends: their recording is valid.
         let _ = self.ends.recording();
         self.ends.edges()
     }
@@ -67,6 +68,7 @@ impl<'a> Entries<'a> {
             (slice_index self.now.recording.totals core) }
         ensures valid { Valid self.now.recording }
     {
+        // What always holds of the edge ends: their recording is valid.
         let _ = self.ends.recording();
         self.ends.of_core(core)
     }

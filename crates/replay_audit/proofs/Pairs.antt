@@ -4,6 +4,7 @@ use Rattle.rtr_types.specs.declared.instr.Instr.{Instr}
 use Rattle.rtr_types.specs.declared.access.Access.{Access}
 use Rattle.clock_core.specs.Order.{Within}
 use Rattle.conflict_edge.specs.Conflicts.{Conflicts, ConflictPair, StandsIn}
+use Rattle.conflict_edge.proofs.History.{Ends, ends_more}
 use Rattle.conflict_edge.proofs.Standing.{stands_which}
 
 pub stands_left : (xs ys : List Access) (a : Access) → StandsIn xs a → StandsIn (xs ++ ys) a
@@ -104,15 +105,6 @@ pairs_swap one two rest free x y p = first (pairs_which two (one ++ rest) x y p)
 -- ---- two in conflict
 
 -- the two accesses of a pair
-pub record Ends (list : List Access) (x y : Instr) : Type 0 where
-  pub first : Access
-  pub second : Access
-  pub first_stands : StandsIn list first
-  pub second_stands : StandsIn list second
-  pub first_at : first.at ≡ x
-  pub second_at : second.at ≡ y
-  pub conflict : Conflicts first second
-
 pub ends : (list : List Access) (x y : Instr) → ConflictPair list x y → Ends list x y
 ends [] x y p = absurd p
 ends (a ∷ list) x y (inl p) = record {
@@ -124,14 +116,4 @@ ends (a ∷ list) x y (inl p) = record {
   second_at = p.3;
   conflict = p.4;
 }
-ends (a ∷ list) x y (inr p) =
-    let e = ends list x y p in
-    record {
-      first = e.first;
-      second = e.second;
-      first_stands = inr e.first_stands;
-      second_stands = inr e.second_stands;
-      first_at = e.first_at;
-      second_at = e.second_at;
-      conflict = e.conflict;
-    }
+ends (a ∷ list) x y (inr p) = ends_more a list x y (ends list x y p)

@@ -8,6 +8,7 @@ use Rattle.rtr_types.specs.declared.instr.Instr.{Instr}
 use Rattle.rtr_types.specs.declared.access.Access.{Access}
 use Rattle.rtr_types.specs.declared.access.Kind.{Kind}
 use Rattle.conflict_edge.specs.Conflicts.{Conflicts, StandsIn}
+pub use Rattle.conflict_edge.proofs.History.{Meets}
 use Rattle.rv_core.specs.declared.core_state.Core.{Core}
 use Rattle.rv_core.specs.declared.outcome.LoadNote.{LoadNote}
 use Rattle.rv_core.specs.declared.outcome.Outcome.{Outcome}
@@ -36,15 +37,6 @@ abbrev pub made : (x : Instr) (word : ℕ) (kind : Kind) (before after : ℕ) �
 made x word kind before after = record { at = x; word = word; kind = kind; before = before; after = after }
 
 -- a clash is a conflict of the two accesses
-pub record Meets (xs ys : List Access) (x y : Instr) : Type 0 where
-  pub first : Access
-  pub second : Access
-  pub first_stands : StandsIn xs first
-  pub second_stands : StandsIn ys second
-  pub first_at : first.at ≡ x
-  pub second_at : second.at ≡ y
-  pub conflict : Conflicts first second
-
 pub clash_meets : (u v : Use) (x y : Instr) (o n p m : ℕ) → x.core ≢ y.core → Clash u v →
     Meets (accesses_by u x o n) (accesses_by v y p m) x y
 clash_meets None v x y o n p m ne k = absurd k

@@ -31,6 +31,7 @@ impl<'a> ClockOf<'a> {
         requires { at.core < CORES_MAX }
         ensures { (i : ℕ) → slice_index result i ≡ with_own at (λ j. slice_index last.now j) i }
     {
+        // A clock has a place for each core.
         let _ = last.as_slice();
         ClockOf { at, last }
     }
@@ -59,6 +60,7 @@ impl<'a> ClockOf<'a> {
     pub fn to_clock(&self) -> Clock
         ensures { result ≡ self.now }
     {
+        // A clock has a place for each core.
         let _ = self.last.as_slice();
         let mut clock = *self.last;
         clock.set(self.at.core, self.at.count);

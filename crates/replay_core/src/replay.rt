@@ -184,6 +184,7 @@ impl<'a> Replay<'a> {
         requires { core < length self.now.plan.totals }
         ensures { result.now ≡ core_at self.now.state core }
     {
+        // What always holds of a replay: it has a place for each core of its recording.
         let _ = &self.recording;
         &self.cores[core as usize]
     }
@@ -315,6 +316,7 @@ impl<'a> Replay<'a> {
         requires { core < length self.now.plan.totals }
         ensures { result ≡ is_sourced self.now.plan.edges (counts_in self.now.state) core count }
     {
+        // What always holds of a replay: it has a place for each core of its recording.
         let _ = &self.recording;
         let at = Instr { core, count };
         for of in 0..self.cores() {

@@ -76,6 +76,7 @@ impl<'a> Tally<'a> {
         ensures count { result ≡ count_of self.now.counts core }
         ensures few { core < CORES_MAX }
     {
+        // What always holds of a tally: it has a place for each core of its recording.
         let _ = &self.recording;
         self.counts[core as usize]
     }
@@ -88,6 +89,7 @@ impl<'a> Tally<'a> {
         ensures sources { AreSources self.now.plan.edges (next_of self.now.counts core)
             (sources_in result.sources.now) }
     {
+        // What always holds of a tally: it has a place for each core of its recording.
         let _ = &self.recording;
         let count = self.counts[core as usize] + 1;
         Sourced {
@@ -118,6 +120,7 @@ impl<'a> Tally<'a> {
     pub fn whole(&self) -> bool
         ensures { IsTrue result ↔ Full self.now.plan (count_of self.now.counts) }
     {
+        // What always holds of a tally: it has a place for each core of its recording.
         let _ = &self.recording;
         for core in 0..self.recording.params.cores {
             if self.counts[core as usize] != self.recording.totals.as_slice()[core as usize] {
@@ -133,6 +136,7 @@ impl<'a> Tally<'a> {
         requires { core < length self.now.plan.totals }
         ensures { result ≡ is_ready self.now.plan (count_of self.now.counts) core }
     {
+        // What always holds of a tally: it has a place for each core of its recording.
         let _ = &self.recording;
         let count = self.counts[core as usize];
         count < self.recording.totals.as_slice()[core as usize] && self.is_sourced(core)
@@ -144,6 +148,7 @@ impl<'a> Tally<'a> {
         ensures { result
             ≡ is_sourced self.now.plan.edges (count_of self.now.counts) core (count_of self.now.counts core + 1) }
     {
+        // What always holds of a tally: it has a place for each core of its recording.
         let _ = &self.recording;
         match &self.wanted[core as usize] {
             None => true,
@@ -174,6 +179,7 @@ impl<'a> Tally<'a> {
         ensures waits { (i a : ℕ) → Among self.now.plan.edges (instr i a) (next_of self.now.counts core) →
             count_of self.now.counts i < a → slice_index until.new i ≤ a }
     {
+        // What always holds of a tally: it has a place for each core of its recording.
         let _ = &self.recording;
         if let Some(wanted) = &self.wanted[core as usize] {
             self.lower_to(core, wanted, until);

@@ -161,6 +161,7 @@ fn store_whole<J: Job>(seat: &mut CoreSeat<J>, table: &ReplayTable<J>)
     ensures goes_on { Continues seat.old seat.new }
     ensures more { seat.new.core.count ≡ seat.old.core.count + 1 }
 {
+    // A store of a whole word needs nothing of the word before, so it never fails.
     let _ = table.store_word(seat);
 }
 

@@ -16,4 +16,4 @@ pub use cuts::cut_state_text;
 pub use exit::Exit;
 pub use faults::{FAULT_TEXT_MAX, FaultText, fault_text};
 pub use logs::logs_text;
-pub use states::state_text;
+pub use states::{state_text, stop_name};

@@ -77,8 +77,8 @@ fn put_stop(text: &mut String, number: usize, core: &Core, stop: Stop) -> Result
     writeln!(text, "core {number} {stop} retired {count} pc {pc}")
 }
 
-// The word for a stop.
-fn stop_name(stop: Stop) -> &'static str
+/// The word for a stop.
+pub fn stop_name(stop: Stop) -> &'static str
     ensures { result.now ≡ stop_name stop }
 {
     match stop {

@@ -1,8 +1,7 @@
 -- A part is named exactly where the parts below are spelled by a front of the bytes and no valid one follows.
-use Rattle.std.proofs.Common.{◌≡◌, ◌≢◌, ℕ, ◌*◌, ◌^◌, ◌<◌, ◌≤◌, inl, inr, ◌⊎◌, List, [], ◌++◌, length, Result, Ok, Err}
+use Rattle.std.proofs.Common.{◌≡◌, ◌≢◌, ℕ, ◌^◌, ◌<◌, inl, inr, List, [], ◌++◌, length, Result, Ok, Err}
 use Rattle.std.proofs.Common.{refl, sym, ap, subst, ◌∙◌, append_assoc}
 use Rattle.std.proofs.Common.{arith}
-use Rattle.std.specs.Prelude.{slice_index}
 use Rattle.rtr_types.specs.declared.params.Params.{Params}
 use Rattle.log_codec.specs.declared.codec_fault.TheConstants.{HEADER, IMAGE, TOTALS, REDUCED}
 use Rattle.log_codec.specs.declared.version.Version.TheVariants.{Two}
@@ -15,15 +14,16 @@ use Rattle.log_codec.proofs.BadPartLaws.{rest-bytes, image-read, read-image, tot
 use Rattle.log_codec.proofs.BadPartLaws.{read-reduced, no-reading, never-both}
 use Rattle.log_codec.proofs.BadPartLaws.{at_end, end-names, end-some, some-end}
 use Rattle.log_codec.proofs.FieldLaws.{sizes_take, sizes_again}
-use Rattle.log_codec.proofs.Named.{bind-err, bind-names, sizes-name, image-names, totals-name, reduced-names}
+use Rattle.log_codec.proofs.Named.{Missing, bind-err, bind-names, image-names, missing_within, reduced-names}
+use Rattle.log_codec.proofs.Named.{sizes-name, totals-name}
 use Rattle.race_log.proofs.Parts.{total-small}
 use Rattle.log_codec.proofs.Steps.{bind_ok, ok_is}
 use Rattle.tso_codec.specs.declared.recording.TheConstants.{VALUES, END}
 use Rattle.tso_codec.specs.declared.recording.TsoRecording.{TsoRecording}
-use Rattle.tso_codec.specs.BadParts.{AreAllValues, BadPart, IsTsoHeader, NamesPart, UpToHeader, UpToImage, UpToTotals}
+use Rattle.tso_codec.specs.BadParts.{AreAllValues, BadPart, IsTsoHeader, UpToHeader, UpToImage, UpToTotals}
 use Rattle.tso_codec.specs.BadParts.{UpToReduced, UpToValues}
 use Rattle.tso_codec.specs.Reading.{magic_at, all_values_at, parts_at, tso_at}
-use Rattle.tso_codec.specs.Spelling.{tso_magic, all_values_text}
+use Rattle.tso_codec.specs.Spelling.{tso_magic}
 use Rattle.tso_codec.proofs.Values.{all_values_take, all_values_again, all-values-name}
 use Rattle.tso_codec.proofs.Whole.{after_magic, after_sizes, after_image, after_totals, after_reduced, made_of}
 use Rattle.tso_codec.proofs.Whole.{magic_takes, magic_again, magic-names}
@@ -232,10 +232,8 @@ name-end bytes (rest, u, some) =
 
 -- where a reading ends
 abbrev Ends : List ℕ → ℕ → Type 0
-Ends bytes p = ((p ≡ HEADER) × NoHeader bytes)
-    ⊎ (((p ≡ IMAGE) × NoImage bytes)
-    ⊎ (((p ≡ TOTALS) × NoTotals bytes) ⊎ (((p ≡ REDUCED) × NoReduced bytes) ⊎ (((p ≡ VALUES) × NoValues bytes)
-    ⊎ ((p ≡ END) × BytesAfter bytes)))))
+Ends bytes =
+    Missing (NoHeader bytes) (NoImage bytes) (NoTotals bytes) (NoReduced bytes) (NoValues bytes) (BytesAfter bytes)
 
 -- the last step
 ends-after-5 : (bytes rest : List ℕ) (q : ℕ) → (u : UpToValues bytes rest) →
@@ -244,7 +242,7 @@ ends-after-5 bytes rest q u e =
     let named = end-names END (made bytes rest u, rest) q e in
     let some = end-some END (made bytes rest u, rest)
     (subst (λ (k : ℕ). at_end END (made bytes rest u, rest) ≡ Err k) named e) in
-    inr (inr (inr (inr (inr (named, (rest, u, some))))))
+    subst (Ends bytes) (sym named) (rest, u, some)
 
 ends-after-4 : (bytes rest : List ℕ) (q : ℕ) → IsBytes bytes → (u : UpToReduced bytes rest) →
     (after_reduced u.three.two.first.params u.three.two.image u.three.totals (u.reduced, rest) >>= at_end END) ≡ Err q →
@@ -256,16 +254,13 @@ ends-after-4 bytes rest q are u e =
     λ values. Ok (made_of p t.two.image t.totals u.reduced values.0, values.1) in
     elim (bind-err (after_reduced p t.two.image t.totals (u.reduced, rest)) (at_end END) q e) [
       | inl bad ↦ elim (bind-err (all_values_at p.cores t.totals rest) rec q bad) [
-        | inl none ↦ inr (inr (inr (inr (inl (
-          all-values-name p.cores t.totals rest q none,
-          (
-            rest,
-            u,
-            λ values after is. never-both q (all_values_at p.cores t.totals rest) (values, after) none
-                (values-read p t.before t.totals u.before rest values after (small-limit bytes t.two.before t.two.first)
-                t.third is),
-          ),
-        )))))
+        | inl none ↦ subst (Ends bytes) (sym (all-values-name p.cores t.totals rest q none)) (
+          rest,
+          u,
+          λ values after is. never-both q (all_values_at p.cores t.totals rest) (values, after) none
+              (values-read p t.before t.totals u.before rest values after (small-limit bytes t.two.before t.two.first)
+              t.third is),
+        )
         | inr more ↦ absurd (let f = more.2 in cc)
       ]
       | inr more ↦
@@ -294,15 +289,12 @@ ends-after-3 bytes rest q are u e =
     let next = after_reduced f.params u.two.image u.totals in
     elim (bind-err (targets_at u.totals rest) (λ x. next x >>= at_end END) q
     (sym (regroup (targets_at u.totals rest) next (at_end END)) ∙ e)) [
-      | inl bad ↦ inr (inr (inr (inl (
-        reduced-names Two u.totals rest q bad,
-        (
-          rest,
-          u,
-          λ reduced after is. never-both q (targets_at u.totals rest) (reduced, after) bad
-              (reduced-read Two f.params u.before u.totals rest reduced after f.header.limits u.third is),
-        ),
-      ))))
+      | inl bad ↦ subst (Ends bytes) (sym (reduced-names Two u.totals rest q bad)) (
+        rest,
+        u,
+        λ reduced after is. never-both q (targets_at u.totals rest) (reduced, after) bad
+            (reduced-read Two f.params u.before u.totals rest reduced after f.header.limits u.third is),
+      )
       | inr more ↦ ends-after-4 bytes more.0.1 q are
           (record {
             before = rest;
@@ -319,15 +311,12 @@ ends-after-2 bytes rest q are u e =
     let next = after_totals p u.image in
     elim (bind-err (totals_at p.limit p.cores rest) (λ x. next x >>= at_end END) q
     (sym (regroup (totals_at p.limit p.cores rest) next (at_end END)) ∙ e)) [
-      | inl bad ↦ inr (inr (inl (
-        totals-name p.limit p.cores rest q bad,
-        (
-          rest,
-          u,
-          λ totals after is. never-both q (totals_at p.limit p.cores rest) (totals, after) bad
-              (totals-read Two p rest totals after u.first.header.limits is),
-        ),
-      )))
+      | inl bad ↦ subst (Ends bytes) (sym (totals-name p.limit p.cores rest q bad)) (
+        rest,
+        u,
+        λ totals after is. never-both q (totals_at p.limit p.cores rest) (totals, after) bad
+            (totals-read Two p rest totals after u.first.header.limits is),
+      )
       | inr more ↦ ends-after-3 bytes more.0.1 q are
           (record {
             before = rest;
@@ -343,15 +332,11 @@ ends-after-1 : (bytes rest : List ℕ) (q : ℕ) → IsBytes bytes → (u : UpTo
 ends-after-1 bytes rest q are u e =
     elim (bind-err (image_at u.len rest) (λ x. after_image u.params x >>= at_end END) q
     (sym (regroup (image_at u.len rest) (after_image u.params) (at_end END)) ∙ e)) [
-      | inl bad ↦ inr (inl (
-        image-names u.len rest q bad,
-        (
-          rest,
-          u,
-          λ image after is. never-both q (image_at u.len rest) (image, after) bad
-              (image-read u.len rest image after is),
-        ),
-      ))
+      | inl bad ↦ subst (Ends bytes) (sym (image-names u.len rest q bad)) (
+        rest,
+        u,
+        λ image after is. never-both q (image_at u.len rest) (image, after) bad (image-read u.len rest image after is),
+      )
       | inr more ↦ ends-after-2 bytes more.0.1 q are
           (record {
             before = rest;
@@ -369,10 +354,8 @@ ends bytes q are e =
     elim (bind-err (header_at bytes) (λ x. after_sizes x >>= at_end END) q
     (sym (regroup (header_at bytes) after_sizes (at_end END)) ∙ ap (λ r. r >>= at_end END) (sym (parts-from bytes))
     ∙ e)) [
-      | inl bad ↦ inl (
-        header-names bytes q bad,
-        λ p len rest is. never-both q (header_at bytes) (p, len, rest) bad (header-read bytes p len rest is),
-      )
+      | inl bad ↦ subst (Ends bytes) (sym (header-names bytes q bad))
+          (λ p len rest is. never-both q (header_at bytes) (p, len, rest) bad (header-read bytes p len rest is))
       | inr more ↦
           let h = more.0 in
           let u : UpToHeader bytes h.2 =
@@ -382,67 +365,12 @@ ends bytes q are e =
 
 pub bad_part : BadPart
 bad_part bytes are = record {
-  header = (λ e. first (ends bytes HEADER are e), name-header bytes are);
-  image = (λ e. second (ends bytes IMAGE are e), name-image bytes are);
-  totals = (λ e. third (ends bytes TOTALS are e), name-totals bytes are);
-  reduced = (λ e. fourth (ends bytes REDUCED are e), name-reduced bytes are);
-  values = (λ e. fifth (ends bytes VALUES are e), name-values bytes are);
-  end = (λ e. sixth (ends bytes END are e), name-end bytes);
-  no_other = λ part e. within part (ends bytes part are e);
+  header = (λ e. ends bytes HEADER are e, name-header bytes are);
+  image = (λ e. ends bytes IMAGE are e, name-image bytes are);
+  totals = (λ e. ends bytes TOTALS are e, name-totals bytes are);
+  reduced = (λ e. ends bytes REDUCED are e, name-reduced bytes are);
+  values = (λ e. ends bytes VALUES are e, name-values bytes are);
+  end = (λ e. ends bytes END are e, name-end bytes);
+  no_other = λ part e. missing_within (NoHeader bytes) (NoImage bytes) (NoTotals bytes) (NoReduced bytes)
+      (NoValues bytes) (BytesAfter bytes) part (ends bytes part are e);
 }
-  where
-    first : Ends bytes HEADER → NoHeader bytes
-    first (inl x) = x.1
-    first (inr (inl x)) = absurd (let is = x.0 in omega arith)
-    first (inr (inr (inl x))) = absurd (let is = x.0 in omega arith)
-    first (inr (inr (inr (inl x)))) = absurd (let is = x.0 in omega arith)
-    first (inr (inr (inr (inr (inl x))))) = absurd (let is = x.0 in omega arith)
-    first (inr (inr (inr (inr (inr x))))) = absurd (let is = x.0 in omega arith)
-
-    second : Ends bytes IMAGE → NoImage bytes
-    second (inl x) = absurd (let is = x.0 in omega arith)
-    second (inr (inl x)) = x.1
-    second (inr (inr (inl x))) = absurd (let is = x.0 in omega arith)
-    second (inr (inr (inr (inl x)))) = absurd (let is = x.0 in omega arith)
-    second (inr (inr (inr (inr (inl x))))) = absurd (let is = x.0 in omega arith)
-    second (inr (inr (inr (inr (inr x))))) = absurd (let is = x.0 in omega arith)
-
-    third : Ends bytes TOTALS → NoTotals bytes
-    third (inl x) = absurd (let is = x.0 in omega arith)
-    third (inr (inl x)) = absurd (let is = x.0 in omega arith)
-    third (inr (inr (inl x))) = x.1
-    third (inr (inr (inr (inl x)))) = absurd (let is = x.0 in omega arith)
-    third (inr (inr (inr (inr (inl x))))) = absurd (let is = x.0 in omega arith)
-    third (inr (inr (inr (inr (inr x))))) = absurd (let is = x.0 in omega arith)
-
-    fourth : Ends bytes REDUCED → NoReduced bytes
-    fourth (inl x) = absurd (let is = x.0 in omega arith)
-    fourth (inr (inl x)) = absurd (let is = x.0 in omega arith)
-    fourth (inr (inr (inl x))) = absurd (let is = x.0 in omega arith)
-    fourth (inr (inr (inr (inl x)))) = x.1
-    fourth (inr (inr (inr (inr (inl x))))) = absurd (let is = x.0 in omega arith)
-    fourth (inr (inr (inr (inr (inr x))))) = absurd (let is = x.0 in omega arith)
-
-    fifth : Ends bytes VALUES → NoValues bytes
-    fifth (inl x) = absurd (let is = x.0 in omega arith)
-    fifth (inr (inl x)) = absurd (let is = x.0 in omega arith)
-    fifth (inr (inr (inl x))) = absurd (let is = x.0 in omega arith)
-    fifth (inr (inr (inr (inl x)))) = absurd (let is = x.0 in omega arith)
-    fifth (inr (inr (inr (inr (inl x))))) = x.1
-    fifth (inr (inr (inr (inr (inr x))))) = absurd (let is = x.0 in omega arith)
-
-    sixth : Ends bytes END → BytesAfter bytes
-    sixth (inl x) = absurd (let is = x.0 in omega arith)
-    sixth (inr (inl x)) = absurd (let is = x.0 in omega arith)
-    sixth (inr (inr (inl x))) = absurd (let is = x.0 in omega arith)
-    sixth (inr (inr (inr (inl x)))) = absurd (let is = x.0 in omega arith)
-    sixth (inr (inr (inr (inr (inl x))))) = absurd (let is = x.0 in omega arith)
-    sixth (inr (inr (inr (inr (inr x))))) = x.1
-
-    within : (part : ℕ) → Ends bytes part → (1 ≤ part) × (part ≤ 6)
-    within part (inl x) = let is = x.0 in (omega arith, omega arith)
-    within part (inr (inl x)) = let is = x.0 in (omega arith, omega arith)
-    within part (inr (inr (inl x))) = let is = x.0 in (omega arith, omega arith)
-    within part (inr (inr (inr (inl x)))) = let is = x.0 in (omega arith, omega arith)
-    within part (inr (inr (inr (inr (inl x))))) = let is = x.0 in (omega arith, omega arith)
-    within part (inr (inr (inr (inr (inr x))))) = let is = x.0 in (omega arith, omega arith)

@@ -115,6 +115,7 @@ impl Arrivals {
         requires closing { IsClosing self.now stays.now at closing.old }
         ensures { IsClosedAt self.now stays.now at closing.new }
     {
+        // What always holds of the arrivals: each list is its core's, in order.
         let _ = &self.lists;
         closing.raise(at);
         while let Some((core, arrival)) = self.due(closing) {

@@ -1,3 +1,5 @@
+-- Along the timeline: the list so far is the way through the places passed, each in its core's order; at the timeline's
+-- end it is the whole way.
 use Rattle.std.proofs.Common.{Global, Vec, ℕ, List, [], drop, ◌≡◌, ◌+◌, ◌≤◌, ◌∷◌, ◌∙◌, ap, sym, subst, refl, arith}
 use Rattle.std.proofs.Common.{length}
 use Rattle.std.proofs.lemmas.List.{drop_all}

@@ -1,3 +1,5 @@
+-- Along the merged edges: each rises in both counts from those of its pair before it, so its two differences fit, and
+-- the bytes so far spell the edges so far.
 use Rattle.std.proofs.Common.{◌≡◌, ◌+◌, ◌-◌, ◌++◌, ◌≤◌, ℕ, List, [], length, ap, ◌∙◌, append_assoc, arith}
 use Rattle.std.specs.Prelude.{slice_index}
 use Rattle.log_codec.specs.Incoming.{incoming_edges, remember, target_of}

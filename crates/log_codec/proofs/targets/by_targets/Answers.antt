@@ -1,4 +1,5 @@
-use Rattle.std.proofs.Common.{ℕ, List, [], replicate, ap, ◌∙◌, arith}
+use Rattle.std.proofs.Common.{ℕ, List, [], replicate, ap, ◌∙◌, arith, rules}
+use Rattle.std.proofs.lemmas.Grind.{common_steps}
 use Rattle.std.proofs.lemmas.Result.{err_from_is_err_and}
 use Rattle.log_codec.proofs.Received.{fills-start, fills-long, fills-more, fills-fails, fills-done}
 use Rattle.log_codec.proofs.targets.by_targets.Goals as goal
@@ -8,10 +9,13 @@ loop-target-init c =
     fills-start c.args.totals.now c.in_ok-lists.lists.items c.args.bytes.now (c.in_ok-lists.ensures
     ∙ ap (λ (n : ℕ). replicate {A = List (ℕ × ℕ)} n []) c.pair_count.ensures)
 
-pub into-requires-clause-lists : goal.into-requires-clause-lists
-into-requires-clause-lists c =
-    fills-long c.args.totals.now c.loop-target.target c.loop-target.lists.items c.args.bytes.now c.loop-target.rest.now
-    c.loop-target.invariant
+pub into-requires : goal.into-requires
+into-requires c = record {
+  few = c.requires;
+  target = first_of (search rules, grind (arith, common_steps));
+  lists = fills-long c.args.totals.now c.loop-target.target c.loop-target.lists.items c.args.bytes.now
+      c.loop-target.rest.now c.loop-target.invariant;
+}
 
 pub loop-target-preserved : goal.loop-target-preserved
 loop-target-preserved c =

@@ -1,3 +1,5 @@
+-- The exact clocks decide each edge of the log: the first amiss is the one named, and without one the log is least and
+-- the clocks certify it.
 use Rattle.std.proofs.Common.{◌≡◌, ◌∙◌, sym, subst}
 use Rattle.std.specs.Prelude.{Option, MatchOption}
 use Rattle.rtr_types.specs.declared.instr.Edge.{Edge}

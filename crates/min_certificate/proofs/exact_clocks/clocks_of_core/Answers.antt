@@ -1,3 +1,4 @@
+-- Edge end by edge end: behind what the list had stand the counts of the exact clocks of the ends so far.
 use Rattle.std.proofs.Common.{◌≡◌, ◌+◌, ◌*◌, ◌++◌, ◌∷◌, ◌∙◌, [], ap, arith, get_or, length, subst, suc, suc-mul, sym}
 use Rattle.std.proofs.Common.{take, ℕ, List}
 use Rattle.std.specs.Prelude.{slice_index}
@@ -19,16 +20,11 @@ use Rattle.min_certificate.proofs.exact_clocks.clocks_of_core.Goals as goal
 pub clock-clock-requires : goal.clock-clock-requires
 clock-clock-requires c =
     let r = c.args.audited.now.recording in
+    let valid = c.recording.ensures.valid in
     let h : IsListed r c.args.core c.loop-count.count-index c.args.ends.now =
-    record {
-      valid = c.recording.ensures.valid;
-      core = c.requires.core;
-      is = c.requires.ends;
-      lt =
-          c.loop-count-test.true;
-    } in
+    record { valid = valid; core = c.requires.core; is = c.requires.ends; lt = c.loop-count-test.true } in
     let w = end_in_list r c.args.core c.loop-count.count-index c.args.ends.now h in
-    let each = c.recording.ensures.valid.each_core in
+    let each = valid.each_core in
     record { core = omega (arith, c.requires.core); some = w.1; most = w.0.count }
 
 pub loop-count-preserved : goal.loop-count-preserved
@@ -41,14 +37,9 @@ loop-count-preserved c =
     let clock = c.clock-clock.result in
     let entry = take cores clock in
     let put = c.in_ok-put_counts.ensures.counts in
+    let valid = c.recording.ensures.valid in
     let h : IsListed r c.args.core k c.args.ends.now =
-    record {
-      valid = c.recording.ensures.valid;
-      core = c.requires.core;
-      is = c.requires.ends;
-      lt =
-          c.loop-count-test.true;
-    } in
+    record { valid = valid; core = c.requires.core; is = c.requires.ends; lt = c.loop-count-test.true } in
     let same : cores ≡ r.params.cores = ap (λ (q : Recording). q.params.cores) c.recording.ensures.recording in
     let exact : IsClock (Among (reduced_edges r)) (instr c.args.core (get_or c.args.ends.now k 0))
     (λ i. slice_index clock i) =

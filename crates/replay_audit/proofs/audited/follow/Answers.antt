@@ -1,3 +1,5 @@
+-- Place by place: the trail so far is that of the low order's front, and a core that is ready goes on; where none is,
+-- the front is all that there is.
 use Rattle.std.proofs.Common.{◌++◌, ◌∷◌, [], ◌∙◌, ap, length, refl, sym}
 use Rattle.replay_core.specs.Plans.{Plan}
 use Rattle.replay_audit.proofs.Auditing.{along_start, all_told, along_on, in_plan, leaves_open, passes, ready_here}

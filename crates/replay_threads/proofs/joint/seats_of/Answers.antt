@@ -1,3 +1,4 @@
+-- Worker by worker: each still has its seat, the one of its own core, so the seats so far are the first ones in order.
 use Rattle.std.proofs.Common.{◌≡◌, ◌+◌, ◌-◌, ◌<◌, ◌%◌, ℕ, List, ◌∷◌, length, ap, sym, subst, arith, ◌∙◌}
 use Rattle.std.specs.Prelude.{All, []}
 use Rattle.std.specs.List.{range_with_len}

@@ -1,3 +1,5 @@
+-- The exchange either took, and the seat has gone on by one instruction, or another write came first, and the seat is
+-- as it was.
 use Rattle.std.proofs.Common.{◌≡◌, ap, ◌∙◌, false}
 use Rattle.std.specs.Prelude.{Ok, Err}
 use Rattle.rv_core.specs.declared.core_state.Core.{Core}

@@ -1,3 +1,5 @@
+-- Along the whole order: the trail so far is that of the order's front. Where no access met one that the log leaves
+-- apart, each two that conflict are ordered by the log.
 use Rattle.std.proofs.Common.{◌≡◌, ◌+◌, ◌<◌, ◌∙◌, ℕ, List, Some, arith, replicate, take, length-set}
 use Rattle.std.proofs.Common.{get_or, refl, sym, ap, subst}
 use Rattle.std.specs.Prelude.{slice_index}

@@ -1,3 +1,5 @@
+-- Core by core: the sources so far are those of the lower cores' edges into the instruction, and those cores' edges
+-- have gone on.
 use Rattle.std.proofs.Common.{◌≡◌, ◌+◌, ℕ, List, sym, subst, refl, arith}
 use Rattle.race_log.specs.Sources.{log_edges}
 use Rattle.replay_core.specs.declared.coming.Coming.{Coming}

@@ -1,3 +1,4 @@
+-- The core's own step says what retires, and the memory and the counts change at its place alone.
 use Rattle.std.proofs.Common.{◌∙◌, ◌<◌, length, ap, sym, subst, arith, get_or-set_same}
 use Rattle.std.proofs.lemmas.List.{get_or_default}
 use Rattle.image_mem.specs.Contents.{Contents}

@@ -1,3 +1,5 @@
+-- Place by place: the replay stands where the low order with the given values does, and the lowest ready core comes
+-- next, until none is.
 use Rattle.std.proofs.Common.{◌∙◌, ◌++◌, ◌∷◌, [], refl, sym}
 use Rattle.replay_core.specs.Plans.{plan_of}
 use Rattle.replay_core.specs.Play.{given_by}

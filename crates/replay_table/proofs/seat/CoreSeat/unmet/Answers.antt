@@ -1,3 +1,5 @@
+-- The coming edges give the sources of the next instruction; the lowest core whose count isn't seen yet is the answer,
+-- and without one the seat is ready.
 use Rattle.std.proofs.Common.{◌≡◌, ◌∙◌, ◌<◌, length, slice_index, ℕ, List, ap, sym, subst, arith}
 use Rattle.std.specs.Prelude.{Option}
 use Rattle.std.proofs.lemmas.List.{get_or_default}

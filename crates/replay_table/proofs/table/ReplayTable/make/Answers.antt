@@ -1,3 +1,4 @@
+-- The words are opened as the memory has them, and each turn hands out one seat more, with its own part of the rule.
 use Rattle.std.proofs.Common.{arith, ◌≡◌, ◌<◌, length, ℕ, List, [], ap, ◌∙◌, refl, sym, subst, replicate}
 use Rattle.image_mem.specs.Contents.{opening_words}
 use Rattle.rv_core.specs.declared.core_state.Core.{Core}

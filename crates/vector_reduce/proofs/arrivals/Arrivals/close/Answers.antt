@@ -1,3 +1,5 @@
+-- Arrival by arrival: the cut has taken in what leads to the instruction by the arrivals passed, and each turn leaves
+-- fewer. Where none is due, the cut is closed.
 use Rattle.std.proofs.Common.{ℕ, subst, arith}
 use Rattle.std.specs.Prelude.{Bool, Option}
 use Rattle.vector_reduce.specs.declared.arrivals.Arrival.{Arrival}

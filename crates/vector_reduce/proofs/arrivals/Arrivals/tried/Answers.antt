@@ -1,3 +1,5 @@
+-- Edge by edge: the cut is the least one closed at the targets so far, so it holds an edge's source exactly where the
+-- other vectors imply the edge.
 use Rattle.std.proofs.Common.{◌<◌, ◌∙◌, length, refl, sym, ap, subst, arith}
 use Rattle.rtr_types.specs.declared.TheConstants.{CORES_MAX}
 use Rattle.rtr_types.specs.declared.instr.Edge.{Edge}
