@@ -1,5 +1,5 @@
 -- How the cores' programs end, by the audit's outcome and the image at hand.
-use Rattle.std.proofs.Common.{◌≡◌, ℕ, List, ap, refl, ◌∙◌}
+use Rattle.std.proofs.Common.{◌≡◌, ℕ, List, ap, refl, subst, sym, ◌∙◌}
 use Rattle.image_mem.specs.Contents.{Contents}
 use Rattle.rtr_types.specs.declared.core_set.CoreSet.{CoreSet}
 use Rattle.rtr_types.specs.declared.pairs.Which.{Which}
@@ -15,12 +15,15 @@ use Rattle.cut_moves.proofs.Hulls.{whole_closed}
 use Rattle.cut_moves.specs.Steps.{IsWholeCut}
 use Rattle.debug_place.specs.Places.{Placed}
 use Rattle.rtr_types.specs.declared.cut.Cut.{Cut}
-use Rattle.std.proofs.Common.{subst}
 use Rattle.gdb_monitor.specs.Moves.{IsOf}
 use Rattle.gdb_session.specs.declared.points.Point.{Point}
 use Rattle.gdb_session.specs.Ends.{end_in, end_of}
 use Rattle.gdb_session.specs.Seats.{Sees}
 use Rattle.gdb_session.specs.Stopping.{Stopping, stopping_by}
+
+-- a place of an audit is one of the same audit
+pub still_of : (a b : Findings) (place : Placed) → b ≡ a → IsOf a place → IsOf b place
+still_of a b place same run = subst (λ (f : Findings). IsOf f place) (sym same) run
 
 pub same_ends : (a : Findings) (image : Contents) (place : Placed) (outcome : Outcome) → Sees a image place →
     PassesOf a → outcome ≡ a.outcome → ◌≡◌ {A = ℕ → Stop} (end_in image outcome) (end_of place)

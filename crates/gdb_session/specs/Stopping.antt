@@ -30,7 +30,7 @@ stopping_of hearing = record {
   points = hearing.points.now;
   paused = hearing.paused;
   heard = hearing.heard;
-  ends = end_in hearing.image.now hearing.outcome.now;
+  ends = end_in hearing.image.now hearing.audited.now.outcome;
 }
 
 -- a breakpoint stops the core

@@ -1,6 +1,5 @@
 //! How the programs of the cores end.
 ghost use Rattle.std.specs.Prelude.{◌≡◌};
-ghost use Rattle.state_text.specs.States.{stop_name};
 ghost use Rattle.gdb_session.specs.Ends.{end_in, signal_of};
 
 use gdb_packets::Signal;
@@ -27,22 +26,5 @@ pub(crate) fn signal_of(end: Stop) -> Option<Signal>
         Stop::Illegal => Some(Signal::Illegal),
         Stop::Break => Some(Signal::Trap),
         Stop::Exit | Stop::Limit | Stop::Total => None,
-    }
-}
-
-/// The word for how a program ends.
-pub(crate) fn end_name(end: Stop) -> &'static str
-    ensures { result.now ≡ stop_name end }
-{
-    match end {
-        Stop::Exit => "exit",
-        Stop::Break => "break",
-        Stop::Limit => "limit",
-        Stop::Fetch => "fetch",
-        Stop::Illegal => "illegal",
-        Stop::Jump => "jump",
-        Stop::Align => "align",
-        Stop::Address => "address",
-        Stop::Total => "total",
     }
 }

@@ -13,9 +13,8 @@ use image_mem::Image;
 use replay_audit::Audited;
 use replay_core::Replay;
 use rtr_types::CoreSet;
-use rv_core::Outcome;
 
-/// What stops a move: points, and programs that end by a fault.
+/// What stops a move of an audited recording's place: points, and programs that end by a fault.
 #[derive(Clone, Copy)]
 pub(crate) struct Hearing<'a> {
     /// The points that are set.
@@ -24,8 +23,8 @@ pub(crate) struct Hearing<'a> {
     pub paused: CoreSet,
     /// The cores whose faults stop.
     pub heard: CoreSet,
-    /// What the whole run comes to.
-    pub outcome: &'a Outcome,
+    /// The recording's audit.
+    pub audited: &'a Audited,
     /// The recording's image.
     pub image: &'a Image,
 }
@@ -39,14 +38,15 @@ impl<'a> Hearing<'a> {
         paused: CoreSet,
         heard: CoreSet,
     ) -> Hearing<'a>
-        ensures { stopping_of result
+        ensures audited { result.audited.now ≡ audited.now }
+        ensures stopping { stopping_of result
             ≡ stopping_by points.now paused heard (end_in image.now audited.now.outcome) }
     {
         Hearing {
             points,
             paused,
             heard,
-            outcome: audited.outcome(),
+            audited,
             image,
         }
     }
@@ -66,12 +66,12 @@ impl Hearing<'_> {
     fn faults(&self, core: u8, count: u32, total: u32) -> bool
         requires { core < CORES_MAX }
         ensures { result ≡ (has self.now.heard core && (nat_eq (count + 1) total
-            && is_some (signal_of (end_in self.now.image.now self.now.outcome.now core)))) }
+            && is_some (signal_of (end_in self.now.image.now self.now.audited.now.outcome core)))) }
     {
         if !self.heard.has(core) || count as u64 + 1 != total as u64 {
             return false;
         }
-        signal_of(end_of(self.outcome, self.image, core)).is_some()
+        signal_of(end_of(self.audited.outcome(), self.image, core)).is_some()
     }
 }
 

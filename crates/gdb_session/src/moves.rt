@@ -4,7 +4,7 @@ ghost use Rattle.rtr_types.specs.declared.TheConstants.{CORES_MAX};
 ghost use Rattle.race_log.specs.Validity.{Valid};
 ghost use Rattle.replay_audit.specs.Audits.{IsInstrOf};
 ghost use Rattle.cut_replay.specs.ClosedCuts.{IsClosed, IsContained};
-ghost use Rattle.cut_moves.specs.Steps.{IsWholeCut, next_in};
+ghost use Rattle.cut_moves.specs.Steps.{next_in};
 ghost use Rattle.debug_place.specs.Places.{cut_at};
 ghost use Rattle.gdb_monitor.specs.Moves.{IsKept, IsOf};
 ghost use Rattle.gdb_session.specs.Moves.{Goes, GoesBackward, Halts, HaltsBack, Obeys, Steps, StepsBackward};
@@ -17,8 +17,7 @@ use crate::ends::{end_of, signal_of};
 use crate::hearing::Hearing;
 use crate::orders::{Order, every_core};
 use crate::points::{Point, touched, why_of};
-use crate::turns::{go_back_with, go_with};
-use cut_moves::{step, step_back};
+use cut_moves::{step, step_back, whole};
 use debug_place::Place;
 use gdb_packets::{Signal, Stop, Why};
 use image_mem::Image;
@@ -28,6 +27,9 @@ use std::alloc::{AllocError, Global};
 
 /// A place for each core, as the length of an array.
 const PLACES: usize = CORES_MAX as usize;
+
+/// What stopped a move. It is refused for want of memory alone.
+pub(crate) type Moved = Result<Stop, AllocError>;
 
 /// A stop by a trap.
 pub(crate) fn plain_stop(core: u8, why: Why) -> Stop
@@ -48,7 +50,7 @@ pub(crate) fn obey(
     place: &mut Place,
     points: &[Point],
     order: Order,
-) -> Result<Stop, AllocError>
+) -> Moved
     requires sees { Sees audited.now image.now place.old }
     requires within { IsWithin order place.old.recording.params.cores }
     ensures kept { IsKept place.old place.new }
@@ -66,132 +68,177 @@ pub(crate) fn obey(
         }),
         Order::Step(core, heard) => {
             let hearing = Hearing::new(audited, image, points, heard.without(core), heard);
-            step_core(alloc, audited, place, &hearing, core)
+            hearing.step_core(alloc, place, core)
         }
         Order::Go(lead, heard) => {
             let hearing = Hearing::new(audited, image, points, heard, heard);
-            go(alloc, audited, place, &hearing, lead)
+            hearing.go(alloc, place, lead)
         }
         Order::GoWith(lead, cores, heard) => {
             let hearing = Hearing::new(audited, image, points, heard, heard);
-            go_with(alloc, audited, place, &hearing, cores, lead)
+            hearing.go_with(alloc, place, cores, lead)
         }
         Order::StepBack(core, heard) => {
             let hearing = Hearing::new(audited, image, points, heard, CoreSet::empty());
-            step_back_core(alloc, audited, place, &hearing, core)
+            hearing.step_back_core(alloc, place, core)
         }
         Order::GoBack(lead) => {
             let every = every_core(place.cores());
             let hearing = Hearing::new(audited, image, points, every, CoreSet::empty());
-            go_back(alloc, audited, place, &hearing, lead)
+            hearing.go_back(alloc, place, lead)
         }
         Order::GoBackWith(lead, cores, heard) => {
             let hearing = Hearing::new(audited, image, points, heard, CoreSet::empty());
-            go_back_with(alloc, audited, place, &hearing, cores, lead)
+            hearing.go_back_with(alloc, place, cores, lead)
         }
     }
 }
 
-/// A step of a core.
-fn step_core(
-    alloc: Global,
-    audited: &Audited,
-    place: &mut Place,
-    hearing: &Hearing,
-    core: u8,
-) -> Result<Stop, AllocError>
-    requires run { IsOf audited.now place.old }
-    requires core { core < place.old.recording.params.cores }
-    ensures kept { IsKept place.old place.new }
-    ensures steps { IfOk result (Steps (stopping_of hearing.now) core place.old place.new) }
-    ensures core { IfOk result (λ stop. stop.core < place.old.recording.params.cores) }
-{
-    let _ = audited.recording();
-    if !place.has_next(core) {
-        return Ok(plain_stop(core, Why::End));
+// Forwards.
+impl Hearing<'_> {
+    /// A step of a core.
+    fn step_core(&self, alloc: Global, place: &mut Place, core: u8) -> Moved
+        requires run { IsOf self.now.audited.now place.old }
+        requires core { core < place.old.recording.params.cores }
+        ensures kept { IsKept place.old place.new }
+        ensures steps { IfOk result (Steps (stopping_of self.now) core place.old place.new) }
+        ensures core { IfOk result (λ stop. stop.core < place.old.recording.params.cores) }
+    {
+        // A valid recording has no more cores than there may be.
+        let _ = self.audited.recording();
+        if !place.has_next(core) {
+            return Ok(plain_stop(core, Why::End));
+        }
+        let to = step(self.audited, &place.cut(), core)?;
+        self.walk(alloc, place, core, &to, plain_stop(core, Why::Nothing))
     }
-    let to = step(audited, &place.cut(), core)?;
-    walk(
-        alloc,
-        place,
-        hearing,
-        core,
-        &to,
-        plain_stop(core, Why::Nothing),
-    )
-}
 
-/// All cores go on.
-fn go(
-    alloc: Global,
-    audited: &Audited,
-    place: &mut Place,
-    hearing: &Hearing,
-    lead: u8,
-) -> Result<Stop, AllocError>
-    requires run { IsOf audited.now place.old }
-    requires lead { lead < place.old.recording.params.cores }
-    ensures kept { IsKept place.old place.new }
-    ensures goes { IfOk result (Goes (stopping_of hearing.now) lead place.old place.new) }
-    ensures core { IfOk result (λ stop. stop.core < place.old.recording.params.cores) }
-{
-    // The place is at a closed cut, which the whole one contains.
-    let _ = place.cut();
-    let _ = audited.recording();
-    let to = whole(audited);
-    walk(alloc, place, hearing, lead, &to, plain_stop(lead, Why::End))
-}
+    /// All cores go on.
+    fn go(&self, alloc: Global, place: &mut Place, lead: u8) -> Moved
+        requires run { IsOf self.now.audited.now place.old }
+        requires lead { lead < place.old.recording.params.cores }
+        ensures kept { IsKept place.old place.new }
+        ensures goes { IfOk result (Goes (stopping_of self.now) lead place.old place.new) }
+        ensures core { IfOk result (λ stop. stop.core < place.old.recording.params.cores) }
+    {
+        // The place is at a closed cut, which the whole one contains.
+        let _ = place.cut();
+        let _ = self.audited.recording();
+        let to = whole(self.audited);
+        self.walk(alloc, place, lead, &to, plain_stop(lead, Why::End))
+    }
 
-/// Goes the way to a closed cut until something stops it.
-fn walk(
-    alloc: Global,
-    place: &mut Place,
-    hearing: &Hearing,
-    lead: u8,
-    to: &Cut,
-    done: Stop,
-) -> Result<Stop, AllocError>
-    requires valid { Valid place.old.recording }
-    requires closed { IsClosed place.old.which place.old.recording to.now }
-    requires within { IsContained (cut_at place.old) to.now }
-    requires lead { lead < place.old.recording.params.cores }
-    requires told { done.core < place.old.recording.params.cores }
-    ensures kept { IsKept place.old place.new }
-    ensures walks { IfOk result (λ stop.
-        Walks (stopping_of hearing.now) lead place.old to.now place.new stop done) }
-    ensures core { IfOk result (λ stop. stop.core < place.old.recording.params.cores) }
-{
-    // The place is at a closed cut, so each core of the way is ready where its place comes.
-    let _ = place.cut();
-    match place.go_to(alloc, hearing, to)? {
-        None => Ok(done),
-        Some(core) => halt(alloc, place, hearing, lead, core),
+    /// Goes the way to a closed cut until something stops it.
+    fn walk(&self, alloc: Global, place: &mut Place, lead: u8, to: &Cut, done: Stop) -> Moved
+        requires valid { Valid place.old.recording }
+        requires closed { IsClosed place.old.which place.old.recording to.now }
+        requires within { IsContained (cut_at place.old) to.now }
+        requires lead { lead < place.old.recording.params.cores }
+        requires told { done.core < place.old.recording.params.cores }
+        ensures kept { IsKept place.old place.new }
+        ensures walks { IfOk result (λ stop.
+            Walks (stopping_of self.now) lead place.old to.now place.new stop done) }
+        ensures core { IfOk result (λ stop. stop.core < place.old.recording.params.cores) }
+    {
+        // The place is at a closed cut, so each core of the way is ready where its place comes.
+        let _ = place.cut();
+        match place.go_to(alloc, self, to)? {
+            None => Ok(done),
+            Some(core) => self.halt(alloc, place, lead, core),
+        }
+    }
+
+    /// What stopped it before a core's next instruction. A fault is told behind that.
+    pub fn halt(&self, alloc: Global, place: &mut Place, lead: u8, core: u8) -> Moved
+        requires valid { Valid place.old.recording }
+        requires lead { lead < place.old.recording.params.cores }
+        requires next { IsInstrOf place.old.recording (next_in (cut_at place.old) core) }
+        ensures kept { IsKept place.old place.new }
+        ensures halts { IfOk result (Halts (stopping_of self.now) lead core place.old place.new) }
+        ensures core { IfOk result (λ stop. stop.core < place.old.recording.params.cores) }
+    {
+        if self.breaks(core, place.core(core).pc()) {
+            return Ok(plain_stop(core, Why::Breakpoint));
+        }
+        if let Some(point) = touched(self.points, place.next_use(core)) {
+            return Ok(plain_stop(teller(self.heard, lead, core), why_of(point)));
+        }
+        place.step(alloc, core)?;
+        Ok(fault_stop(self, core))
     }
 }
 
-/// What stopped it before a core's next instruction. A fault is told behind that.
-pub(crate) fn halt(
-    alloc: Global,
-    place: &mut Place,
-    hearing: &Hearing,
-    lead: u8,
-    core: u8,
-) -> Result<Stop, AllocError>
-    requires valid { Valid place.old.recording }
-    requires lead { lead < place.old.recording.params.cores }
-    requires next { IsInstrOf place.old.recording (next_in (cut_at place.old) core) }
-    ensures kept { IsKept place.old place.new }
-    ensures halts { IfOk result (Halts (stopping_of hearing.now) lead core place.old place.new) }
-    ensures core { IfOk result (λ stop. stop.core < place.old.recording.params.cores) }
-{
-    if hearing.breaks(core, place.core(core).pc()) {
-        return Ok(plain_stop(core, Why::Breakpoint));
+// Backwards.
+impl Hearing<'_> {
+    /// A step back of a core.
+    fn step_back_core(&self, alloc: Global, place: &mut Place, core: u8) -> Moved
+        requires run { IsOf self.now.audited.now place.old }
+        requires core { core < place.old.recording.params.cores }
+        ensures kept { IsKept place.old place.new }
+        ensures steps { IfOk result (StepsBackward (stopping_of self.now) core place.old place.new) }
+        ensures core { IfOk result (λ stop. stop.core < place.old.recording.params.cores) }
+    {
+        // A valid recording has no more cores than there may be.
+        let _ = self.audited.recording();
+        if !place.has_last(core) {
+            return Ok(plain_stop(core, Why::Begin));
+        }
+        let to = step_back(self.audited, &place.cut(), core)?;
+        self.walk_back(alloc, place, core, &to, plain_stop(core, Why::Nothing))
     }
-    if let Some(point) = touched(hearing.points, place.next_use(core)) {
-        return Ok(plain_stop(teller(hearing.heard, lead, core), why_of(point)));
+
+    /// All cores go back.
+    fn go_back(&self, alloc: Global, place: &mut Place, lead: u8) -> Moved
+        requires run { IsOf self.now.audited.now place.old }
+        requires lead { lead < place.old.recording.params.cores }
+        ensures kept { IsKept place.old place.new }
+        ensures goes { IfOk result (GoesBackward (stopping_of self.now) lead place.old place.new) }
+        ensures core { IfOk result (λ stop. stop.core < place.old.recording.params.cores) }
+    {
+        // A valid recording has no more cores than there may be.
+        let _ = self.audited.recording();
+        let to = Cut {
+            cores: place.cores(),
+            counts: [0; PLACES],
+        };
+        self.walk_back(alloc, place, lead, &to, plain_stop(lead, Why::Begin))
     }
-    place.step(alloc, core)?;
-    Ok(fault_stop(hearing, core))
+
+    /// Goes the way from a closed cut to here back until something stops it.
+    fn walk_back(&self, alloc: Global, place: &mut Place, lead: u8, to: &Cut, done: Stop) -> Moved
+        requires valid { Valid place.old.recording }
+        requires closed { IsClosed place.old.which place.old.recording to.now }
+        requires within { IsContained to.now (cut_at place.old) }
+        requires lead { lead < place.old.recording.params.cores }
+        requires told { done.core < place.old.recording.params.cores }
+        ensures kept { IsKept place.old place.new }
+        ensures walks { IfOk result (λ stop.
+            WalksBack (stopping_of self.now) lead place.old to.now place.new stop done) }
+        ensures core { IfOk result (λ stop. stop.core < place.old.recording.params.cores) }
+    {
+        // The place is at a closed cut, so each core of the way was ready where its place came.
+        let _ = place.cut();
+        match place.back(alloc, self, to)? {
+            None => Ok(done),
+            Some(core) => self.halt_back(alloc, place, lead, core),
+        }
+    }
+
+    /// What stopped it behind a core's access, or before the core's instruction.
+    pub fn halt_back(&self, alloc: Global, place: &mut Place, lead: u8, core: u8) -> Moved
+        requires valid { Valid place.old.recording }
+        requires lead { lead < place.old.recording.params.cores }
+        requires next { IsInstrOf place.old.recording (next_in (cut_at place.old) core) }
+        ensures kept { IsKept place.old place.new }
+        ensures halts { IfOk result (HaltsBack (stopping_of self.now) lead core place.old place.new) }
+        ensures core { IfOk result (λ stop. stop.core < place.old.recording.params.cores) }
+    {
+        if let Some(point) = touched(self.points, place.next_use(core)) {
+            place.step(alloc, core)?;
+            return Ok(plain_stop(teller(self.paused, lead, core), why_of(point)));
+        }
+        Ok(plain_stop(core, Why::Breakpoint))
+    }
 }
 
 /// Who is told of an access: the core, or the one that leads where the core isn't heard.
@@ -206,129 +253,10 @@ fn teller(heard: CoreSet, lead: u8, core: u8) -> u8
 fn fault_stop(hearing: &Hearing, core: u8) -> Stop
     ensures { result ≡ fault_stop (stopping_of hearing.now) core }
 {
-    let end = end_of(hearing.outcome, hearing.image, core);
+    let end = end_of(hearing.audited.outcome(), hearing.image, core);
     Stop {
         signal: signal_of(end).unwrap_or(Signal::Trap),
         core,
         why: Why::Nothing,
     }
-}
-
-/// A step back of a core.
-fn step_back_core(
-    alloc: Global,
-    audited: &Audited,
-    place: &mut Place,
-    hearing: &Hearing,
-    core: u8,
-) -> Result<Stop, AllocError>
-    requires run { IsOf audited.now place.old }
-    requires core { core < place.old.recording.params.cores }
-    ensures kept { IsKept place.old place.new }
-    ensures steps { IfOk result (StepsBackward (stopping_of hearing.now) core place.old place.new) }
-    ensures core { IfOk result (λ stop. stop.core < place.old.recording.params.cores) }
-{
-    let _ = audited.recording();
-    if !place.has_last(core) {
-        return Ok(plain_stop(core, Why::Begin));
-    }
-    let to = step_back(audited, &place.cut(), core)?;
-    walk_back(
-        alloc,
-        place,
-        hearing,
-        core,
-        &to,
-        plain_stop(core, Why::Nothing),
-    )
-}
-
-/// All cores go back.
-fn go_back(
-    alloc: Global,
-    audited: &Audited,
-    place: &mut Place,
-    hearing: &Hearing,
-    lead: u8,
-) -> Result<Stop, AllocError>
-    requires run { IsOf audited.now place.old }
-    requires lead { lead < place.old.recording.params.cores }
-    ensures kept { IsKept place.old place.new }
-    ensures goes { IfOk result (GoesBackward (stopping_of hearing.now) lead place.old place.new) }
-    ensures core { IfOk result (λ stop. stop.core < place.old.recording.params.cores) }
-{
-    let _ = audited.recording();
-    let to = Cut {
-        cores: place.cores(),
-        counts: [0; PLACES],
-    };
-    walk_back(
-        alloc,
-        place,
-        hearing,
-        lead,
-        &to,
-        plain_stop(lead, Why::Begin),
-    )
-}
-
-/// Goes the way from a closed cut to here back until something stops it.
-fn walk_back(
-    alloc: Global,
-    place: &mut Place,
-    hearing: &Hearing,
-    lead: u8,
-    to: &Cut,
-    done: Stop,
-) -> Result<Stop, AllocError>
-    requires valid { Valid place.old.recording }
-    requires closed { IsClosed place.old.which place.old.recording to.now }
-    requires within { IsContained to.now (cut_at place.old) }
-    requires lead { lead < place.old.recording.params.cores }
-    requires told { done.core < place.old.recording.params.cores }
-    ensures kept { IsKept place.old place.new }
-    ensures walks { IfOk result (λ stop.
-        WalksBack (stopping_of hearing.now) lead place.old to.now place.new stop done) }
-    ensures core { IfOk result (λ stop. stop.core < place.old.recording.params.cores) }
-{
-    // The place is at a closed cut, so each core of the way was ready where its place came.
-    let _ = place.cut();
-    match place.back(alloc, hearing, to)? {
-        None => Ok(done),
-        Some(core) => halt_back(alloc, place, hearing, lead, core),
-    }
-}
-
-/// What stopped it behind a core's access, or before the core's instruction.
-pub(crate) fn halt_back(
-    alloc: Global,
-    place: &mut Place,
-    hearing: &Hearing,
-    lead: u8,
-    core: u8,
-) -> Result<Stop, AllocError>
-    requires valid { Valid place.old.recording }
-    requires lead { lead < place.old.recording.params.cores }
-    requires next { IsInstrOf place.old.recording (next_in (cut_at place.old) core) }
-    ensures kept { IsKept place.old place.new }
-    ensures halts { IfOk result (HaltsBack (stopping_of hearing.now) lead core place.old place.new) }
-    ensures core { IfOk result (λ stop. stop.core < place.old.recording.params.cores) }
-{
-    if let Some(point) = touched(hearing.points, place.next_use(core)) {
-        place.step(alloc, core)?;
-        return Ok(plain_stop(teller(hearing.paused, lead, core), why_of(point)));
-    }
-    Ok(plain_stop(core, Why::Breakpoint))
-}
-
-/// The cut with all instructions of each core.
-pub(crate) fn whole(audited: &Audited) -> Cut
-    ensures { IsWholeCut audited.now.recording result }
-{
-    let cores = audited.recording().params.cores;
-    let mut counts = [0; PLACES];
-    for core in 0..cores {
-        counts[core as usize] = audited.recording().totals.as_slice()[core as usize];
-    }
-    Cut { cores, counts }
 }

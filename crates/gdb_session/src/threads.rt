@@ -6,13 +6,14 @@ ghost use Rattle.gdb_session.specs.Seats.{Sees};
 ghost use Rattle.gdb_session.specs.Threads.{end_text, head_text, id_text, names_text, row_text, rows_text};
 ghost use Rattle.gdb_session.specs.Threads.{thread_text, threads_text, wait_text, waits_of, waits_text};
 
-use crate::ends::{end_name, end_of};
+use crate::ends::end_of;
 use crate::waits::waits_of;
 use debug_place::Place;
 use image_mem::Image;
 use replay_audit::Audited;
 use rtr_types::Instr;
 use rv_core::Stop;
+use state_text::stop_name;
 use std::alloc::{AllocError, Global};
 
 /// That a part of a text was put.
@@ -61,7 +62,7 @@ fn put_waiting(alloc: Global, text: &mut String, audited: &Audited, place: &Plac
 fn put_end(text: &mut String, end: Stop) -> Put
     ensures { OnOk result (string_bytes text.new ≡ string_bytes text.old ++ end_text end) }
 {
-    let name = end_name(end);
+    let name = stop_name(end);
     write!(text, ", {name}")
 }
 

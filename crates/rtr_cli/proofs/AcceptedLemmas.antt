@@ -1,5 +1,6 @@
 -- What a command accepts it refuses for want of memory alone.
 use Rattle.std.proofs.Common.{◌≡◌, refl, sym, subst, ℕ, List, inl, inr, arith}
+use Rattle.image_elf.specs.declared.elf_fault.ElfFault.{ElfFault}
 use Rattle.image_mem.specs.Contents.{Contents}
 use Rattle.certificate_codec.specs.declared.certificate.Certificate.{Certificate}
 use Rattle.certificate_codec.specs.Reading.{certificate_at}
@@ -28,18 +29,18 @@ use Rattle.run_replays.proofs.BothLogs.{both_replay}
 use Rattle.schedule_pick.specs.Choices.{Choices, choices_of}
 use Rattle.rtr_types.specs.Parameters.{Fits}
 use Rattle.rtr_types.specs.declared.access.Access.{Access}
+use Rattle.rtr_types.specs.declared.instr.Instr.{Instr}
 use Rattle.rtr_types.specs.declared.pairs.Which.{Which}
 use Rattle.rtr_types.specs.declared.pairs.Which.TheVariants.{Reduced, Regulated}
 use Rattle.rtr_types.specs.declared.params.Params.{Params}
 use Rattle.tool_words.specs.declared.command.Command.{Command}
 use Rattle.tool_words.specs.declared.command.Command.TheVariants.{Record, Run, Print, Replay, Migrate, Certify, Check}
-use Rattle.tool_words.specs.declared.command.Command.TheVariants.{Gen, Soak, At}
-use Rattle.tool_words.specs.declared.command.Command.TheVariants.{Thin, CheckThin, TsoRecord, TsoRun, TsoReplay}
+use Rattle.tool_words.specs.declared.command.Command.TheVariants.{Soak, At, Thin, CheckThin, TsoReplay}
 use Rattle.vector_reduce.specs.Answers.{AreFew, AreTooMany, IsTooMany, IsNotShown as IsNotNeededShown}
 use Rattle.vector_reduce.specs.Reading.{thinned_at}
-use Rattle.rtr_cli.specs.Commands.{IsNotLeast, image_of, loaded}
+use Rattle.rtr_cli.specs.Commands.{AuditFails, IsAbsent, IsFaulty, IsNotLeast, IsNotNeeded, IsNotShown, IsTooLong}
+use Rattle.rtr_cli.specs.Commands.{IsUnread, Overflows, TsoStops, image_of, loaded}
 use Rattle.tso_codec.specs.Reading.{tso_at}
-use Rattle.rtr_cli.specs.Commands.{TsoStops}
 use Rattle.rtr_cli.specs.Completeness.{Accepts, AcceptedIsNotRefused, IsOfBuffers, IsOfCertify, IsOfRecord}
 use Rattle.rtr_cli.specs.Completeness.{IsOfRecordWith, IsOfRecordWithFew, IsOfThin}
 use Rattle.rtr_cli.proofs.BufferLemmas.{not_stopped}
@@ -119,180 +120,101 @@ certificate_passes c failure h fails =
     passed_is_accepted c (checks.Failed failure) (determinate_of c h) h.certifies.passes fails in
     absurd cc
 
+-- what it reads has a reading
+nothing_unread : (command : Command) (input : List ℕ) → Accepts command input → (part : ℕ)
+    → IsUnread command input part → ⊥
+nothing_unread Print input a part h = is_read (whole_at input) (λ r. Unit {0}) part a h
+nothing_unread (Replay which threads loads) input a part h = is_read (whole_at input) IsOfRecord part a h
+nothing_unread Migrate input a part h = is_read (whole_at input) (λ r. Unit {0}) part a h
+nothing_unread Certify input a part h = is_read (whole_at input) IsOfRecord part a h
+nothing_unread Check input a part h = is_read (certificate_at input) IsOfCertify part a h
+nothing_unread (At which at latest loads) input a part h = is_read (whole_at input) (IsOfRecordWith at) part a h
+nothing_unread (Thin certify) input a part h = is_read (whole_at input) IsOfRecordWithFew part a h
+nothing_unread CheckThin input a part h = is_read (thinned_at input) IsOfThin part a h
+nothing_unread (TsoReplay loads) input a part h = is_read (tso_at input) IsOfBuffers part a h
+nothing_unread command input a part h = h
+
+-- the recording has the instruction that it names
+nothing_absent : (command : Command) (input : List ℕ) → Accepts command input → (absent : Instr)
+    → IsAbsent command input absent → ⊥
+nothing_absent (At which at latest loads) input a absent h =
+    both_said (whole_at input) (IsOfRecordWith at) (λ r. IsInstrOf r at → ⊥) ⊥ (λ r is it. it is.1) a h.0
+nothing_absent command input a absent h = h
+
+-- no audit, and no replay, refuses it
+nothing_refused : (command : Command) (input : List ℕ) → Accepts command input → (fault : AuditFault)
+    → AuditFails command input fault → fault ≡ faults.OutOfMemory
+nothing_refused (Replay which threads loads) input a fault h =
+    both_said (whole_at input) IsOfRecord (λ r. AuditRefuses which r fault) (fault ≡ faults.OutOfMemory)
+    (λ r is it. not_audited which r fault is it) a h
+nothing_refused Certify input a fault h =
+    both_said (whole_at input) IsOfRecord (λ r. AuditRefuses Reduced r fault) (fault ≡ faults.OutOfMemory)
+    (λ r is it. not_audited Reduced r fault is it) a h
+nothing_refused Check input a fault h =
+    both_said (certificate_at input) IsOfCertify (λ c. AuditRefuses Reduced c.recording fault)
+    (fault ≡ faults.OutOfMemory) (λ c is it. certificate_not_audited c fault is it) a h
+nothing_refused (At which at latest loads) input a fault h =
+    both_said (whole_at input) (IsOfRecordWith at) (λ r. IsInstrOf r at × AuditRefuses which r fault)
+    (fault ≡ faults.OutOfMemory) (λ r is it. not_audited which r fault is.0 it.1) a h
+nothing_refused (Thin certify) input a fault h =
+    both_said (whole_at input) IsOfRecordWithFew (λ r. AuditRefuses Regulated r fault) (fault ≡ faults.OutOfMemory)
+    (λ r is it. not_audited Regulated r fault is.0 it) a h
+nothing_refused CheckThin input a fault h =
+    both_said (thinned_at input) IsOfThin (λ t. AuditRefuses Regulated t.recording fault) (fault ≡ faults.OutOfMemory)
+    (λ t is it. determinate_not_audited Regulated t.recording fault is.1.determinate it) a h
+nothing_refused (TsoReplay loads) input a fault h =
+    both_said (tso_at input) IsOfBuffers (λ r. TsoStops r fault) (fault ≡ faults.OutOfMemory)
+    (λ r is it. not_stopped r fault is it) a h
+nothing_refused command input a fault h = absurd h
+
+-- its reduced log is shown to be least
+nothing_unshown : (command : Command) (input : List ℕ) → Accepts command input → (failure : CheckFailure)
+    → IsNotShown command input failure → ⊥
+nothing_unshown Certify input a failure h =
+    both_said (whole_at input) IsOfRecord (λ r. IsNotLeast r failure) ⊥ (λ r is it. not_amiss r failure is it) a h
+nothing_unshown Check input a failure h =
+    both_said (certificate_at input) IsOfCertify (λ c. CheckFails c failure) ⊥
+    (λ c is it. certificate_passes c failure is it) a h
+nothing_unshown command input a failure h = h
+
+-- its vectors are few
+nothing_too_long : (command : Command) (input : List ℕ) → Accepts command input → (vectors edges : ℕ)
+    → IsTooLong command input vectors edges → ⊥
+nothing_too_long (Thin certify) input a vectors edges h =
+    both_said (whole_at input) IsOfRecordWithFew (λ r. IsDeterminate Regulated r × IsTooMany r vectors edges) ⊥
+    (λ r is it. not_too_many r is.1 it.1.too_many) a h
+nothing_too_long command input a vectors edges h = h
+
+-- each of its vectors is shown to be needed
+nothing_needless : (command : Command) (input : List ℕ) → Accepts command input → (vector : ℕ)
+    → IsNotNeeded command input vector → ⊥
+nothing_needless CheckThin input a vector h =
+    both_said (thinned_at input) IsOfThin (λ t. IsNotNeededShown t vector) ⊥
+    (λ t is it. it.not_shown (is.1.shown.each it.before it.within).shown) a h
+nothing_needless command input a vector h = h
+
+-- its ELF file has no fault
+nothing_faulty : (command : Command) (input : List ℕ) → Accepts command input → (fault : ElfFault)
+    → IsFaulty command input fault → ⊥
+nothing_faulty (Record run) input a fault h = is_read (loaded run input) (λ bytes. Unit {0}) fault a h
+nothing_faulty (Run run loads) input a fault h = is_read (loaded run input) (λ bytes. Unit {0}) fault a h
+nothing_faulty command input a fault h = h
+
+-- the image that it makes fits the memory
+nothing_overflows : (command : Command) (input : List ℕ) → Accepts command input → Overflows command → ⊥
+nothing_overflows (Soak shape number params seed) input a h = absurd (omega (arith, a, h))
+nothing_overflows command input a h = h
+
 pub no_reason : (command : Command) (input : List ℕ) → Accepts command input → HasNoReason command input
-no_reason (Record run) input a = record {
-  read = λ part h. h;
-  present = λ at h. h;
-  audited = λ fault h. absurd h;
-  shown = λ failure h. h;
-  few = λ vectors edges h. h;
-  needed = λ vector h. h;
-  faultless = λ fault h. is_read (loaded run input) (λ bytes. Unit {0}) fault a h;
-  holds = λ h. h;
-}
-no_reason (Run run loads) input a = record {
-  read = λ part h. h;
-  present = λ at h. h;
-  audited = λ fault h. absurd h;
-  shown = λ failure h. h;
-  few = λ vectors edges h. h;
-  needed = λ vector h. h;
-  faultless = λ fault h. is_read (loaded run input) (λ bytes. Unit {0}) fault a h;
-  holds = λ h. h;
-}
-no_reason Print input a = record {
-  read = λ part h. is_read (whole_at input) (λ r. Unit {0}) part a h;
-  present = λ at h. h;
-  audited = λ fault h. absurd h;
-  shown = λ failure h. h;
-  few = λ vectors edges h. h;
-  needed = λ vector h. h;
-  faultless = λ fault h. h;
-  holds = λ h. h;
-}
-no_reason (Replay which threads loads) input a = record {
-  read = λ part h. is_read (whole_at input) IsOfRecord part a h;
-  present = λ at h. h;
-  audited = λ fault h.
-      both_said (whole_at input) IsOfRecord (λ r. AuditRefuses which r fault) (fault ≡ faults.OutOfMemory)
-      (λ r is it. not_audited which r fault is it) a h;
-  shown = λ failure h. h;
-  few = λ vectors edges h. h;
-  needed = λ vector h. h;
-  faultless = λ fault h. h;
-  holds = λ h. h;
-}
-no_reason Migrate input a = record {
-  read = λ part h. is_read (whole_at input) (λ r. Unit {0}) part a h;
-  present = λ at h. h;
-  audited = λ fault h. absurd h;
-  shown = λ failure h. h;
-  few = λ vectors edges h. h;
-  needed = λ vector h. h;
-  faultless = λ fault h. h;
-  holds = λ h. h;
-}
-no_reason Certify input a = record {
-  read = λ part h. is_read (whole_at input) IsOfRecord part a h;
-  present = λ at h. h;
-  audited = λ fault h.
-      both_said (whole_at input) IsOfRecord (λ r. AuditRefuses Reduced r fault) (fault ≡ faults.OutOfMemory)
-      (λ r is it. not_audited Reduced r fault is it) a h;
-  shown = λ failure h. both_said (whole_at input) IsOfRecord (λ r. IsNotLeast r failure) ⊥
-      (λ r is it. not_amiss r failure is it) a h;
-  few = λ vectors edges h. h;
-  needed = λ vector h. h;
-  faultless = λ fault h. h;
-  holds = λ h. h;
-}
-no_reason Check input a = record {
-  read = λ part h. is_read (certificate_at input) IsOfCertify part a h;
-  present = λ at h. h;
-  audited = λ fault h.
-      both_said (certificate_at input) IsOfCertify (λ c. AuditRefuses Reduced c.recording fault)
-      (fault ≡ faults.OutOfMemory)
-      (λ c is it. certificate_not_audited c fault is it) a h;
-  shown = λ failure h.
-      both_said (certificate_at input) IsOfCertify (λ c. CheckFails c failure) ⊥
-      (λ c is it. certificate_passes c failure is it) a h;
-  few = λ vectors edges h. h;
-  needed = λ vector h. h;
-  faultless = λ fault h. h;
-  holds = λ h. h;
-}
-no_reason (Gen shape number) input a = record {
-  read = λ part h. h;
-  present = λ at h. h;
-  audited = λ fault h. absurd h;
-  shown = λ failure h. h;
-  few = λ vectors edges h. h;
-  needed = λ vector h. h;
-  faultless = λ fault h. h;
-  holds = λ h. h;
-}
-no_reason (Soak shape number params seed) input a = record {
-  read = λ part h. h;
-  present = λ at h. h;
-  audited = λ fault h. absurd h;
-  shown = λ failure h. h;
-  few = λ vectors edges h. h;
-  needed = λ vector h. h;
-  faultless = λ fault h. h;
-  holds = λ more. absurd (omega (arith, a, more));
-}
-no_reason (At which at latest loads) input a = record {
-  read = λ part h. is_read (whole_at input) (IsOfRecordWith at) part a h;
-  present = λ absent h.
-      both_said (whole_at input) (IsOfRecordWith at) (λ r. IsInstrOf r at → ⊥) ⊥ (λ r is it. it is.1) a h.0;
-  audited = λ fault h.
-      both_said (whole_at input) (IsOfRecordWith at) (λ r. IsInstrOf r at × AuditRefuses which r fault)
-      (fault ≡ faults.OutOfMemory)
-      (λ r is it. not_audited which r fault is.0 it.1) a h;
-  shown = λ failure h. h;
-  few = λ vectors edges h. h;
-  needed = λ vector h. h;
-  faultless = λ fault h. h;
-  holds = λ h. h;
-}
-no_reason (Thin certify) input a = record {
-  read = λ part h. is_read (whole_at input) IsOfRecordWithFew part a h;
-  present = λ at h. h;
-  audited = λ fault h.
-      both_said (whole_at input) IsOfRecordWithFew (λ r. AuditRefuses Regulated r fault) (fault ≡ faults.OutOfMemory)
-      (λ r is it. not_audited Regulated r fault is.0 it) a h;
-  shown = λ failure h. h;
-  few = λ vectors edges h.
-      both_said (whole_at input) IsOfRecordWithFew (λ r. IsDeterminate Regulated r × IsTooMany r vectors edges) ⊥
-      (λ r is it. not_too_many r is.1 it.1.too_many) a h;
-  needed = λ vector h. h;
-  faultless = λ fault h. h;
-  holds = λ h. h;
-}
-no_reason CheckThin input a = record {
-  read = λ part h. is_read (thinned_at input) IsOfThin part a h;
-  present = λ at h. h;
-  audited = λ fault h.
-      both_said (thinned_at input) IsOfThin (λ t. AuditRefuses Regulated t.recording fault) (fault ≡ faults.OutOfMemory)
-      (λ t is it. determinate_not_audited Regulated t.recording fault is.1.determinate it) a h;
-  shown = λ failure h. h;
-  few = λ vectors edges h. h;
-  needed = λ vector h.
-      both_said (thinned_at input) IsOfThin (λ t. IsNotNeededShown t vector) ⊥
-      (λ t is it. it.not_shown (is.1.shown.each it.before it.within).shown) a h;
-  faultless = λ fault h. h;
-  holds = λ h. h;
-}
-no_reason (TsoRecord run) input a = record {
-  read = λ part h. h;
-  present = λ at h. h;
-  audited = λ fault h. absurd h;
-  shown = λ failure h. h;
-  few = λ vectors edges h. h;
-  needed = λ vector h. h;
-  faultless = λ fault h. h;
-  holds = λ h. h;
-}
-no_reason (TsoRun run loads) input a = record {
-  read = λ part h. h;
-  present = λ at h. h;
-  audited = λ fault h. absurd h;
-  shown = λ failure h. h;
-  few = λ vectors edges h. h;
-  needed = λ vector h. h;
-  faultless = λ fault h. h;
-  holds = λ h. h;
-}
-no_reason (TsoReplay loads) input a = record {
-  read = λ part h. is_read (tso_at input) IsOfBuffers part a h;
-  present = λ at h. h;
-  audited = λ fault h.
-      both_said (tso_at input) IsOfBuffers (λ r. TsoStops r fault) (fault ≡ faults.OutOfMemory)
-      (λ r is it. not_stopped r fault is it) a h;
-  shown = λ failure h. h;
-  few = λ vectors edges h. h;
-  needed = λ vector h. h;
-  faultless = λ fault h. h;
-  holds = λ h. h;
+no_reason command input a = record {
+  read = nothing_unread command input a;
+  present = nothing_absent command input a;
+  audited = nothing_refused command input a;
+  shown = nothing_unshown command input a;
+  few = nothing_too_long command input a;
+  needed = nothing_needless command input a;
+  faultless = nothing_faulty command input a;
+  holds = nothing_overflows command input a;
 }
 
 pub accepted_is_not_refused : AcceptedIsNotRefused

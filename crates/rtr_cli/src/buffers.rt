@@ -11,11 +11,9 @@ ghost use Rattle.tso_outcome.specs.Outcomes.{tso_outcome_of};
 ghost use Rattle.rtr_cli.specs.Commands.{IsTsoReplayed, Makes, Promised, TsoEnds, exit_of_replay, image_of};
 ghost use Rattle.rtr_cli.specs.Commands.{tso_replay_lines};
 
-use crate::commands::image;
+use crate::commands::{Planned, image};
 use replay_core::ReplayFault;
-use rtr_types::Params;
 use rv_core::Outcome;
-use schedule_pick::Schedule;
 use state_text::{Exit, state_text};
 use std::alloc::{AllocError, Global};
 use tool_words::RunWords;
@@ -37,14 +35,7 @@ pub(crate) fn tso_record_input(
     ensures refused { IfErr result (λ exit. exit ≡ Exit.OutOfMemory) }
 {
     are_bytes(input.as_slice());
-    let RunWords {
-        params,
-        choices,
-        seed,
-        ..
-    } = run;
-    let schedule = Schedule::new(choices.into_vec(), seed);
-    Ok(recorded(alloc, params, schedule, input)?)
+    Ok(recorded(alloc, Planned::of(run), input)?)
 }
 
 /// The text of how a run of the image ended that the input is, by cores with store buffers.
@@ -59,54 +50,40 @@ pub(crate) fn tso_run_input(
     ensures made { IfOk result (λ out. Makes (TsoRun run loads) input.items out.items) }
     ensures refused { IfErr result (λ exit. exit ≡ Exit.OutOfMemory) }
 {
-    let RunWords {
-        params,
-        choices,
-        seed,
-        ..
-    } = run;
-    let schedule = Schedule::new(choices.into_vec(), seed);
-    Ok(ran_text(alloc, params, schedule, loads, input)?)
+    Ok(ran_text(alloc, Planned::of(run), loads, input)?)
 }
 
 /// Bytes are below 256.
 fn are_bytes(bytes: &[u8])
     ensures { (i : ℕ) → slice_index bytes.now i < 256 }
 {
+    // The type of a byte says so.
     let _ = bytes;
 }
 
 /// The recording of a run of the image, spelled.
-fn recorded(
-    alloc: Global,
-    params: Params,
-    schedule: Schedule,
-    bytes: Vec<u8>,
-) -> Result<Vec<u8>, AllocError>
-    requires fits { Fits params }
-    requires within { vec_len bytes ≤ 4 * params.words }
+fn recorded(alloc: Global, run: Planned, bytes: Vec<u8>) -> Result<Vec<u8>, AllocError>
+    requires fits { Fits run.params }
+    requires within { vec_len bytes ≤ 4 * run.params.words }
     ensures { IfOk result (λ out. out.items
-        ≡ tso_spelling (tso_recording_of (image_of params bytes.items) params schedule)) }
+        ≡ tso_spelling (tso_recording_of (image_of run.params bytes.items) run.params run.schedule)) }
 {
+    let Planned { params, schedule } = run;
     let opening = image(bytes, params.words);
     let recording = tso_record_image(alloc, opening, params, schedule)?;
     tso_spell(alloc, &recording)
 }
 
 /// The text of how a run of the image ended.
-fn ran_text(
-    alloc: Global,
-    params: Params,
-    schedule: Schedule,
-    loads: bool,
-    bytes: Vec<u8>,
-) -> Result<Vec<u8>, AllocError>
-    requires fits { Fits params }
-    requires within { vec_len bytes ≤ 4 * params.words }
-    ensures { IfOk result (λ out. out.items ≡ state_lines
-        (tso_outcome_of (image_of params bytes.items) params schedule) (image_of params bytes.items) loads) }
+fn ran_text(alloc: Global, run: Planned, loads: bool, bytes: Vec<u8>) -> Result<Vec<u8>, AllocError>
+    requires fits { Fits run.params }
+    requires within { vec_len bytes ≤ 4 * run.params.words }
+    ensures { IfOk result (λ out. out.items
+        ≡ state_lines (tso_outcome_of (image_of run.params bytes.items) run.params run.schedule)
+        (image_of run.params bytes.items) loads) }
 {
     are_bytes(bytes.as_slice());
+    let Planned { params, schedule } = run;
     let opening = image(bytes, params.words);
     let ran = tso_run(alloc, opening, params, schedule)?;
     state_text(alloc, &ran.outcome, &ran.image, loads)

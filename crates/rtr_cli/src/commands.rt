@@ -10,6 +10,7 @@ ghost use Rattle.replay_audit.specs.Determinate.{IsDeterminate, low_outcome};
 ghost use Rattle.replay_core.specs.Plans.{recorded_image};
 ghost use Rattle.rtr_types.specs.Parameters.{Fits};
 ghost use Rattle.rtr_types.specs.declared.pairs.Which.TheVariants.{Reduced};
+ghost use Rattle.schedule_pick.specs.Choices.{choices_of};
 ghost use Rattle.state_text.specs.States.{state_lines};
 ghost use Rattle.tool_words.specs.Commands.{HasFittingParams};
 ghost use Rattle.min_certificate.specs.Answers.{Checks};
@@ -145,6 +146,32 @@ pub(crate) fn make(alloc: Global, command: Command, bytes: Vec<u8>) -> Result<Ve
     }
 }
 
+/// The parameters and the schedule of a run.
+#[derive(Drop)]
+pub(crate) struct Planned {
+    pub(crate) params: Params,
+    pub(crate) schedule: Schedule,
+}
+
+impl Planned {
+    /// The run that words ask for.
+    pub(crate) fn of(run: RunWords) -> Planned
+        ensures params { result.params ≡ run.params }
+        ensures schedule { result.schedule ≡ choices_of run.choices run.seed }
+    {
+        let RunWords {
+            params,
+            choices,
+            seed,
+            ..
+        } = run;
+        Planned {
+            params,
+            schedule: Schedule::new(choices.into_vec(), seed),
+        }
+    }
+}
+
 /// The recording of a run of the image that the input is, spelled.
 #[tactic(auto, using(crate::proofs::RecordingLemmas::record_promised))]
 fn record_input(alloc: Global, run: RunWords, input: Vec<u8>) -> Result<Vec<u8>, Exit>
@@ -155,14 +182,7 @@ fn record_input(alloc: Global, run: RunWords, input: Vec<u8>) -> Result<Vec<u8>,
     ensures refused { IfErr result (LoadEnds run input.items) }
 {
     let bytes = loaded(alloc, &run, input)?;
-    let RunWords {
-        params,
-        choices,
-        seed,
-        ..
-    } = run;
-    let schedule = Schedule::new(choices.into_vec(), seed);
-    Ok(record(alloc, params, schedule, bytes)?)
+    Ok(record(alloc, Planned::of(run), bytes)?)
 }
 
 /// The text of how a run of the image ended that the input is.
@@ -173,14 +193,7 @@ fn run_input(alloc: Global, run: RunWords, loads: bool, input: Vec<u8>) -> Resul
     ensures refused { IfErr result (LoadEnds run input.items) }
 {
     let bytes = loaded(alloc, &run, input)?;
-    let RunWords {
-        params,
-        choices,
-        seed,
-        ..
-    } = run;
-    let schedule = Schedule::new(choices.into_vec(), seed);
-    Ok(run_text(alloc, params, schedule, loads, bytes)?)
+    Ok(run_text(alloc, Planned::of(run), loads, bytes)?)
 }
 
 /// The bytes of the image that a run begins with: the input, or the flat image of the ELF file that it is.
@@ -202,35 +215,28 @@ fn loaded(alloc: Global, run: &RunWords, input: Vec<u8>) -> Result<Vec<u8>, Exit
 }
 
 /// The recording of a run of the image, spelled.
-fn record(
-    alloc: Global,
-    params: Params,
-    schedule: Schedule,
-    bytes: Vec<u8>,
-) -> Result<Vec<u8>, AllocError>
-    requires fits { Fits params }
-    requires within { vec_len bytes ≤ 4 * params.words }
-    ensures { IfOk result (λ out. out.items ≡ spelling (recording_of (image_of params bytes.items) params schedule)) }
+fn record(alloc: Global, run: Planned, bytes: Vec<u8>) -> Result<Vec<u8>, AllocError>
+    requires fits { Fits run.params }
+    requires within { vec_len bytes ≤ 4 * run.params.words }
+    ensures { IfOk result (λ out. out.items
+        ≡ spelling (recording_of (image_of run.params bytes.items) run.params run.schedule)) }
 {
+    let Planned { params, schedule } = run;
     let image = image(bytes, params.words);
     let recording = record_image(alloc, image, params, schedule)?;
     spell(alloc, &recording)
 }
 
 /// The text of how a run of the image ended.
-fn run_text(
-    alloc: Global,
-    params: Params,
-    schedule: Schedule,
-    loads: bool,
-    bytes: Vec<u8>,
-) -> Result<Vec<u8>, AllocError>
-    requires fits { Fits params }
-    requires within { vec_len bytes ≤ 4 * params.words }
-    ensures { IfOk result (λ out. out.items ≡ state_lines (outcome_of (image_of params bytes.items) params schedule)
-        (image_of params bytes.items) loads) }
+fn run_text(alloc: Global, run: Planned, loads: bool, bytes: Vec<u8>) -> Result<Vec<u8>, AllocError>
+    requires fits { Fits run.params }
+    requires within { vec_len bytes ≤ 4 * run.params.words }
+    ensures { IfOk result (λ out. out.items
+        ≡ state_lines (outcome_of (image_of run.params bytes.items) run.params run.schedule)
+        (image_of run.params bytes.items) loads) }
 {
     a_run_fits_its_image();
+    let Planned { params, schedule } = run;
     let opening = image(bytes, params.words);
     let ran = run_image(alloc, opening, params, schedule)?;
     state_text(alloc, &ran.outcome, &ran.image, loads)

@@ -27,6 +27,7 @@ pub fn show<R: Clock + Eprint + Threads + Clone + Send + Drop + 'static>(rt: &R,
 fn tell_each_second<R: Clock + Eprint>(rt: &R) {
     for seconds in 1..=SECONDS_MAX {
         thread::sleep(rt, Duration::from_secs(1));
+        // Progress is a courtesy: where it can't be shown, the run goes on.
         let _ = eprint!(rt; "rtr: {seconds} s\r");
     }
 }

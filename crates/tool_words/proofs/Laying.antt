@@ -1,13 +1,11 @@
--- To put a setting in is to lay settings of one option over those that were there; and settings of different options may
--- be laid in either order.
-use Rattle.std.proofs.Common.{◌≡◌, ◌≢◌, ℕ, ◌-◌, ◌^◌, Bool, true, false, ◌&&◌, ◌||◌, List, Option, Some, None, refl, sym, ap}
-use Rattle.std.proofs.Common.{◌∙◌, cond, is_some, arith}
+-- To put a setting in is to lay settings of one option over those that were there; and settings of different options
+-- may be laid in either order.
+use Rattle.std.proofs.Common.{◌≡◌, ◌≢◌, ℕ, ◌-◌, ◌^◌, Bool, true, false, ◌&&◌, ◌||◌, List, Option, Some, None, refl, sym}
+use Rattle.std.proofs.Common.{◌∙◌, ap, cond, is_some, arith}
 use Rattle.std.specs.Option.{option_map}
 use Rattle.std.proofs.Math.Bool.{or-false}
-use Rattle.rtr_types.specs.declared.pairs.Which.{Which}
 use Rattle.rtr_types.specs.declared.TheConstants.{CORES_MAX}
 use Rattle.rtr_types.specs.declared.params.TheConstants.{LIMIT_MAX}
-use Rattle.trace_gen.specs.declared.shape.Shape as shapes
 use Rattle.tool_words.specs.declared.options.Name.{Name}
 use Rattle.tool_words.specs.declared.options.Name.TheVariants.{Cores, Limit, Words, Choices, Seed}
 use Rattle.tool_words.specs.declared.options.Name.TheVariants.{Log, Loads, Elf, Shape, Number}
@@ -177,54 +175,22 @@ overlaps-before d e s h =
       is-some-pick e.threads d.threads s.threads (h Threads),
     ) refl
 
--- what is made of parts that are the same
-same-made : {X : Type 0} (made : Option ℕ → Option ℕ → Option ℕ → Option (List ℕ) → Option ℕ → Option Which → Bool →
-    Bool → Option shapes.Shape → Option ℕ → Option ℕ → Option ℕ → Bool → Bool → Option ℕ → X) (s t : Settings) → s.cores ≡
-    t.cores → s.limit ≡ t.limit → s.words ≡ t.words → s.choices ≡ t.choices → s.seed ≡ t.seed → s.log ≡ t.log → s.loads ≡
-    t.loads → s.elf ≡ t.elf → s.shape ≡ t.shape → s.number ≡ t.number → s.core ≡ t.core → s.count ≡ t.count → s.latest ≡
-    t.latest → s.certify ≡ t.certify → s.threads ≡ t.threads → made s.cores s.limit s.words s.choices s.seed s.log s.loads
-    s.elf s.shape s.number s.core s.count s.latest s.certify s.threads ≡ made t.cores t.limit t.words t.choices t.seed
-    t.log t.loads t.elf t.shape t.number t.core t.count t.latest t.certify t.threads
-same-made made s t p0 p1 p2 p3 p4 p5 p6 p7 p8 p9 p10 p11 p12 p13 p14 =
-    rw (p0, p1, p2, p3, p4, p5, p6, p7, p8, p9, p10, p11, p12, p13, p14) refl
-
-same-fields : (s t : Settings) → s.cores ≡ t.cores → s.limit ≡ t.limit → s.words ≡ t.words → s.choices ≡ t.choices →
-    s.seed ≡ t.seed → s.log ≡ t.log → s.loads ≡ t.loads → s.elf ≡ t.elf → s.shape ≡ t.shape → s.number ≡ t.number → s.core
-    ≡ t.core → s.count ≡ t.count → s.latest ≡ t.latest → s.certify ≡ t.certify → s.threads ≡ t.threads → s ≡ t
-same-fields =
-    same-made (λ cores limit words choices seed log loads elf shape number core count latest certify threads. record {
-      cores = cores;
-      limit = limit;
-      words = words;
-      choices = choices;
-      seed = seed;
-      log = log;
-      loads = loads;
-      elf = elf;
-      shape = shape;
-      number = number;
-      core = core;
-      count = count;
-      latest = latest;
-      certify = certify;
-      threads = threads;
-    })
-
 pub merge-merge : (d e s : Settings) → Apart d e → merge e (merge d s) ≡ merge d (merge e s)
 merge-merge d e s h =
-    same-fields (merge e (merge d s)) (merge d (merge e s))
-    (pick-pick e.cores d.cores s.cores (h Cores))
-    (pick-pick e.limit d.limit s.limit (h Limit))
-    (pick-pick e.words d.words s.words (h Words))
-    (pick-pick e.choices d.choices s.choices (h Choices))
-    (pick-pick e.seed d.seed s.seed (h Seed))
-    (pick-pick e.log d.log s.log (h Log))
-    (or-or e.loads d.loads s.loads)
-    (or-or e.elf d.elf s.elf)
-    (pick-pick e.shape d.shape s.shape (h Shape))
-    (pick-pick e.number d.number s.number (h Number))
-    (pick-pick e.core d.core s.core (h Core))
-    (pick-pick e.count d.count s.count (h Count))
-    (or-or e.latest d.latest s.latest)
-    (or-or e.certify d.certify s.certify)
-    (pick-pick e.threads d.threads s.threads (h Threads))
+    rw (
+      pick-pick e.cores d.cores s.cores (h Cores),
+      pick-pick e.limit d.limit s.limit (h Limit),
+      pick-pick e.words d.words s.words (h Words),
+      pick-pick e.choices d.choices s.choices (h Choices),
+      pick-pick e.seed d.seed s.seed (h Seed),
+      pick-pick e.log d.log s.log (h Log),
+      or-or e.loads d.loads s.loads,
+      or-or e.elf d.elf s.elf,
+      pick-pick e.shape d.shape s.shape (h Shape),
+      pick-pick e.number d.number s.number (h Number),
+      pick-pick e.core d.core s.core (h Core),
+      pick-pick e.count d.count s.count (h Count),
+      or-or e.latest d.latest s.latest,
+      or-or e.certify d.certify s.certify,
+      pick-pick e.threads d.threads s.threads (h Threads),
+    ) refl

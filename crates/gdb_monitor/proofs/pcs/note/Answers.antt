@@ -1,3 +1,5 @@
+-- Place by place along the timeline: the lists have the pcs of the instructions passed, and room for one more. The
+-- recording is determinate, so the core of each place can go on.
 use Rattle.std.proofs.Common.{List, ℕ, ◌+◌, get_or, drop, ap, subst, ◌∙◌, arith}
 use Rattle.std.proofs.Math.ListN.{drop_of_length-le}
 use Rattle.roomy_lists.specs.Lists.{items_in, with_item}

@@ -1,3 +1,5 @@
+-- Packet by packet: what was said and heard so far is a session that stands at this point of the wire; each end of the
+-- loop is one of the session's ends.
 use Rattle.std.proofs.Common.{◌∙◌, refl, sym}
 use Rattle.gdb_server.specs.declared.hearing.TalkFault.TheVariants as faults
 use Rattle.gdb_server.proofs.SessionLemmas.{no_fault, sits_first, sits_followed, talked_no_more, talked_out}

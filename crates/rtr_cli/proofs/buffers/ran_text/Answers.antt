@@ -10,24 +10,26 @@ use Rattle.rtr_cli.proofs.buffers.ran_text.Goals as goal
 use Rattle.rtr_cli.proofs.buffers.ran_text.Goals.{In_ok-ran}
 
 -- the image that was run, and what the run came to
-image_is : (c : In_ok-ran) → c.in_ok-ran.ran.image ≡ image_of c.args.params c.args.bytes.items
+image_is : (c : In_ok-ran) → c.in_ok-ran.ran.image ≡ image_of c.args.run.params c.args.bytes.items
 image_is c = c.in_ok-ran.ensures.image ∙ c.image-opening.ensures
 
 outcome_is : (c : In_ok-ran) →
-    c.in_ok-ran.ran.outcome ≡ tso_outcome_of (image_of c.args.params c.args.bytes.items) c.args.params c.args.schedule
+    c.in_ok-ran.ran.outcome
+    ≡ tso_outcome_of (image_of c.args.run.params c.args.bytes.items) c.args.run.params c.args.run.schedule
 outcome_is c = c.in_ok-ran.ensures.outcome
-    ∙ ap (λ (i : Contents). tso_outcome_of i c.args.params c.args.schedule) c.image-opening.ensures
+    ∙ ap (λ (i : Contents). tso_outcome_of i c.args.run.params c.args.run.schedule) c.image-opening.ensures
 
 -- what the run came to is an outcome over its image
 pub state_text-requires : goal.state_text-requires
 state_text-requires c =
     let here = (goal.at.state_text-requires c).In_ok-ran in
     let small = rw c.as_slice.ensures.value at c.are_bytes.ensures in
-    let room : length c.args.bytes.items ≤ 4 * c.args.params.words =
+    let room : length c.args.bytes.items ≤ 4 * c.args.run.params.words =
     omega (arith, c.requires.within, c.args.bytes.ok.0) in
-    let fits = tso_run_fits c.args.params c.args.schedule c.args.bytes.items c.requires.fits room small in
+    let fits = tso_run_fits c.args.run.params c.args.run.schedule c.args.bytes.items c.requires.fits room small in
     subst (λ (i : Contents). IsOutcomeOf i c.in_ok-ran.ran.outcome) (sym (image_is here))
-    (subst (λ (o : Outcome). IsOutcomeOf (image_of c.args.params c.args.bytes.items) o) (sym (outcome_is here)) fits)
+    (subst (λ (o : Outcome). IsOutcomeOf (image_of c.args.run.params c.args.bytes.items) o) (sym (outcome_is here))
+    fits)
 
 pub returns : goal.returns
 returns c =
@@ -35,6 +37,7 @@ returns c =
     IfOk-weaker c.state_text.result _ _
     (λ out is. is ∙ ap (λ (o : Outcome). state_lines o c.in_ok-ran.ran.image c.args.loads) (outcome_is here)
     ∙ ap (λ (i : Contents). state_lines
-    (tso_outcome_of (image_of c.args.params c.args.bytes.items) c.args.params c.args.schedule) i c.args.loads)
+    (tso_outcome_of (image_of c.args.run.params c.args.bytes.items) c.args.run.params c.args.run.schedule) i
+    c.args.loads)
     (image_is here))
     c.state_text.ensures

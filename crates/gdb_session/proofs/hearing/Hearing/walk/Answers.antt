@@ -4,13 +4,13 @@ use Rattle.std.proofs.lemmas.Result.{IfOk-weaker}
 use Rattle.debug_place.specs.Stops.{GoesOn}
 use Rattle.gdb_session.specs.Stopping.{stopping_of, stops_at}
 use Rattle.gdb_session.proofs.OnWays.{next_forward}
-use Rattle.gdb_session.proofs.moves.walk.Goals as goal
-use Rattle.gdb_session.proofs.moves.walk.Goals.{In-Some}
+use Rattle.gdb_session.proofs.hearing.Hearing.walk.Goals as goal
+use Rattle.gdb_session.proofs.hearing.Hearing.walk.Goals.{In-Some}
 
 -- how far the way was gone
-gone : (c : In-Some) → GoesOn (stops_at (stopping_of c.args.hearing.now)) c.args.place.now c.args.to.now
+gone : (c : In-Some) → GoesOn (stops_at (stopping_of c.args.self.now)) c.args.place.now c.args.to.now
     c.go_to.new.self (Some c.in-Some.core)
-gone c = subst (λ (o : Option ℕ). GoesOn (stops_at (stopping_of c.args.hearing.now)) c.args.place.now c.args.to.now
+gone c = subst (λ (o : Option ℕ). GoesOn (stops_at (stopping_of c.args.self.now)) c.args.place.now c.args.to.now
     c.go_to.new.self o) c.in-Some.is c.in_ok-go_to.ensures.ok
 
 pub halt-requires-clause-next : goal.halt-requires-clause-next

@@ -1,3 +1,4 @@
+-- Turn by turn: the place that comes next is found by the counts reached so far, and each turn adds one to them.
 use Rattle.std.proofs.Common.{◌∙◌, ◌<◌, ◌+◌, List, ℕ, length, get_or, refl, sym, subst, arith}
 use Rattle.std.specs.Prelude.{Option, Some, MatchOption, slice_index, slice_set}
 use Rattle.std.proofs.lemmas.Bool.{leb-false, leb-true}
@@ -9,9 +10,10 @@ use Rattle.gdb_session.specs.Moves.{StepsFree, StepsInto}
 use Rattle.gdb_session.specs.Stopping.{stopping_of}
 use Rattle.gdb_session.proofs.TurnLemmas.{IsTurning, line_inside, turn_few, turn_inside, turn_next, turn_passed}
 use Rattle.gdb_session.proofs.TurnLemmas.{turn_room, turn_taken, turn_there}
-use Rattle.gdb_session.proofs.turns.go_with.Goals as goal
-use Rattle.gdb_session.proofs.turns.go_with.Goals.{After-timeline, then-has+then-lacks+in_ok-stop+in_default, else-has}
-use Rattle.gdb_session.proofs.turns.go_with.Goals.{else-has-via-then-has+else-lacks, else-has-via-else-has}
+use Rattle.gdb_session.proofs.hearing.Hearing.go_with.Goals as goal
+use Rattle.gdb_session.proofs.hearing.Hearing.go_with.Goals.{After-timeline, else-has, else-has-via-else-has}
+use Rattle.gdb_session.proofs.hearing.Hearing.go_with.Goals.{else-has-via-then-has+else-lacks}
+use Rattle.gdb_session.proofs.hearing.Hearing.go_with.Goals.{then-has+then-lacks+in_ok-stop+in_default}
 
 -- the recording is valid, and the timeline has this place
 valid : (c : After-timeline) → Valid c.args.place.now.recording
@@ -64,7 +66,7 @@ returns-in-Some-clause-goes c =
     let here = (goal.at.returns-in-Some-clause-goes c).After-timeline in
     let h = c.loop-number.invariant in
     let core = get_or c.timeline.result.now c.loop-number.number 0 in
-    let stopping = stopping_of c.args.hearing.now in
+    let stopping = stopping_of c.args.self.now in
     record {
       turns = h.turns;
       mid = c.loop-number.place;
@@ -86,7 +88,7 @@ loop-number-preserved c =
     let now = c.loop-number.place in
     let core = get_or c.timeline.result.now c.loop-number.number 0 in
     let at = c.loop-number.at in
-    let stopping = stopping_of c.args.hearing.now in
+    let stopping = stopping_of c.args.self.now in
     let new : List ℕ = slice_set at core (slice_index at core + 1) in
     elim c.if-has.branch [
       | then-has+then-lacks+in_ok-stop+in_default w ↦

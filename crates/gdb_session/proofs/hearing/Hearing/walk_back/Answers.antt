@@ -4,13 +4,13 @@ use Rattle.std.proofs.lemmas.Result.{IfOk-weaker}
 use Rattle.debug_place.specs.Backs.{GoesBack}
 use Rattle.gdb_session.specs.Stopping.{stopping_of, stops_at}
 use Rattle.gdb_session.proofs.OnWays.{next_backward}
-use Rattle.gdb_session.proofs.moves.walk_back.Goals as goal
-use Rattle.gdb_session.proofs.moves.walk_back.Goals.{In-Some}
+use Rattle.gdb_session.proofs.hearing.Hearing.walk_back.Goals as goal
+use Rattle.gdb_session.proofs.hearing.Hearing.walk_back.Goals.{In-Some}
 
 -- how far the way was gone back
-gone : (c : In-Some) → GoesBack (stops_at (stopping_of c.args.hearing.now)) c.args.place.now c.args.to.now
+gone : (c : In-Some) → GoesBack (stops_at (stopping_of c.args.self.now)) c.args.place.now c.args.to.now
     c.back.new.self (Some c.in-Some.core)
-gone c = subst (λ (o : Option ℕ). GoesBack (stops_at (stopping_of c.args.hearing.now)) c.args.place.now c.args.to.now
+gone c = subst (λ (o : Option ℕ). GoesBack (stops_at (stopping_of c.args.self.now)) c.args.place.now c.args.to.now
     c.back.new.self o) c.in-Some.is c.in_ok-back.ensures.ok
 
 pub halt_back-requires-clause-next : goal.halt_back-requires-clause-next

@@ -8,8 +8,8 @@ use Rattle.debug_place.specs.Stops.{GoesOn}
 use Rattle.gdb_session.specs.Stopping.{stopping_of, stops_at}
 use Rattle.gdb_session.proofs.OnWays.{next_forward}
 use Rattle.gdb_session.proofs.TurnLemmas.{free_step, stepped}
-use Rattle.gdb_session.proofs.turns.step_until.Goals as goal
-use Rattle.gdb_session.proofs.turns.step_until.Goals.{In_ok-to, In-Some}
+use Rattle.gdb_session.proofs.hearing.Hearing.step_until.Goals as goal
+use Rattle.gdb_session.proofs.hearing.Hearing.step_until.Goals.{In_ok-to, In-Some}
 
 -- the step, said of the place
 made : (c : In_ok-to) → IsStep c.args.place.now.which c.args.place.now.recording (cut_at c.args.place.now)
@@ -17,9 +17,9 @@ made : (c : In_ok-to) → IsStep c.args.place.now.which c.args.place.now.recordi
 made c = stepped _ _ c.requires.run _ _ _ c.cut.ensures.cut c.in_ok-to.ensures.step
 
 -- how far the way was gone
-gone : (c : In-Some) → GoesOn (stops_at (stopping_of c.args.hearing.now)) c.args.place.now c.in_ok-to.to
+gone : (c : In-Some) → GoesOn (stops_at (stopping_of c.args.self.now)) c.args.place.now c.in_ok-to.to
     c.go_to.new.self (Some c.in-Some.before)
-gone c = subst (λ (o : Option ℕ). GoesOn (stops_at (stopping_of c.args.hearing.now)) c.args.place.now c.in_ok-to.to
+gone c = subst (λ (o : Option ℕ). GoesOn (stops_at (stopping_of c.args.self.now)) c.args.place.now c.in_ok-to.to
     c.go_to.new.self o) c.in-Some.is c.in_ok-go_to.ensures.ok
 
 pub halt-requires-clause-next : goal.halt-requires-clause-next
@@ -31,10 +31,10 @@ halt-requires-clause-next c =
     (gone at.In-Some)
 
 pub returns-in-None-clause-steps : goal.returns-in-None-clause-steps
-returns-in-None-clause-steps c = free_step (stopping_of c.args.hearing.now) c.args.core c.args.place.now
+returns-in-None-clause-steps c = free_step (stopping_of c.args.self.now) c.args.core c.args.place.now
     c.go_to.new.self c.in_ok-to.to (record { recording = c.go_to.ensures.recording; which = c.go_to.ensures.which })
     (made (goal.at.returns-in-None-clause-steps c).In_ok-to)
-    (subst (λ (o : Option ℕ). GoesOn (stops_at (stopping_of c.args.hearing.now)) c.args.place.now c.in_ok-to.to
+    (subst (λ (o : Option ℕ). GoesOn (stops_at (stopping_of c.args.self.now)) c.args.place.now c.in_ok-to.to
     c.go_to.new.self o) c.in-None.is c.in_ok-go_to.ensures.ok)
 
 pub returns-in_ok-halt-in-Some-clause-steps : goal.returns-in_ok-halt-in-Some-clause-steps

@@ -1,3 +1,5 @@
+-- Turn by turn: the place that comes next on the way back is found by the counts that are left, and each turn takes
+-- back one of them.
 use Rattle.std.proofs.Common.{◌≡◌, ◌∙◌, ◌<◌, ◌+◌, ◌-◌, List, ℕ, length, get_or, refl, sym, subst, arith}
 use Rattle.std.specs.Prelude.{Option, Some, MatchOption, slice_index, slice_set}
 use Rattle.std.proofs.lemmas.Bool.{leb-false, leb-true}
@@ -13,10 +15,10 @@ use Rattle.gdb_session.proofs.EndLemmas.{whole_at}
 use Rattle.gdb_session.proofs.BackLemmas.{IsTurningBack, back_count, back_few, back_inside, back_last, back_passed}
 use Rattle.gdb_session.proofs.BackLemmas.{back_taken, back_there, turning_last}
 use Rattle.gdb_session.proofs.TurnLemmas.{line_inside}
-use Rattle.gdb_session.proofs.turns.go_back_with.Goals as goal
-use Rattle.gdb_session.proofs.turns.go_back_with.Goals.{After-timeline, then-has+then-not-lacks+in_ok-stop+in_default}
-use Rattle.gdb_session.proofs.turns.go_back_with.Goals.{else-has}
-use Rattle.gdb_session.proofs.turns.go_back_with.Goals.{else-has-via-then-has+else-not-lacks, else-has-via-else-has}
+use Rattle.gdb_session.proofs.hearing.Hearing.go_back_with.Goals as goal
+use Rattle.gdb_session.proofs.hearing.Hearing.go_back_with.Goals.{After-timeline, else-has, else-has-via-else-has}
+use Rattle.gdb_session.proofs.hearing.Hearing.go_back_with.Goals.{else-has-via-then-has+else-not-lacks}
+use Rattle.gdb_session.proofs.hearing.Hearing.go_back_with.Goals.{then-has+then-not-lacks+in_ok-stop+in_default}
 
 -- the recording is valid, and the timeline has the place before
 valid : (c : After-timeline) → Valid c.args.place.now.recording
@@ -31,7 +33,7 @@ inside c = line_inside _ _ c.loop-number.invariant.kept _ _ c.timeline.ensures c
 
 pub loop-number-init : goal.loop-number-init
 loop-number-init c =
-    let a = c.args.audited.now in
+    let a = c.args.self.now.audited.now in
     let place = c.args.place.now in
     let valid : Valid place.recording =
     subst (λ (r : Recording). Valid r) c.requires.run.recording c.recording.ensures.valid in
@@ -39,7 +41,7 @@ loop-number-init c =
     subst (λ (w : Which). IsDeterminate w place.recording) c.requires.run.which
     (subst (λ (r : Recording). IsDeterminate a.which r) c.requires.run.recording
     c.outcome.ensures.passed.determinate) in
-    turning_last (stopping_of c.args.hearing.now) c.args.cores place c.whole.result c.timeline-number.result.now valid
+    turning_last (stopping_of c.args.self.now) c.args.cores place c.whole.result c.timeline-number.result.now valid
     determinate c.cut.ensures.stands (whole_at a place c.whole.result c.requires.run c.whole.ensures)
     c.timeline-number.ensures
 
@@ -78,7 +80,7 @@ returns-in-Some-clause-goes c =
     let here = (goal.at.returns-in-Some-clause-goes c).After-timeline in
     let h = c.loop-number.invariant in
     let core = get_or c.timeline.result.now (c.loop-number.number - 1) 0 in
-    let stopping = stopping_of c.args.hearing.now in
+    let stopping = stopping_of c.args.self.now in
     record {
       turns = h.turns;
       mid = c.loop-number.place;
@@ -106,7 +108,7 @@ loop-number-preserved c =
     let now = c.loop-number.place in
     let core = get_or c.timeline.result.now (c.loop-number.number - 1) 0 in
     let at = c.loop-number.at in
-    let stopping = stopping_of c.args.hearing.now in
+    let stopping = stopping_of c.args.self.now in
     let new : List ℕ = slice_set at core (slice_index at core - 1) in
     elim c.if-has.branch [
       | then-has+then-not-lacks+in_ok-stop+in_default w ↦

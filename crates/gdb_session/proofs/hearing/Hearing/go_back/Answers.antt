@@ -8,7 +8,7 @@ use Rattle.cut_moves.proofs.Hulls.{empty_closed, empty_cut}
 use Rattle.debug_place.proofs.OwnCuts.{none_in}
 use Rattle.gdb_session.specs.Moves.{WalksBack}
 use Rattle.gdb_session.specs.Stopping.{stopping_of}
-use Rattle.gdb_session.proofs.moves.go_back.Goals as goal
+use Rattle.gdb_session.proofs.hearing.Hearing.go_back.Goals as goal
 
 pub walk_back-requires-clause-closed : goal.walk_back-requires-clause-closed
 walk_back-requires-clause-closed c =
@@ -24,7 +24,7 @@ returns-clause-goes c =
     let old = c.args.place.now in
     let cores = c.cores.result in
     let walks = subst (λ (told : stops.Stop). IfOk c.walk_back.result (λ stop.
-    WalksBack (stopping_of c.args.hearing.now) c.args.lead old (empty_cut cores) c.walk_back.new.place stop told))
+    WalksBack (stopping_of c.args.self.now) c.args.lead old (empty_cut cores) c.walk_back.new.place stop told))
     c.plain_stop.ensures c.walk_back.ensures.walks in
     IfOk-weaker c.walk_back.result _ _ (λ stop way. record {
       to = empty_cut cores;

@@ -8,8 +8,8 @@ use Rattle.debug_place.specs.Backs.{GoesBack}
 use Rattle.gdb_session.specs.Stopping.{stopping_of, stops_at}
 use Rattle.gdb_session.proofs.OnWays.{next_backward}
 use Rattle.gdb_session.proofs.BackLemmas.{free_back, stepped_back}
-use Rattle.gdb_session.proofs.turns.step_back_until.Goals as goal
-use Rattle.gdb_session.proofs.turns.step_back_until.Goals.{In_ok-to, In-Some}
+use Rattle.gdb_session.proofs.hearing.Hearing.step_back_until.Goals as goal
+use Rattle.gdb_session.proofs.hearing.Hearing.step_back_until.Goals.{In_ok-to, In-Some}
 
 -- the step back, said of the place
 unmade : (c : In_ok-to) → IsStepBack c.args.place.now.which c.args.place.now.recording (cut_at c.args.place.now)
@@ -17,9 +17,9 @@ unmade : (c : In_ok-to) → IsStepBack c.args.place.now.which c.args.place.now.r
 unmade c = stepped_back _ _ c.requires.run _ _ _ c.cut.ensures.cut c.in_ok-to.ensures.back
 
 -- how far the way was gone back
-gone : (c : In-Some) → GoesBack (stops_at (stopping_of c.args.hearing.now)) c.args.place.now c.in_ok-to.to
+gone : (c : In-Some) → GoesBack (stops_at (stopping_of c.args.self.now)) c.args.place.now c.in_ok-to.to
     c.back.new.self (Some c.in-Some.before)
-gone c = subst (λ (o : Option ℕ). GoesBack (stops_at (stopping_of c.args.hearing.now)) c.args.place.now c.in_ok-to.to
+gone c = subst (λ (o : Option ℕ). GoesBack (stops_at (stopping_of c.args.self.now)) c.args.place.now c.in_ok-to.to
     c.back.new.self o) c.in-Some.is c.in_ok-back.ensures.ok
 
 pub halt_back-requires-clause-next : goal.halt_back-requires-clause-next
@@ -31,10 +31,10 @@ halt_back-requires-clause-next c =
     (gone at.In-Some)
 
 pub returns-in-None-clause-steps : goal.returns-in-None-clause-steps
-returns-in-None-clause-steps c = free_back (stopping_of c.args.hearing.now) c.args.core c.args.place.now
+returns-in-None-clause-steps c = free_back (stopping_of c.args.self.now) c.args.core c.args.place.now
     c.back.new.self c.in_ok-to.to (record { recording = c.back.ensures.recording; which = c.back.ensures.which })
     (unmade (goal.at.returns-in-None-clause-steps c).In_ok-to)
-    (subst (λ (o : Option ℕ). GoesBack (stops_at (stopping_of c.args.hearing.now)) c.args.place.now c.in_ok-to.to
+    (subst (λ (o : Option ℕ). GoesBack (stops_at (stopping_of c.args.self.now)) c.args.place.now c.in_ok-to.to
     c.back.new.self o) c.in-None.is c.in_ok-back.ensures.ok)
 
 pub returns-in_ok-halt_back-in-Some-clause-steps : goal.returns-in_ok-halt_back-in-Some-clause-steps
