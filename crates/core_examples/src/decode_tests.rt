@@ -15,9 +15,119 @@ fn own_word(word: u32) -> Option<u32> {
     if fits(&op) { Some(encode(&op)) } else { None }
 }
 
-fn goes_both_ways(rt: &impl Abort, word: u32, op: Op) {
-    reads_as(rt, word, &op);
-    assert_eq!(rt; own_word(word), Some(word), "writing {word:08x}");
+/// A word, and the instruction that is read of it.
+struct Word {
+    word: u32,
+    op: Op,
+}
+
+macro_rules! word {
+    ($word:literal => $op:expr) => {
+        Word {
+            word: $word,
+            op: $op,
+        }
+    };
+}
+
+/// Words that are those of their instructions.
+static WORDS: [Word; 64] = [
+    // Whole words.
+    word!(0x0ff0_000f => Op::Fence),
+    word!(0x0000_0073 => Op::Ecall),
+    word!(0x0010_0073 => Op::Ebreak),
+    // Operations on registers.
+    word!(0x0073_02b3 => Op::AluReg { alu: Alu::Add, rd: 5, rs1: 6, rs2: 7 }),
+    word!(0x41e0_8fb3 => Op::AluReg { alu: Alu::Sub, rd: 31, rs1: 1, rs2: 30 }),
+    word!(0x0031_10b3 => Op::AluReg { alu: Alu::Sll, rd: 1, rs1: 2, rs2: 3 }),
+    word!(0x0062_a233 => Op::AluReg { alu: Alu::Slt, rd: 4, rs1: 5, rs2: 6 }),
+    word!(0x0094_33b3 => Op::AluReg { alu: Alu::Sltu, rd: 7, rs1: 8, rs2: 9 }),
+    word!(0x00c5_c533 => Op::AluReg { alu: Alu::Xor, rd: 10, rs1: 11, rs2: 12 }),
+    word!(0x00f7_56b3 => Op::AluReg { alu: Alu::Srl, rd: 13, rs1: 14, rs2: 15 }),
+    word!(0x4128_d833 => Op::AluReg { alu: Alu::Sra, rd: 16, rs1: 17, rs2: 18 }),
+    word!(0x015a_69b3 => Op::AluReg { alu: Alu::Or, rd: 19, rs1: 20, rs2: 21 }),
+    word!(0x018b_fb33 => Op::AluReg { alu: Alu::And, rd: 22, rs1: 23, rs2: 24 }),
+    // Operations with an immediate.
+    word!(0x0045_1313 => Op::AluImm { alu: Alu::Sll, rd: 6, rs1: 10, imm: 4 }),
+    word!(0x01f5_5313 => Op::AluImm { alu: Alu::Srl, rd: 6, rs1: 10, imm: 31 }),
+    word!(0x41f5_5313 => Op::AluImm { alu: Alu::Sra, rd: 6, rs1: 10, imm: 31 }),
+    word!(0x1f40_0293 => Op::AluImm { alu: Alu::Add, rd: 5, rs1: 0, imm: 500 }),
+    word!(0x7ff1_0093 => Op::AluImm { alu: Alu::Add, rd: 1, rs1: 2, imm: 2047 }),
+    word!(0x0052_3193 => Op::AluImm { alu: Alu::Sltu, rd: 3, rs1: 4, imm: 5 }),
+    word!(0x0015_4393 => Op::AluImm { alu: Alu::Xor, rd: 7, rs1: 10, imm: 1 }),
+    word!(0x0fff_ff13 => Op::AluImm { alu: Alu::And, rd: 30, rs1: 31, imm: 255 }),
+    word!(0xfff2_8293 => Op::AluImm { alu: Alu::Add, rd: 5, rs1: 5, imm: -1 }),
+    word!(0x8001_0093 => Op::AluImm { alu: Alu::Add, rd: 1, rs1: 2, imm: -2048 }),
+    word!(0xffb2_2193 => Op::AluImm { alu: Alu::Slt, rd: 3, rs1: 4, imm: -5 }),
+    word!(0xf004_e413 => Op::AluImm { alu: Alu::Or, rd: 8, rs1: 9, imm: -256 }),
+    // JALR, and loads.
+    word!(0xffc2_80e7 => Op::Jalr { rd: 1, rs1: 5, imm: -4 }),
+    word!(0x0000_8067 => Op::Jalr { rd: 0, rs1: 1, imm: 0 }),
+    word!(0x0022_1183 => Op::Load { width: Width::Half, rd: 3, rs1: 4, imm: 2 }),
+    word!(0x1200_2603 => Op::Load { width: Width::Word, rd: 12, rs1: 0, imm: 288 }),
+    word!(0x7ff3_4283 => Op::Load { width: Width::ByteU, rd: 5, rs1: 6, imm: 2047 }),
+    word!(0xfff1_0083 => Op::Load { width: Width::Byte, rd: 1, rs1: 2, imm: -1 }),
+    word!(0x8004_5383 => Op::Load { width: Width::HalfU, rd: 7, rs1: 8, imm: -2048 }),
+    // Upper parts.
+    word!(0x1234_52b7 => Op::Lui { rd: 5, upper: 0x1_2345 }),
+    word!(0xffff_ffb7 => Op::Lui { rd: 31, upper: 0xf_ffff }),
+    word!(0x8000_00b7 => Op::Lui { rd: 1, upper: 0x8_0000 }),
+    word!(0x0000_1117 => Op::Auipc { rd: 2, upper: 1 }),
+    word!(0xffff_f197 => Op::Auipc { rd: 3, upper: 0xf_ffff }),
+    // Stores.
+    word!(0x0255_0023 => Op::Store { width: Width::Byte, rs1: 10, rs2: 5, imm: 32 }),
+    word!(0x1093_2023 => Op::Store { width: Width::Word, rs1: 6, rs2: 9, imm: 256 }),
+    word!(0x7e11_0fa3 => Op::Store { width: Width::Byte, rs1: 2, rs2: 1, imm: 2047 }),
+    word!(0xfe63_9f23 => Op::Store { width: Width::Half, rs1: 7, rs2: 6, imm: -2 }),
+    word!(0x81ff_2023 => Op::Store { width: Width::Word, rs1: 30, rs2: 31, imm: -2048 }),
+    // Jumps.
+    word!(0xffdf_f2ef => Op::Jal { rd: 5, offset: -4 }),
+    word!(0x8000_036f => Op::Jal { rd: 6, offset: -1_048_576 }),
+    word!(0x0010_00ef => Op::Jal { rd: 1, offset: 2048 }),
+    word!(0x0000_006f => Op::Jal { rd: 0, offset: 0 }),
+    word!(0x7fff_ffef => Op::Jal { rd: 31, offset: 1_048_574 }),
+    word!(0x0000_13ef => Op::Jal { rd: 7, offset: 4096 }),
+    // Branches.
+    word!(0xfe76_0ae3 => Op::Branch { cond: Cond::Eq, rs1: 12, rs2: 7, offset: -12 }),
+    word!(0x0005_8663 => Op::Branch { cond: Cond::Eq, rs1: 11, rs2: 0, offset: 12 }),
+    word!(0xfc02_9ae3 => Op::Branch { cond: Cond::Ne, rs1: 5, rs2: 0, offset: -44 }),
+    word!(0x7e20_cfe3 => Op::Branch { cond: Cond::Lt, rs1: 1, rs2: 2, offset: 4094 }),
+    word!(0x8041_d063 => Op::Branch { cond: Cond::Ge, rs1: 3, rs2: 4, offset: -4096 }),
+    word!(0x0062_e0e3 => Op::Branch { cond: Cond::Ltu, rs1: 5, rs2: 6, offset: 2048 }),
+    word!(0x8083_f0e3 => Op::Branch { cond: Cond::Geu, rs1: 7, rs2: 8, offset: -2048 }),
+    // Atomic memory operations.
+    word!(0x0821_a0af => Op::Amo { op: AmoOp::Swap, rd: 1, rs1: 3, rs2: 2 }),
+    word!(0x0053_a32f => Op::Amo { op: AmoOp::Add, rd: 6, rs1: 7, rs2: 5 }),
+    word!(0x21ee_afaf => Op::Amo { op: AmoOp::Xor, rd: 31, rs1: 29, rs2: 30 }),
+    word!(0x60b6_252f => Op::Amo { op: AmoOp::And, rd: 10, rs1: 12, rs2: 11 }),
+    word!(0x40d7_202f => Op::Amo { op: AmoOp::Or, rd: 0, rs1: 14, rs2: 13 }),
+    word!(0x8008_27af => Op::Amo { op: AmoOp::Min, rd: 15, rs1: 16, rs2: 0 }),
+    word!(0xa129_a8af => Op::Amo { op: AmoOp::Max, rd: 17, rs1: 19, rs2: 18 }),
+    word!(0xc15b_2a2f => Op::Amo { op: AmoOp::Minu, rd: 20, rs1: 22, rs2: 21 }),
+    word!(0xe18c_abaf => Op::Amo { op: AmoOp::Maxu, rd: 23, rs1: 25, rs2: 24 }),
+];
+
+/// Words of instructions that have another word of their own: `amoswap.w.aq`, `amoadd.w.rl` and `amomaxu.w.aqrl`, then
+/// `fence r, w`, `fence.tso`, and a fence with every other bit set.
+static OTHERS: [Word; 6] = [
+    word!(0x0c21_a0af => Op::Amo { op: AmoOp::Swap, rd: 1, rs1: 3, rs2: 2 }),
+    word!(0x0253_a32f => Op::Amo { op: AmoOp::Add, rd: 6, rs1: 7, rs2: 5 }),
+    word!(0xe78c_abaf => Op::Amo { op: AmoOp::Maxu, rd: 23, rs1: 25, rs2: 24 }),
+    word!(0x0210_000f => Op::Fence),
+    word!(0x8330_000f => Op::Fence),
+    word!(0xffff_8f8f => Op::Fence),
+];
+
+#[test]
+fn each_word_goes_both_ways(rt: HostRuntime) {
+    for row in &WORDS {
+        reads_as(&rt, row.word, &row.op);
+        let own = own_word(row.word);
+        assert_eq!(rt; own, Some(row.word), "writing {:08x}", row.word);
+    }
+    for row in &OTHERS {
+        reads_as(&rt, row.word, &row.op);
+    }
 }
 
 fn reg(alu: Alu, rd: u8, rs1: u8, rs2: u8) -> Op {
@@ -28,207 +138,8 @@ fn imm(alu: Alu, rd: u8, rs1: u8, imm: i32) -> Op {
     Op::AluImm { alu, rd, rs1, imm }
 }
 
-#[test]
-fn registers(rt: HostRuntime) {
-    goes_both_ways(&rt, 0x0073_02b3, reg(Alu::Add, 5, 6, 7));
-    goes_both_ways(&rt, 0x41e0_8fb3, reg(Alu::Sub, 31, 1, 30));
-    goes_both_ways(&rt, 0x0031_10b3, reg(Alu::Sll, 1, 2, 3));
-    goes_both_ways(&rt, 0x0062_a233, reg(Alu::Slt, 4, 5, 6));
-    goes_both_ways(&rt, 0x0094_33b3, reg(Alu::Sltu, 7, 8, 9));
-    goes_both_ways(&rt, 0x00c5_c533, reg(Alu::Xor, 10, 11, 12));
-    goes_both_ways(&rt, 0x00f7_56b3, reg(Alu::Srl, 13, 14, 15));
-    goes_both_ways(&rt, 0x4128_d833, reg(Alu::Sra, 16, 17, 18));
-    goes_both_ways(&rt, 0x015a_69b3, reg(Alu::Or, 19, 20, 21));
-    goes_both_ways(&rt, 0x018b_fb33, reg(Alu::And, 22, 23, 24));
-}
-
-#[test]
-fn immediates(rt: HostRuntime) {
-    goes_both_ways(&rt, 0x1f40_0293, imm(Alu::Add, 5, 0, 500));
-    goes_both_ways(&rt, 0xfff2_8293, imm(Alu::Add, 5, 5, -1));
-    goes_both_ways(&rt, 0x7ff1_0093, imm(Alu::Add, 1, 2, 2047));
-    goes_both_ways(&rt, 0x8001_0093, imm(Alu::Add, 1, 2, -2048));
-    goes_both_ways(&rt, 0xffb2_2193, imm(Alu::Slt, 3, 4, -5));
-    goes_both_ways(&rt, 0x0052_3193, imm(Alu::Sltu, 3, 4, 5));
-    goes_both_ways(&rt, 0x0015_4393, imm(Alu::Xor, 7, 10, 1));
-    goes_both_ways(&rt, 0xf004_e413, imm(Alu::Or, 8, 9, -256));
-    goes_both_ways(&rt, 0x0fff_ff13, imm(Alu::And, 30, 31, 255));
-    goes_both_ways(&rt, 0x0045_1313, imm(Alu::Sll, 6, 10, 4));
-    goes_both_ways(&rt, 0x01f5_5313, imm(Alu::Srl, 6, 10, 31));
-    goes_both_ways(&rt, 0x41f5_5313, imm(Alu::Sra, 6, 10, 31));
-}
-
-#[test]
-fn loads_and_jalr(rt: HostRuntime) {
-    let load = |width, rd, rs1, imm| Op::Load {
-        width,
-        rd,
-        rs1,
-        imm,
-    };
-    goes_both_ways(&rt, 0xfff1_0083, load(Width::Byte, 1, 2, -1));
-    goes_both_ways(&rt, 0x0022_1183, load(Width::Half, 3, 4, 2));
-    goes_both_ways(&rt, 0x1200_2603, load(Width::Word, 12, 0, 288));
-    goes_both_ways(&rt, 0x7ff3_4283, load(Width::ByteU, 5, 6, 2047));
-    goes_both_ways(&rt, 0x8004_5383, load(Width::HalfU, 7, 8, -2048));
-    goes_both_ways(
-        &rt,
-        0xffc280e7,
-        Op::Jalr {
-            rd: 1,
-            rs1: 5,
-            imm: -4,
-        },
-    );
-    goes_both_ways(
-        &rt,
-        0x00008067,
-        Op::Jalr {
-            rd: 0,
-            rs1: 1,
-            imm: 0,
-        },
-    );
-}
-
-#[test]
-fn stores(rt: HostRuntime) {
-    let store = |width, rs2, imm, rs1| Op::Store {
-        width,
-        rs1,
-        rs2,
-        imm,
-    };
-    goes_both_ways(&rt, 0x0255_0023, store(Width::Byte, 5, 32, 10));
-    goes_both_ways(&rt, 0xfe63_9f23, store(Width::Half, 6, -2, 7));
-    goes_both_ways(&rt, 0x1093_2023, store(Width::Word, 9, 256, 6));
-    goes_both_ways(&rt, 0x81ff_2023, store(Width::Word, 31, -2048, 30));
-    goes_both_ways(&rt, 0x7e11_0fa3, store(Width::Byte, 1, 2047, 2));
-}
-
-#[test]
-fn branches(rt: HostRuntime) {
-    let branch = |cond, rs1, rs2, offset| Op::Branch {
-        cond,
-        rs1,
-        rs2,
-        offset,
-    };
-    goes_both_ways(&rt, 0x0005_8663, branch(Cond::Eq, 11, 0, 12));
-    goes_both_ways(&rt, 0xfe76_0ae3, branch(Cond::Eq, 12, 7, -12));
-    goes_both_ways(&rt, 0xfc02_9ae3, branch(Cond::Ne, 5, 0, -44));
-    goes_both_ways(&rt, 0x7e20_cfe3, branch(Cond::Lt, 1, 2, 4094));
-    goes_both_ways(&rt, 0x8041_d063, branch(Cond::Ge, 3, 4, -4096));
-    goes_both_ways(&rt, 0x0062_e0e3, branch(Cond::Ltu, 5, 6, 2048));
-    goes_both_ways(&rt, 0x8083_f0e3, branch(Cond::Geu, 7, 8, -2048));
-}
-
-#[test]
-fn uppers_and_jumps(rt: HostRuntime) {
-    goes_both_ways(
-        &rt,
-        0x123452b7,
-        Op::Lui {
-            rd: 5,
-            upper: 0x1_2345,
-        },
-    );
-    goes_both_ways(
-        &rt,
-        0xffffffb7,
-        Op::Lui {
-            rd: 31,
-            upper: 0xf_ffff,
-        },
-    );
-    goes_both_ways(
-        &rt,
-        0x800000b7,
-        Op::Lui {
-            rd: 1,
-            upper: 0x8_0000,
-        },
-    );
-    goes_both_ways(&rt, 0x0000_1117, Op::Auipc { rd: 2, upper: 1 });
-    goes_both_ways(
-        &rt,
-        0xfffff197,
-        Op::Auipc {
-            rd: 3,
-            upper: 0xf_ffff,
-        },
-    );
-    goes_both_ways(
-        &rt,
-        0x001000ef,
-        Op::Jal {
-            rd: 1,
-            offset: 2048,
-        },
-    );
-    goes_both_ways(&rt, 0x0000_006f, Op::Jal { rd: 0, offset: 0 });
-    goes_both_ways(&rt, 0xffdf_f2ef, Op::Jal { rd: 5, offset: -4 });
-    goes_both_ways(
-        &rt,
-        0x7fffffef,
-        Op::Jal {
-            rd: 31,
-            offset: 1_048_574,
-        },
-    );
-    goes_both_ways(
-        &rt,
-        0x8000036f,
-        Op::Jal {
-            rd: 6,
-            offset: -1_048_576,
-        },
-    );
-    goes_both_ways(
-        &rt,
-        0x000013ef,
-        Op::Jal {
-            rd: 7,
-            offset: 4096,
-        },
-    );
-}
-
 fn amo(op: AmoOp, rd: u8, rs2: u8, rs1: u8) -> Op {
     Op::Amo { op, rd, rs1, rs2 }
-}
-
-#[test]
-fn atomics(rt: HostRuntime) {
-    goes_both_ways(&rt, 0x0821_a0af, amo(AmoOp::Swap, 1, 2, 3));
-    goes_both_ways(&rt, 0x0053_a32f, amo(AmoOp::Add, 6, 5, 7));
-    goes_both_ways(&rt, 0x21ee_afaf, amo(AmoOp::Xor, 31, 30, 29));
-    goes_both_ways(&rt, 0x60b6_252f, amo(AmoOp::And, 10, 11, 12));
-    goes_both_ways(&rt, 0x40d7_202f, amo(AmoOp::Or, 0, 13, 14));
-    goes_both_ways(&rt, 0x8008_27af, amo(AmoOp::Min, 15, 0, 16));
-    goes_both_ways(&rt, 0xa129_a8af, amo(AmoOp::Max, 17, 18, 19));
-    goes_both_ways(&rt, 0xc15b_2a2f, amo(AmoOp::Minu, 20, 21, 22));
-    goes_both_ways(&rt, 0xe18c_abaf, amo(AmoOp::Maxu, 23, 24, 25));
-    // `amoswap.w.aq`, `amoadd.w.rl` and `amomaxu.w.aqrl`
-    let ordered = [
-        (0x0c21_a0af, amo(AmoOp::Swap, 1, 2, 3)),
-        (0x0253_a32f, amo(AmoOp::Add, 6, 5, 7)),
-        (0xe78c_abaf, amo(AmoOp::Maxu, 23, 24, 25)),
-    ];
-    for (word, op) in ordered {
-        reads_as(&rt, word, &op);
-    }
-}
-
-#[test]
-fn whole_words(rt: HostRuntime) {
-    goes_both_ways(&rt, 0x0ff0_000f, Op::Fence);
-    goes_both_ways(&rt, 0x0000_0073, Op::Ecall);
-    goes_both_ways(&rt, 0x0010_0073, Op::Ebreak);
-    // `fence r, w`, `fence.tso`, and one with every other bit set
-    for word in [0x0210_000f, 0x8330_000f, 0xffff_8f8f] {
-        reads_as(&rt, word, &Op::Fence);
-    }
 }
 
 #[test]

@@ -6,6 +6,7 @@ ghost use Rattle.cut_replay.specs.ClosedCuts.{IsCutOf};
 use log_codec::read;
 use race_log::Recording;
 use replay_audit::{Audited, audit};
+use row_texts::HANDED_ON;
 use rtr_types::{CORES_MAX, Cut, Which};
 use std::alloc::Global;
 use std::test::Fail;
@@ -13,19 +14,9 @@ use std::test::Fail;
 /// A place for each core, as the length of an array.
 const PLACES: usize = CORES_MAX as usize;
 
-/// Core 0 stores 7 to word 16 and loads it, cores 1 and 2 load it and store to it, and core 0 loads it again.
-/// The totals are 5, 4 and 4. The reduced log has 0:3 before 1:2 and 2:2, 2:2 before 1:3, 1:3 before 2:3, and
-/// 2:3 before 0:4; the regulated log has 1:4 and 2:4 before 0:5 besides.
-const THREE: [u8; 86] = [
-    0x52, 0x54, 0x52, 1, 3, 0x90, 0x4e, 0x20, 0x20, 0x63, 0x1a, 5, 0, 0x93, 2, 0x70, 0, 0x23, 0x20,
-    0x50, 4, 3, 0x23, 0, 4, 0x73, 0, 0, 0, 0x83, 0x23, 0, 4, 0x23, 0x20, 0xa0, 4, 0x73, 0, 0, 0, 5,
-    4, 4, 1, 2, 3, 1, 2, 3, 0, 1, 3, 3, 1, 4, 3, 1, 3, 2, 1, 1, 3, 2, 1, 1, 3, 2, 1, 1, 4, 5, 1, 1,
-    3, 3, 1, 2, 3, 4, 1, 1, 1, 1, 2, 3,
-];
-
 /// The three cores' recording, audited by one of its logs.
 pub(crate) fn three(alloc: Global, which: Which) -> Result<Audited, Fail> {
-    Ok(audit(alloc, read(alloc, &THREE)?, which)?)
+    Ok(audit(alloc, read(alloc, &HANDED_ON)?, which)?)
 }
 
 /// How many instructions of each of three cores a cut has.

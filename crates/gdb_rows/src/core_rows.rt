@@ -67,6 +67,13 @@ macro_rules! refused {
     };
 }
 
+/// Words that mean nothing.
+macro_rules! unmeant {
+    ($words:literal) => {
+        refused!($words, HANDED_OVER, 1, "rtr: usage\n")
+    };
+}
+
 /// A call whose input or output fails, the output taking so many bytes at the most: its status, how many bytes were
 /// given, their sum, and the report.
 macro_rules! failed {
@@ -90,15 +97,10 @@ pub static ROWS: [Row; 16] = [
     made!("at --core 1 --count 2", 0x0a30_026b),
     made!("at --log regulated --count=2 --core 1", 0x0a30_026b),
     made!("at --core 0 --count 3 --latest", 0x070a_a50b),
-    refused!(
-        "at --core 1 --count 2 --loads",
-        HANDED_OVER,
-        1,
-        "rtr: usage\n"
-    ),
-    refused!("at --core 1", HANDED_OVER, 1, "rtr: usage\n"),
-    refused!("print", HANDED_OVER, 1, "rtr: usage\n"),
-    refused!("", HANDED_OVER, 1, "rtr: usage\n"),
+    unmeant!("at --core 1 --count 2 --loads"),
+    unmeant!("at --core 1"),
+    unmeant!("print"),
+    unmeant!(""),
     refused!(
         "at --core 0 --count 6",
         HANDED_OVER,

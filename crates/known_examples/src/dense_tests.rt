@@ -3,11 +3,8 @@ ghost use Rattle.std.specs.Prelude.{◌≡◌, ◌≢◌, ◌<◌, ◌+◌, ◌�
 ghost use Rattle.rtr_types.specs.declared.TheConstants.{CORES_MAX};
 ghost use Rattle.known_examples.specs.Dense.{AreCounted};
 
-use crate::known_tests::Keeper;
-use access_times::NoRider;
-use image_mem::Image;
+use crate::keeper::{image_of, known_in_run};
 use know_history::{History, Known};
-use msi_machine::Machine;
 use rtr_types::{CORES_MAX, Instr, Params};
 use schedule_pick::Schedule;
 use std::alloc::{AllocError, Global};
@@ -52,31 +49,16 @@ struct Noted {
     counts: [u32; PLACES],
 }
 
-/// The image of the code.
-fn image(alloc: Global) -> Result<Image, Fail>
-    ensures { IfOk result (λ image. image.words ≡ 64) }
-{
-    let mut bytes = Vec::new(alloc);
-    for word in &CODE {
-        bytes.extend_from_slice(&word.to_le_bytes())?;
-    }
-    Ok(Image::flat(bytes, PARAMS.words)?)
-}
-
 /// What was known at each retirement of a run under the seed, in their order.
-fn known_in_run(alloc: Global, seed: u64) -> Result<Vec<(Instr, Known)>, Fail> {
-    let mut machine = Machine::<NoRider, Known>::new(alloc, image(alloc)?, PARAMS)?;
-    let mut schedule = Schedule::new(Vec::new(alloc), seed);
-    let mut rows = Vec::new(alloc);
-    for _ in 0..STEPS {
-        machine.make_room()?;
-        if !machine.done() {
-            let mut keeper = Keeper { told: None };
-            let _ = machine.step(schedule.next(), &mut keeper);
-            rows.extend(keeper.told)?;
-        }
-    }
-    Ok(rows)
+fn known_under(alloc: Global, seed: u64) -> Result<Vec<(Instr, Known)>, Fail> {
+    let image = image_of(alloc, &CODE, PARAMS.words)?;
+    known_in_run(
+        alloc,
+        image,
+        PARAMS,
+        Schedule::new(Vec::new(alloc), seed),
+        STEPS,
+    )
 }
 
 /// Whether the one count comes right after the other.
@@ -165,7 +147,7 @@ fn is_told_nothing(noted: &Noted, of: u8) -> bool
 #[test]
 fn histories_say_what_was_known(rt: HostRuntime) -> Result<(), Fail> {
     for seed in &SEEDS {
-        let rows = known_in_run(rt.alloc(), *seed)?;
+        let rows = known_under(rt.alloc(), *seed)?;
         let noted = note_all(rt.alloc(), &rows)?;
         for core in 0..CORES - 1 {
             assert_eq!(rt; noted.counts[core as usize], RETIRED);
@@ -184,7 +166,7 @@ fn histories_say_what_was_known(rt: HostRuntime) -> Result<(), Fail> {
 #[test]
 fn a_core_that_is_told_nothing(rt: HostRuntime) -> Result<(), Fail> {
     for seed in &SEEDS {
-        let rows = known_in_run(rt.alloc(), *seed)?;
+        let rows = known_under(rt.alloc(), *seed)?;
         let noted = note_all(rt.alloc(), &rows)?;
         for of in 0..CORES - 1 {
             assert!(rt; is_told_nothing(&noted, of), "seed {seed}, core {of}");

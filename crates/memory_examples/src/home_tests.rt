@@ -9,7 +9,10 @@ use std::alloc::Global;
 use std::process::Abort;
 use std::test::Fail;
 
-/// A message about block 2, and the core that it comes from. Where it has words or a rider, each is the
+/// The block that each message is about.
+const BLOCK: u32 = 2;
+
+/// A message about the block, and the core that it comes from. Where it has words or a rider, each is the
 /// number.
 #[derive(Clone, Copy, Debug)]
 enum Step {
@@ -43,38 +46,40 @@ fn reply(
     home.on_response(from, response)
 }
 
+/// A core's PutM of the block.
+fn put_m(mark: u32) -> Request<Trail> {
+    Request::PutM {
+        block: BLOCK,
+        words: [mark; 4],
+        rider: Trail { digits: mark },
+    }
+}
+
+/// An owner's data of the block.
+fn owner_data(mark: u32) -> Response<Trail> {
+    let (words, rider) = ([mark; 4], Trail { digits: mark });
+    Response::OwnerData {
+        block: BLOCK,
+        words,
+        rider,
+    }
+}
+
 fn take(rt: &impl Abort, home: &mut Home<Trail>, step: Step) -> HomeAnswer<Trail> {
-    let block = 2;
-    let rider = |digits: u32| Trail { digits };
+    let block = BLOCK;
     match step {
         Step::GetS(from) => ask(rt, home, from, Request::GetS { block }),
         Step::GetM(from) => ask(rt, home, from, Request::GetM { block }),
         Step::PutS(from, mark) => {
-            let rider = rider(mark);
+            let rider = Trail { digits: mark };
             ask(rt, home, from, Request::PutS { block, rider })
         }
-        Step::PutM(from, mark) => {
-            let (words, rider) = ([mark; 4], rider(mark));
-            let put = Request::PutM {
-                block,
-                words,
-                rider,
-            };
-            ask(rt, home, from, put)
-        }
+        Step::PutM(from, mark) => ask(rt, home, from, put_m(mark)),
         Step::InvAck(from, mark) => {
-            let rider = rider(mark);
+            let rider = Trail { digits: mark };
             reply(rt, home, from, Response::InvAck { block, rider })
         }
-        Step::OwnerData(from, mark) => {
-            let (words, rider) = ([mark; 4], rider(mark));
-            let given = Response::OwnerData {
-                block,
-                words,
-                rider,
-            };
-            reply(rt, home, from, given)
-        }
+        Step::OwnerData(from, mark) => reply(rt, home, from, owner_data(mark)),
     }
 }
 
@@ -227,31 +232,15 @@ fn takes_responses(rt: HostRuntime) -> Result<(), Fail> {
         Step::InvAck(1, 5),
     ];
     let after = After { path: &path };
-    after.row(
-        &rt,
-        alloc,
-        Step::InvAck(0, 6),
-        data(2, 0, 56),
-        (owned, 0, 0),
-    )?;
+    let acked = Step::InvAck(0, 6);
+    after.row(&rt, alloc, acked, data(2, 0, 56), (owned, 0, 0))?;
     let path = [Step::GetM(0), Step::GetS(2)];
     let after = After { path: &path };
-    after.row(
-        &rt,
-        alloc,
-        Step::OwnerData(0, 5),
-        data(2, 5, 5),
-        (shared(5), 5, 5),
-    )?;
+    let given = Step::OwnerData(0, 5);
+    after.row(&rt, alloc, given, data(2, 5, 5), (shared(5), 5, 5))?;
     let path = [Step::GetM(0), Step::GetM(2)];
     let after = After { path: &path };
-    after.row(
-        &rt,
-        alloc,
-        Step::OwnerData(0, 5),
-        data(2, 5, 5),
-        (owned, 5, 0),
-    )
+    after.row(&rt, alloc, given, data(2, 5, 5), (owned, 5, 0))
 }
 
 /// Room is made for block 2, and cores 0 and 1 come to share it.

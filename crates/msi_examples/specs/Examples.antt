@@ -44,9 +44,9 @@ abbrev pub load : (count word value : ℕ) → LoadNote
 load count word value = record { count = count; word = word; value = value }
 
 -- both cores exited after so many instructions, at these pcs, with these registers and this memory
-abbrev pub exits : (retired pcs : List ℕ) → List (List (ℕ × ℕ)) → List (ℕ × ℕ) → Seen
-exits retired pcs registers memory =
-    record { stops = Exit ∷ Exit ∷ []; retired = retired; pcs = pcs; registers = registers; memory = memory }
+abbrev pub exits : (executed pcs : List ℕ) → List (List (ℕ × ℕ)) → List (ℕ × ℕ) → Seen
+exits executed pcs registers memory =
+    record { stops = Exit ∷ Exit ∷ []; executed = executed; pcs = pcs; registers = registers; memory = memory }
 
 -- by these choices and then zeros the run ends after exactly t choices, and leaves this
 pub record EndsSo (image : Contents) (limit : ℕ) (choices : List ℕ) (t : ℕ) (left : Seen)

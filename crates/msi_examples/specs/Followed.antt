@@ -4,6 +4,7 @@ use Rattle.std.specs.List.{range_with_len, list_all}
 use Rattle.access_times.specs.Riding.{none_riding, none_carrying}
 use Rattle.image_mem.specs.Contents.{Contents, opening_words}
 use Rattle.rtr_types.specs.declared.params.Params.{Params}
+use Rattle.rv_core.specs.declared.core_state.Core.{Core}
 use Rattle.rv_core.specs.declared.core_state.Stop.{Stop}
 use Rattle.rv_core.specs.declared.outcome.LoadNote.{LoadNote}
 use Rattle.rv_core.specs.Steps.{need, stop_of}
@@ -47,24 +48,28 @@ abbrev pub nonzero : (place : ℕ) → List ℕ → List (ℕ × ℕ)
 nonzero place [] = []
 nonzero place (x ∷ xs) = if x == 0 then nonzero (place + 1) xs else (place, x) ∷ nonzero (place + 1) xs
 
--- what a state is to a reader: by core why it stopped, how many instructions retired, its pc and those
--- of its registers that aren't 0; and the words of memory that aren't the image's
+-- what a state is to a reader: by core why it stopped, how many instructions it executed, its pc and those of its
+-- registers that aren't 0; and the words of memory that aren't the image's
 pub record Seen : Type 0 where
   pub stops : List Stop
-  pub retired : List ℕ
+  pub executed : List ℕ
   pub pcs : List ℕ
   pub registers : List (List (ℕ × ℕ))
   pub memory : List (ℕ × ℕ)
 
-abbrev pub seen : PlainState → Seen
-seen s =
+-- of cores that run this image, which executed so many instructions and left these words
+abbrev pub seen_in : Contents → List Core → (executed words : List ℕ) → Seen
+seen_in image cores executed words =
     record {
-      stops = map (λ core. stop_of (need s.image core)) s.cores;
-      retired = totals s;
-      pcs = map (λ core. core.pc) s.cores;
-      registers = map (λ core. nonzero 0 core.registers) s.cores;
-      memory = changed 0 (final_memory none_riding none_carrying s) (opening_words s.image);
+      stops = map (λ core. stop_of (need image core)) cores;
+      executed = executed;
+      pcs = map (λ core. core.pc) cores;
+      registers = map (λ core. nonzero 0 core.registers) cores;
+      memory = changed 0 words (opening_words image);
     }
+
+abbrev pub seen : PlainState → Seen
+seen s = seen_in s.image s.cores (totals s) (final_memory none_riding none_carrying s)
 
 -- each core's loads within the first t choices
 abbrev pub loads_by : Contents → Params → (ℕ → ℕ) → ℕ → List (List LoadNote)

@@ -1,6 +1,7 @@
 //! A rider, a carry and a clerk that count, met through their bounds alone.
 ghost use Rattle.std.specs.Prelude.{◌≡◌, ◌<◌, ◌+◌, ◌%◌, ◌^◌};
 
+use crate::accesses::access;
 use access_times::{Carry, Clerk, NoCarry, NoRider, Rider};
 use rtr_types::{Access, Instr, Kind};
 use std::test::Fail;
@@ -90,13 +91,10 @@ fn twice_absorbed<R: Rider>(other: &R) -> R
 
 #[test]
 fn counts_through_the_bounds(rt: HostRuntime) {
-    let at = Instr { core: 1, count: 3 };
     let access = Access {
-        at,
-        word: 4,
-        kind: Kind::Load,
         before: 7,
         after: 7,
+        ..access!(1: 3 Load 4)
     };
     let mut clerk = Counter {
         locals: 0,

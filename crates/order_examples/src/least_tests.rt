@@ -1,22 +1,8 @@
 //! Least sets of short lists, worked out by hand.
+use crate::accesses::access;
 use conflict_edge::{conflicts, least_of};
 use rtr_types::{Access, Edge, Instr, Kind};
 use std::test::Fail;
-
-macro_rules! access {
-    ($core:literal : $count:literal $kind:ident $word:literal) => {
-        Access {
-            at: Instr {
-                core: $core,
-                count: $count,
-            },
-            word: $word,
-            kind: Kind::$kind,
-            before: 0,
-            after: 0,
-        }
-    };
-}
 
 macro_rules! edge {
     ($from:literal : $before:literal, $to:literal : $after:literal) => {

@@ -3,6 +3,8 @@
 #![tactic(auto)]
 
 #[cfg(test)]
+mod accesses;
+#[cfg(test)]
 mod bounds_tests;
 #[cfg(test)]
 mod clock_tests;

@@ -6,6 +6,7 @@ ghost use Rattle.rtr_types.specs.declared.TheConstants.{CORES_MAX};
 ghost use Rattle.clock_core.specs.Counts.{no_counts};
 ghost use Rattle.access_times.specs.Times.{times_noted};
 
+use crate::accesses::access;
 use access_times::{Carry, Clerk, NoCarry, Rider, Times, TimesClerk};
 use clock_core::Clock;
 use rtr_types::{Access, CORES_MAX, Instr, Kind};
@@ -73,13 +74,9 @@ fn tell<K: Carry, C: TimesClerk<K>>(clerk: &mut C, rider: &mut Times, carry: &K,
 
 #[test]
 fn a_clerk_notes_through_its_bound(rt: HostRuntime) {
-    let at = Instr { core: 1, count: 7 };
     let access = Access {
-        at,
-        word: 6,
-        kind: Kind::Store,
-        before: 0,
         after: 9,
+        ..access!(1: 7 Store 6)
     };
     let mut clerk = Noter {
         counts: [0; CORES_MAX as usize],
@@ -88,5 +85,5 @@ fn a_clerk_notes_through_its_bound(rt: HostRuntime) {
     tell(&mut clerk, &mut rider, &NoCarry, access);
     let mut clock = Clock::zero();
     clock.set(1, 7);
-    assert_eq!(rt; rider.write(2), Some((at, clock)));
+    assert_eq!(rt; rider.write(2), Some((access.at, clock)));
 }

@@ -1,4 +1,5 @@
 //! Short runs, with the times that one block's words have in them.
+use crate::accesses::access;
 use access_times::{Rider, Times};
 use conflict_edge::least_of;
 use online_reduce::{EDGES_ROOM, EdgePlaces, Reducer};
@@ -6,22 +7,6 @@ use rtr_types::{Access, CORES_MAX, Edge, Instr, Kind};
 use std::alloc::Global;
 use std::process::Abort;
 use std::test::Fail;
-
-/// An access to a word of the first block. Values play no part.
-macro_rules! access {
-    ($core:literal : $count:literal $kind:ident $word:literal) => {
-        Access {
-            at: Instr {
-                core: $core,
-                count: $count,
-            },
-            word: $word,
-            kind: Kind::$kind,
-            before: 0,
-            after: 0,
-        }
-    };
-}
 
 // Core 0's store of word 0 comes after the read 1:1 by way of word 1, so one edge into it is enough.
 static READERS: [Access; 5] = [

@@ -1,10 +1,10 @@
 //! Runs whose accesses were worked out by hand, with the least set of each.
 ghost use Rattle.std.specs.Prelude.{◌≤◌};
 
-use image_mem::Image;
+use crate::settings::{HANDED_OVER, IN_TURN, leaves, load, params_of};
+use known_examples::image_of;
 use race_log::Recording;
 use recorder::{Recorded, record_run};
-use rtr_types::Params;
 use rv_core::LoadNote;
 use schedule_pick::Schedule;
 use std::alloc::Global;
@@ -17,20 +17,9 @@ fn recorded(alloc: Global, code: &[u32], cores: u8, choices: &[u8]) -> Result<Re
     requires some { 1 ≤ cores }
     requires few { cores ≤ 3 }
 {
-    let mut bytes = Vec::new(alloc);
-    for word in code {
-        for byte in word.to_le_bytes() {
-            bytes.push(byte)?;
-        }
-    }
-    let image = Image::flat(bytes, 64).ok().ok_or("the image fits")?;
-    let params = Params {
-        cores,
-        limit: 100,
-        words: 64,
-    };
+    let image = image_of(alloc, code, 64)?;
     let schedule = Schedule::new(choices.to_vec(alloc)?, 0);
-    Ok(record_run(alloc, image, params, schedule)?)
+    Ok(record_run(alloc, image, params_of(cores, 64), schedule)?)
 }
 
 /// The edges of the pair of cores at a place.
@@ -72,14 +61,6 @@ fn orders(
     assert_eq!(rt; vectors_at(recording, place), vectors);
 }
 
-/// The run leaves this value in the word.
-fn leaves(rt: &impl Abort, run: &Recorded, word: usize, value: u32) {
-    assert_eq!(rt;
-        run.outcome.words.as_slice().get(word).copied(),
-        Some(value)
-    );
-}
-
 /// Each of two cores did this one load.
 fn loads_are(rt: &impl Abort, run: &Recorded, first: LoadNote, second: LoadNote) {
     let loads = run.outcome.loads.as_slice();
@@ -98,34 +79,13 @@ fn totals_are(rt: &impl Abort, run: &Recorded, totals: &[u32]) {
 // the first store, and its store before core 0's load. Three pairs conflict, and two edges imply them.
 #[test]
 fn both_cores_conflict(rt: HostRuntime) -> Result<(), Fail> {
-    let code = [
-        0x0005_1a63u32,
-        0x00700293,
-        0x04502023,
-        0x04002303,
-        0x00000073,
-        0x04002383,
-        0x04a02023,
-        0x00000073,
-    ];
-    let choices = [0u8, 0, 0, 1, 1, 1, 1, 1, 1, 1, 1, 1, 1, 1, 1, 1];
-    let run = recorded(rt.alloc(), &code, 2, &choices)?;
+    let run = recorded(rt.alloc(), &HANDED_OVER, 2, &IN_TURN)?;
     totals_are(&rt, &run, &[5, 4]);
     orders(&rt, &run.recording, 0, &[(3, 2)], &[one_edge(3, 2)]);
     orders(&rt, &run.recording, 1, &[(3, 4)], &[one_edge(3, 4)]);
-    leaves(&rt, &run, 16, 1);
+    leaves(&rt, &run.outcome, 16, 1);
     assert_eq!(rt; run.recording.image.len(), 32);
-    let first = LoadNote {
-        count: 4,
-        word: 16,
-        value: 1,
-    };
-    let second = LoadNote {
-        count: 2,
-        word: 16,
-        value: 7,
-    };
-    loads_are(&rt, &run, first, second);
+    loads_are(&rt, &run, load(4, 16, 1), load(2, 16, 7));
     Ok(())
 }
 
@@ -176,7 +136,7 @@ fn one_choice_decides(rt: HostRuntime) -> Result<(), Fail> {
     let run = recorded(rt.alloc(), &LAST_STORE, 2, &[0, 0, 0, 0, 0])?;
     orders(&rt, &run.recording, 0, &[(2, 2)], &[one_edge(2, 2)]);
     orders(&rt, &run.recording, 1, &[], &[]);
-    leaves(&rt, &run, 8, 6);
+    leaves(&rt, &run.outcome, 8, 6);
     Ok(())
 }
 
@@ -186,7 +146,7 @@ fn the_other_choice_decides(rt: HostRuntime) -> Result<(), Fail> {
     let run = recorded(rt.alloc(), &LAST_STORE, 2, &[0, 0, 0, 0, 1])?;
     orders(&rt, &run.recording, 0, &[], &[]);
     orders(&rt, &run.recording, 1, &[(2, 2)], &[one_edge(2, 2)]);
-    leaves(&rt, &run, 8, 5);
+    leaves(&rt, &run.outcome, 8, 5);
     Ok(())
 }
 

@@ -5,6 +5,7 @@ ghost use Rattle.conflict_edge.specs.Conflicts.{are_after, do_counts_rise};
 use access_times::{Carry, Clerk, NoCarry, NoRider, Rider};
 use conflict_edge::{ACCESSES_MAX, least_of};
 use image_mem::Image;
+use known_examples::image_of;
 use msi_machine::Machine;
 use race_log::Recording;
 use recorder::record_run;
@@ -66,11 +67,7 @@ impl<R: Rider, K: Carry> Clerk<R, K> for Keeper {
 pub fn image(alloc: Global) -> Result<Image, Fail>
     ensures { IfOk result (λ image. image.words ≡ 128) }
 {
-    let mut bytes = Vec::new(alloc);
-    for word in &CODE {
-        bytes.extend_from_slice(&word.to_le_bytes())?;
-    }
-    Ok(Image::flat(bytes, PARAMS.words)?)
+    image_of(alloc, &CODE, PARAMS.words)
 }
 
 /// The accesses of a run under the seed, in the order of retirement, by a machine that records no times.

@@ -11,4 +11,6 @@ mod regulated_tests;
 #[cfg(test)]
 mod run_tests;
 #[cfg(test)]
+mod settings;
+#[cfg(test)]
 mod vector_tests;

@@ -1,57 +1,27 @@
 //! Runs of all cores, whose recorded vectors are those of a slow program, which is written from the
 //! definition over what is known at each retirement.
-ghost use Rattle.std.specs.Prelude.{◌≡◌};
-
 use crate::least_tests::{PARAMS, SEEDS, STEPS, image};
-use access_times::{Clerk, NoRider, Rider};
 use know_history::Known;
-use msi_machine::Machine;
+use known_examples::known_in_run;
 use race_log::Recording;
 use recorder::record_run;
-use rtr_types::{Access, CORES_MAX, Instr, pair_count, pair_of};
+use rtr_types::{CORES_MAX, Instr, pair_count, pair_of};
 use schedule_pick::Schedule;
 use std::alloc::{AllocError, Global};
 use std::process::Abort;
 use std::test::Fail;
 use stride_vector::StrideVector;
 
-/// Holds the instruction that it was told of last, with what is known at it. It accepts each instruction.
-#[derive(Drop)]
-struct Keeper {
-    told: Option<(Instr, Known)>,
-}
-
-impl<R: Rider> Clerk<R, Known> for Keeper {
-    ghost accepts = { λ c i. Unit {0} };
-
-    ghost told_local = { λ c i k d. Unit {0} };
-
-    ghost told_touch = { λ c r a k d q. q ≡ r };
-
-    fn local(&mut self, at: Instr, carry: &Known) {
-        self.told = Some((at, *carry));
-    }
-
-    fn touched(&mut self, access: Access, _rider: &mut R, carry: &Known) {
-        self.told = Some((access.at, *carry));
-    }
-}
-
 /// What was known at each retirement of a run under the seed, in their order, by a machine that records no
 /// times.
-fn known_in_run(alloc: Global, seed: u64) -> Result<Vec<(Instr, Known)>, Fail> {
-    let mut machine = Machine::<NoRider, Known>::new(alloc, image(alloc)?, PARAMS)?;
-    let mut schedule = Schedule::new(Vec::new(alloc), seed);
-    let mut rows = Vec::new(alloc);
-    for _ in 0..STEPS {
-        machine.make_room()?;
-        if !machine.done() {
-            let mut keeper = Keeper { told: None };
-            let _ = machine.step(schedule.next(), &mut keeper);
-            rows.extend(keeper.told)?;
-        }
-    }
-    Ok(rows)
+fn known_under(alloc: Global, seed: u64) -> Result<Vec<(Instr, Known)>, Fail> {
+    known_in_run(
+        alloc,
+        image(alloc)?,
+        PARAMS,
+        Schedule::new(Vec::new(alloc), seed),
+        STEPS,
+    )
 }
 
 /// Whether the source's instruction is known at the target's.
@@ -178,7 +148,7 @@ fn lists_at(recording: &Recording, place: usize) -> (&[(u32, u32)], &[StrideVect
 
 /// The same of all pairs of a run with this seed.
 fn saved_in_run(rt: &impl Abort, alloc: Global, seed: u64) -> Result<u64, Fail> {
-    let rows = known_in_run(alloc, seed)?;
+    let rows = known_under(alloc, seed)?;
     let schedule = Schedule::new(Vec::new(alloc), seed);
     let run = record_run(alloc, image(alloc)?, PARAMS, schedule)?;
     let mut saved = 0u64;

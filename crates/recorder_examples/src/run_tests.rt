@@ -1,9 +1,9 @@
 //! Runs that were worked out by hand.
 ghost use Rattle.std.specs.Prelude.{◌≤◌};
 
-use image_mem::Image;
+use crate::settings::{HANDED_OVER, IN_TURN, leaves, load, params_of};
+use known_examples::image_of;
 use msi_run::{Ran, run_image};
-use rtr_types::Params;
 use rv_core::LoadNote;
 use schedule_pick::Schedule;
 use std::alloc::Global;
@@ -15,28 +15,9 @@ fn ran(alloc: Global, code: &[u32], cores: u8, choices: &[u8]) -> Result<Ran, Fa
     requires some { 1 ≤ cores }
     requires few { cores ≤ 2 }
 {
-    let mut bytes = Vec::new(alloc);
-    for word in code {
-        for byte in word.to_le_bytes() {
-            bytes.push(byte)?;
-        }
-    }
-    let image = Image::flat(bytes, 32).ok().ok_or("the image fits")?;
-    let params = Params {
-        cores,
-        limit: 100,
-        words: 32,
-    };
+    let image = image_of(alloc, code, 32)?;
     let schedule = Schedule::new(choices.to_vec(alloc)?, 0);
-    Ok(run_image(alloc, image, params, schedule)?)
-}
-
-/// The run leaves this value in the word.
-fn leaves(rt: &impl Abort, ran: &Ran, word: usize, value: u32) {
-    assert_eq!(rt;
-        ran.outcome.words.as_slice().get(word).copied(),
-        Some(value)
-    );
+    Ok(run_image(alloc, image, params_of(cores, 32), schedule)?)
 }
 
 /// Each of the two cores retired so many instructions.
@@ -44,11 +25,6 @@ fn counts_are(rt: &impl Abort, ran: &Ran, first: u32, second: u32) {
     let cores = ran.outcome.cores.as_slice();
     assert_eq!(rt; cores.len(), 2);
     assert_eq!(rt; (cores[0].count(), cores[1].count()), (first, second));
-}
-
-/// The load of the word as the core's instruction with this count.
-fn load(count: u32, word: u32, value: u32) -> LoadNote {
-    LoadNote { count, word, value }
 }
 
 /// The core did this one load.
@@ -63,20 +39,9 @@ fn did(rt: &impl Abort, ran: &Ran, core: usize, load: LoadNote) {
 // core 1's load come after the store, and its store before core 0's load.
 #[test]
 fn both_cores_conflict(rt: HostRuntime) -> Result<(), Fail> {
-    let code = [
-        0x0005_1a63u32,
-        0x00700293,
-        0x04502023,
-        0x04002303,
-        0x00000073,
-        0x04002383,
-        0x04a02023,
-        0x00000073,
-    ];
-    let choices = [0u8, 0, 0, 1, 1, 1, 1, 1, 1, 1, 1, 1, 1, 1, 1, 1];
-    let ran = ran(rt.alloc(), &code, 2, &choices)?;
-    leaves(&rt, &ran, 16, 1);
-    leaves(&rt, &ran, 2, 0x0450_2023);
+    let ran = ran(rt.alloc(), &HANDED_OVER, 2, &IN_TURN)?;
+    leaves(&rt, &ran.outcome, 16, 1);
+    leaves(&rt, &ran.outcome, 2, 0x0450_2023);
     counts_are(&rt, &ran, 5, 4);
     assert_eq!(rt; (ran.image.words(), ran.image.bytes().len()), (32, 32));
     assert_eq!(rt; ran.outcome.loads.as_slice().len(), 2);
@@ -91,6 +56,6 @@ fn an_atomic_operation_is_among_the_loads(rt: HostRuntime) -> Result<(), Fail> {
     let code = [0x0030_0293u32, 0x0050_232f, 0x0000_0073];
     let ran = ran(rt.alloc(), &code, 1, &[])?;
     did(&rt, &ran, 0, load(2, 0, 0x0030_0293));
-    leaves(&rt, &ran, 0, 0x0030_0296);
+    leaves(&rt, &ran.outcome, 0, 0x0030_0296);
     Ok(())
 }

@@ -6,27 +6,13 @@ ghost use Rattle.replay_audit.specs.Touches.{AreTouches, as_touch};
 use log_codec::read;
 use race_log::Recording;
 use replay_audit::{AuditFault, Audited, Touch, audit, judge, ordered};
+use row_texts::{HANDED_OVER, STORES};
 use rtr_types::{Access, CORES_MAX, Cut, Instr, Items, Which};
 use std::alloc::{AllocError, Global};
 use std::test::Fail;
 
 /// A place for each core, as the length of an array.
 const PLACES: usize = CORES_MAX as usize;
-
-/// What stands before the totals of a recording in which each core stores its number and 5 to word 8, its
-/// second instruction of three. The number of cores is the byte at 4.
-const STORES: [u8; 21] = [
-    0x52, 0x54, 0x52, 1, 2, 0x90, 0x4e, 0x10, 0x0c, 0x93, 2, 0x55, 0, 0x23, 0x20, 0x50, 2, 0x73, 0,
-    0, 0,
-];
-
-/// Core 0 stores to word 16 and loads it, and core 1 loads it and stores to it. Both logs order 0:3 before 1:2
-/// and 1:3 before 0:4.
-const HANDED_OVER: [u8; 57] = [
-    0x52, 0x54, 0x52, 1, 2, 0x90, 0x4e, 0x20, 0x20, 0x63, 0x1a, 5, 0, 0x93, 2, 0x70, 0, 0x23, 0x20,
-    0x50, 4, 3, 0x23, 0, 4, 0x73, 0, 0, 0, 0x83, 0x23, 0, 4, 0x23, 0x20, 0xa0, 4, 0x73, 0, 0, 0, 5,
-    4, 1, 2, 3, 1, 4, 3, 1, 1, 3, 2, 1, 1, 3, 4,
-];
 
 /// The recording of the stores of so many cores, with these totals and logs.
 fn stores(alloc: Global, cores: u8, logs: &[u8]) -> Result<Recording, Fail>

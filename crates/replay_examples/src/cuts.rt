@@ -3,27 +3,11 @@ use crate::slow_cuts::{Counts, numbered, slow_with, slow_without};
 use cut_replay::{cut_with, cut_without, has_instr, state_of};
 use log_codec::read;
 use replay_audit::{Audited, audit};
+use row_texts::{HANDED_ON, HANDED_OVER};
 use rtr_types::{Instr, Which};
 use rv_core::{LoadNote, Outcome};
 use std::alloc::{AllocError, Global};
 use std::test::Fail;
-
-/// Core 0 stores 7 to word 16 and loads it, and core 1 loads it and stores to it. Both logs order 0:3
-/// before 1:2 and 1:3 before 0:4.
-const HANDED_OVER: [u8; 57] = [
-    0x52, 0x54, 0x52, 1, 2, 0x90, 0x4e, 0x20, 0x20, 0x63, 0x1a, 5, 0, 0x93, 2, 0x70, 0, 0x23, 0x20,
-    0x50, 4, 3, 0x23, 0, 4, 0x73, 0, 0, 0, 0x83, 0x23, 0, 4, 0x23, 0x20, 0xa0, 4, 0x73, 0, 0, 0, 5,
-    4, 1, 2, 3, 1, 4, 3, 1, 1, 3, 2, 1, 1, 3, 4,
-];
-
-/// The same program on three cores: core 0 stores, cores 1 and 2 load, core 1 stores, core 2 stores, and
-/// core 0 loads. The regulated log has 1:4 and 2:4 before 0:5 besides.
-const THREE: [u8; 86] = [
-    0x52, 0x54, 0x52, 1, 3, 0x90, 0x4e, 0x20, 0x20, 0x63, 0x1a, 5, 0, 0x93, 2, 0x70, 0, 0x23, 0x20,
-    0x50, 4, 3, 0x23, 0, 4, 0x73, 0, 0, 0, 0x83, 0x23, 0, 4, 0x23, 0x20, 0xa0, 4, 0x73, 0, 0, 0, 5,
-    4, 4, 1, 2, 3, 1, 2, 3, 0, 1, 3, 3, 1, 4, 3, 1, 3, 2, 1, 1, 3, 2, 1, 1, 3, 2, 1, 1, 4, 5, 1, 1,
-    3, 3, 1, 2, 3, 4, 1, 1, 1, 1, 2, 3,
-];
 
 /// Whether the two cuts of the instruction are those that the slow search finds.
 fn is_found(audited: &Audited, at: Instr) -> Result<bool, AllocError> {
@@ -39,7 +23,7 @@ fn is_found(audited: &Audited, at: Instr) -> Result<bool, AllocError> {
 // Each instruction of three cores.
 #[test]
 fn each_instruction(rt: HostRuntime) -> Result<(), Fail> {
-    let audited = audit(rt.alloc(), read(rt.alloc(), &THREE)?, Which::Reduced)?;
+    let audited = audit(rt.alloc(), read(rt.alloc(), &HANDED_ON)?, Which::Reduced)?;
     for number in 0..13 {
         assert!(rt; is_found(&audited, numbered(number))?);
     }
@@ -58,7 +42,7 @@ fn with(audited: &Audited, core: u8, count: u32) -> Result<Option<Counts>, Alloc
 
 /// Whether the least cut with an instruction of the three cores has these counts, by the log.
 fn has_cut(alloc: Global, which: Which, at: Instr, counts: Counts) -> Result<bool, Fail> {
-    let audited = audit(alloc, read(alloc, &THREE)?, which)?;
+    let audited = audit(alloc, read(alloc, &HANDED_ON)?, which)?;
     Ok(with(&audited, at.core, at.count)? == Some(counts))
 }
 
@@ -96,7 +80,7 @@ fn the_last_one(rt: HostRuntime) -> Result<(), Fail> {
 // What is an instruction, and what isn't: a count of 0, one past the total, and a core that isn't there.
 #[test]
 fn instructions(rt: HostRuntime) -> Result<(), Fail> {
-    let recording = read(rt.alloc(), &THREE)?;
+    let recording = read(rt.alloc(), &HANDED_ON)?;
     assert!(rt; has_instr(&recording, Instr { core: 0, count: 5 }));
     assert!(rt; !has_instr(&recording, Instr { core: 0, count: 0 }));
     assert!(rt; !has_instr(&recording, Instr { core: 0, count: 6 }));

@@ -5,25 +5,11 @@ ghost use Rattle.race_log.specs.Validity.{Valid};
 use log_codec::read;
 use race_log::Recording;
 use replay_core::{Advanced, Replay, ReplayFault};
+use row_texts::{HANDED_OVER, STORES};
 use rtr_types::{CORES_MAX, Cut, Which};
 use rv_core::{LoadNote, Outcome};
 use std::alloc::{AllocError, Global};
 use std::test::Fail;
-
-/// Two cores, each of which stores its number and 5 to word 8: the header and the image. The totals and
-/// the logs follow.
-const TWO_STORES: [u8; 21] = [
-    0x52, 0x54, 0x52, 1, 2, 0x90, 0x4e, 0x10, 0x0c, 0x93, 2, 0x55, 0, 0x23, 0x20, 0x50, 2, 0x73, 0,
-    0, 0,
-];
-
-/// Two cores that store to word 16 and load it in turn, with the totals and the logs: 0:3 before 1:2,
-/// and 1:3 before 0:4.
-const IN_TURN: [u8; 57] = [
-    0x52, 0x54, 0x52, 1, 2, 0x90, 0x4e, 0x20, 0x20, 0x63, 0x1a, 5, 0, 0x93, 2, 0x70, 0, 0x23, 0x20,
-    0x50, 4, 3, 0x23, 0, 4, 0x73, 0, 0, 0, 0x83, 0x23, 0, 4, 0x23, 0x20, 0xa0, 4, 0x73, 0, 0, 0, 5,
-    4, 1, 2, 3, 1, 4, 3, 1, 1, 3, 2, 1, 1, 3, 4,
-];
 
 /// Two cores, each of which adds its number and 1 to word 8 by AMOADD.W, core 0 first: 0:3 before 1:3.
 const ADDED_UP: [u8; 36] = [
@@ -35,7 +21,7 @@ const ADDED_UP: [u8; 36] = [
 fn two_stores(alloc: Global, rest: &[u8]) -> Result<Recording, Fail>
     ensures { IfOk result (λ recording. Valid recording) }
 {
-    let mut bytes = Vec::from_slice(alloc, &TWO_STORES)?;
+    let mut bytes = Vec::from_slice(alloc, &STORES)?;
     bytes.extend_from_slice(rest)?;
     Ok(read(alloc, &bytes)?)
 }
@@ -86,22 +72,17 @@ fn is_left(outcome: &Outcome) -> bool {
     let [ones, others] = outcome.loads.as_slice() else {
         return false;
     };
-    let load = LoadNote {
-        count: 4,
+    let load = |count, value| LoadNote {
+        count,
         word: 16,
-        value: 1,
-    };
-    let other = LoadNote {
-        count: 2,
-        word: 16,
-        value: 7,
+        value,
     };
     (first.count(), first.pc(), first.reg(5), first.reg(6)) == (5, 0x14, 7, 1)
         && (second.count(), second.pc(), second.reg(7), second.reg(10)) == (4, 0x20, 7, 1)
         && outcome.words.len() == 32
         && outcome.words.as_slice().get(16).copied() == Some(1)
-        && ones.as_slice() == [load].as_slice()
-        && others.as_slice() == [other].as_slice()
+        && ones.as_slice() == [load(4, 1)].as_slice()
+        && others.as_slice() == [load(2, 7)].as_slice()
 }
 
 /// Whether the outcome has what each core's AMO found, and what the two leave.
@@ -138,7 +119,7 @@ fn added_up(rt: HostRuntime) -> Result<(), Fail> {
 #[test]
 fn in_turn(rt: HostRuntime) -> Result<(), Fail> {
     for which in [Which::Reduced, Which::Regulated] {
-        assert!(rt; is_left(&replayed(rt.alloc(), &IN_TURN, which)?));
+        assert!(rt; is_left(&replayed(rt.alloc(), &HANDED_OVER, which)?));
     }
     Ok(())
 }
@@ -179,7 +160,7 @@ fn leaves_the_same(alloc: Global, recording: &Recording, which: Which) -> Result
 // Another order by either log.
 #[test]
 fn another_order(rt: HostRuntime) -> Result<(), Fail> {
-    let recording = read(rt.alloc(), &IN_TURN)?;
+    let recording = read(rt.alloc(), &HANDED_OVER)?;
     assert!(rt; leaves_the_same(rt.alloc(), &recording, Which::Reduced)?);
     assert!(rt; leaves_the_same(rt.alloc(), &recording, Which::Regulated)?);
     Ok(())

@@ -1,6 +1,9 @@
-//! Bytes and words as the rows of tests spell them.
+//! Bytes and words as the rows of tests spell them, and recordings that several crates' tests read.
 #![tactic(auto)]
 
+mod recordings;
+
+pub use recordings::{HANDED_ON, HANDED_OVER, STORES};
 use std::alloc::{AllocError, Global};
 
 /// The bytes that hexadecimal digits spell; spaces between them are passed over.

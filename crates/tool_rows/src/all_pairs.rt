@@ -1,6 +1,7 @@
 //! A run of as many cores as there can be, with an edge from each core to every other.
 
-use crate::calls::{ask, bytes};
+use crate::calls::{ask, spelled};
+use row_texts::bytes;
 use std::alloc::{AllocError, Global};
 use std::test::Fail;
 
@@ -27,9 +28,7 @@ pub const EACH_READS_ALL: &str = "93124500 13031500 23a06210 93032003 9383f3ff e
 /// The recording up to its reduced log. No store comes before another, so that none of the edges from a store
 /// to a load is implied by others.
 fn front(alloc: Global) -> Result<Vec<u8>, AllocError> {
-    let mut front = bytes(alloc, "52545202 10 904e 8001 5c")?;
-    let image = bytes(alloc, EACH_READS_ALL)?;
-    front.extend_from_slice(image.as_slice())?;
+    let mut front = spelled(alloc, &["52545202 10 904e 8001 5c", EACH_READS_ALL])?;
     for _ in 0..CORES {
         front.push(LAST)?;
     }

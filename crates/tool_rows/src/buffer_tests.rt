@@ -1,9 +1,9 @@
 //! Recordings of cores with store buffers: each row, bytes that are cut and changed, and streams that fail.
 
 use crate::buffer_tables::{BUFFERED, CUT, DAMAGED, Damage, ONE_CALL, ONE_CALL_TEXT};
-use crate::calls::{Answer, answer_of, ask, asks, bytes, words};
+use crate::calls::{Answer, ask, ask_over, asks};
 use replay_threads::OpenGate;
-use rtr_cli::run_tool;
+use row_texts::bytes;
 use rtr_io::{MemSink, MemSource};
 use std::alloc::{AllocError, Global};
 use std::process::Abort;
@@ -34,19 +34,13 @@ fn a_cut_of_a_recording_of_buffers_names_its_part(rt: HostRuntime) -> Result<(),
 
 /// The status and the line of the damage; none where the bytes are replayed.
 fn wanted(alloc: Global, damage: &Damage) -> Result<(u8, String), AllocError> {
-    let Damage {
-        part,
-        core,
-        count,
-        ..
-    } = damage;
-    if *part > 0 {
-        return Ok((3, format!(in alloc; "rtr: bad input, part {part}\n")?));
-    }
-    if damage.short {
-        return Ok((5, format!(in alloc; "rtr: core {core} stops at {count}\n")?));
-    }
-    Ok((0, String::new(alloc)))
+    Ok(match damage {
+        Damage::Replays => (0, String::new(alloc)),
+        Damage::Part(part) => (3, format!(in alloc; "rtr: bad input, part {part}\n")?),
+        Damage::Stops(core, count) => {
+            (5, format!(in alloc; "rtr: core {core} stops at {count}\n")?)
+        }
+    })
 }
 
 /// Replays the recording with one byte changed, and compares how that ends. Nothing is given where it is refused.
@@ -90,21 +84,11 @@ fn failing(
     fails: (u64, u64),
     most: usize,
 ) -> Result<Answer, AllocError> {
-    let words = words(alloc, "tsoreplay")?;
     let most = most.max(1);
-    let mut input = MemSource::new(input, vec![in alloc; fails.0]?, most);
-    let mut output = MemSink::new(alloc, 99, vec![in alloc; fails.1]?, most)?;
-    let mut report = MemSink::new(alloc, 99, Vec::new(alloc), 99)?;
-    let ended = run_tool(
-        rt,
-        alloc,
-        words.as_slice(),
-        &mut input,
-        &mut output,
-        &mut report,
-        &OpenGate,
-    );
-    answer_of(alloc, &ended, &output, &report)
+    let input = MemSource::new(input, vec![in alloc; fails.0]?, most);
+    let output = MemSink::new(alloc, 99, vec![in alloc; fails.1]?, most)?;
+    let report = MemSink::new(alloc, 99, Vec::new(alloc), 99)?;
+    ask_over(rt, alloc, "tsoreplay", input, output, report, &OpenGate)
 }
 
 // The recording has 47 bytes, so that its source is asked six times at least: five times for bytes, and once for its

@@ -1,9 +1,10 @@
 //! One call of the tool over streams in memory, and the bytes that rows spell.
 
-use crate::record_tables::Recorded;
+use crate::record_tables::{Pieces, Recorded};
 use crate::tables::Row;
 use replay_threads::{Gate, OpenGate};
-use rtr_cli::{Ended, run_tool};
+use row_texts::{bytes, words};
+use rtr_cli::run_tool;
 use rtr_io::{MemSink, MemSource};
 use std::alloc::{AllocError, Global};
 use std::process::Abort;
@@ -25,45 +26,25 @@ pub struct Answer {
     pub report: Vec<u8>,
 }
 
-/// The bytes that hexadecimal digits spell; spaces between them are passed over.
-pub fn bytes(alloc: Global, digits: &str) -> Result<Vec<u8>, AllocError> {
-    let mut bytes = Vec::new(alloc);
-    let mut high = None;
-    for digit in digits.bytes() {
-        let value = match digit {
-            b'0'..=b'9' => digit - b'0',
-            b'a'..=b'f' => digit - b'a' + 10,
-            _ => continue,
-        };
-        high = match high {
-            None => Some(value),
-            Some(high) => {
-                bytes.push((high % 16) * 16 + value)?;
-                None
-            }
-        };
+/// The bytes that the digits of these pieces spell, one after another.
+pub fn spelled(alloc: Global, pieces: &[&str]) -> Result<Vec<u8>, AllocError> {
+    let mut spelled = Vec::new(alloc);
+    for piece in pieces {
+        let piece = bytes(alloc, piece)?;
+        spelled.extend_from_slice(piece.as_slice())?;
     }
-    Ok(bytes)
+    Ok(spelled)
 }
 
-/// The words of a line, which are parted by single spaces.
-pub fn words(alloc: Global, line: &str) -> Result<Vec<String>, AllocError> {
-    let mut words = Vec::new(alloc);
-    for word in line.split(' ') {
-        if !line.is_empty() {
-            words.push(String::from_str(alloc, word)?)?;
-        }
-    }
-    Ok(words)
-}
-
-/// The input of a row: so many copies of its piece.
+/// The input of a row: so many copies of its piece, and the bytes behind them.
 pub fn input_of(alloc: Global, row: &Row) -> Result<Vec<u8>, AllocError> {
     let piece = bytes(alloc, row.input)?;
     let mut input = Vec::new(alloc);
     for _ in 0..row.copies {
         input.extend_from_slice(piece.as_slice())?;
     }
+    let more = bytes(alloc, row.more)?;
+    input.extend_from_slice(more.as_slice())?;
     Ok(input)
 }
 
@@ -77,16 +58,18 @@ pub fn output_of(alloc: Global, row: &Row, input: &[u8]) -> Result<Vec<u8>, Allo
     let rest = bytes(alloc, row.rest)?;
     output.extend_from_slice(rest.as_slice())?;
     output.extend_from_slice(row.text.as_bytes())?;
+    output.extend_from_slice(row.loads.as_bytes())?;
     Ok(output)
+}
+
+/// The bytes of a recording in pieces.
+pub fn in_pieces(alloc: Global, pieces: &Pieces) -> Result<Vec<u8>, AllocError> {
+    spelled(alloc, &[pieces.header, pieces.image, pieces.rest])
 }
 
 /// The bytes of a recording that a row wants.
 pub fn recording_of(alloc: Global, row: &Recorded) -> Result<Vec<u8>, AllocError> {
-    let mut recording = bytes(alloc, row.header)?;
-    let image = bytes(alloc, row.image)?;
-    recording.extend_from_slice(image.as_slice())?;
-    let rest = bytes(alloc, row.rest)?;
-    recording.extend_from_slice(rest.as_slice())?;
+    let mut recording = in_pieces(alloc, &row.recording)?;
     for _ in 0..row.zeros {
         recording.push(0)?;
     }
@@ -111,10 +94,23 @@ pub fn ask_at<R: Threads + Wait + Sync, G: Gate>(
     input: Vec<u8>,
     gate: &G,
 ) -> Result<Answer, AllocError> {
+    let input = MemSource::new(input, Vec::new(alloc), ALL);
+    let output = MemSink::new(alloc, ROOM, Vec::new(alloc), ALL)?;
+    let report = MemSink::new(alloc, ROOM, Vec::new(alloc), ALL)?;
+    ask_over(rt, alloc, line, input, output, report, gate)
+}
+
+/// The tool's answer to these words over these streams, where workers pass this gate.
+pub fn ask_over<R: Threads + Wait + Sync, G: Gate>(
+    rt: &R,
+    alloc: Global,
+    line: &str,
+    mut input: MemSource,
+    mut output: MemSink,
+    mut report: MemSink,
+    gate: &G,
+) -> Result<Answer, AllocError> {
     let words = words(alloc, line)?;
-    let mut input = MemSource::new(input, Vec::new(alloc), ALL);
-    let mut output = MemSink::new(alloc, ROOM, Vec::new(alloc), ALL)?;
-    let mut report = MemSink::new(alloc, ROOM, Vec::new(alloc), ALL)?;
     let ended = run_tool(
         rt,
         alloc,
@@ -124,16 +120,6 @@ pub fn ask_at<R: Threads + Wait + Sync, G: Gate>(
         &mut report,
         gate,
     );
-    answer_of(alloc, &ended, &output, &report)
-}
-
-/// The answer of a call that ended so and gave these streams what they got.
-pub fn answer_of(
-    alloc: Global,
-    ended: &Ended,
-    output: &MemSink,
-    report: &MemSink,
-) -> Result<Answer, AllocError> {
     Ok(Answer {
         status: ended.exit.status(),
         joint: ended.joint.is_some(),
@@ -157,4 +143,15 @@ pub fn asks<R: Abort + Threads + Wait + Sync>(
     assert_eq!(rt; answer.output.as_slice(), output, "{words}");
     assert_eq!(rt; answer.report.as_slice(), report.as_bytes(), "{words}");
     Ok(())
+}
+
+/// The same of an answer that ends well.
+pub fn gives<R: Abort + Threads + Wait + Sync>(
+    rt: &R,
+    alloc: Global,
+    words: &str,
+    input: Vec<u8>,
+    output: &[u8],
+) -> Result<(), AllocError> {
+    asks(rt, alloc, words, input, 0, output, "")
 }

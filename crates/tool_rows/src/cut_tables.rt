@@ -1,97 +1,79 @@
 //! States at instructions of recordings. What each row wants was worked out from the logs and the instructions: a
 //! comment says how, where they don't show it.
 
-use crate::replay_tables::Replayed;
+use crate::record_tables::Pieces;
+use crate::replay_tables::{Replayed, TWO_CORES, replayed, unplayed};
 use crate::run_tables::{HANDED_OVER, ONE_WORD};
 
+/// What stands before the image in the recording of `HANDED_OVER`, and what stands behind it.
+const HEADER: &str = "52545201 02 904e 20 20";
+
+const LOGS: &str = "0504 01 02 03 01 04 03 01 01 03 02 01 01 03 04";
+
+/// A moment of `HANDED_OVER` that is told.
 macro_rules! told {
     ($words:expr, $text:expr) => {
-        Replayed {
-            words: $words,
-            header: "52545201 02 904e 20 20",
-            image: HANDED_OVER,
-            logs: "0504 01 02 03 01 04 03 01 01 03 02 01 01 03 04",
-            status: 0,
-            text: $text,
-            report: "",
-        }
+        replayed!($words, HEADER, HANDED_OVER, LOGS, $text)
     };
 }
 
+/// A moment of `ONE_WORD` that is refused.
 macro_rules! refused {
     ($words:expr, $logs:expr, $status:expr, $report:expr) => {
-        Replayed {
-            words: $words,
-            header: "52545201 02 904e 10 0c",
-            image: ONE_WORD,
-            logs: $logs,
-            status: $status,
-            text: "",
-            report: $report,
-        }
+        unplayed!($words, TWO_CORES, ONE_WORD, $logs, $status, $report)
     };
 }
 
 /// What `HANDED_OVER` has come to where core 1 has just read what core 0 wrote.
-pub const READ: &str = "cut 3 2\n\
-    core 0 total retired 3 pc 0000000c\n\
-    core 0 x5 00000007\n\
-    core 1 total retired 2 pc 00000018\n\
-    core 1 x7 00000007\n\
-    core 1 x10 00000001\n\
-    mem 00000040 00000007\n";
-
-/// And where it is about to read it.
-const UNREAD: &str = "cut 3 1\n\
-    core 0 total retired 3 pc 0000000c\n\
-    core 0 x5 00000007\n\
-    core 1 total retired 1 pc 00000014\n\
-    core 1 x10 00000001\n\
-    mem 00000040 00000007\n";
+pub const READ: &str = concat!(
+    "cut 3 2\ncore 0 total retired 3 pc 0000000c\ncore 0 x5 00000007\n",
+    "core 1 total retired 2 pc 00000018\ncore 1 x7 00000007\ncore 1 x10 00000001\n",
+    "mem 00000040 00000007\n",
+);
 
 /// And where core 0 has ended, with what was loaded: its last instruction doesn't need core 1's last.
-const ENDED: &str = "cut 5 3\n\
-    core 0 exit retired 5 pc 00000014\n\
-    core 0 x5 00000007\n\
-    core 0 x6 00000001\n\
-    core 1 total retired 3 pc 0000001c\n\
-    core 1 x7 00000007\n\
-    core 1 x10 00000001\n\
-    mem 00000040 00000001\n\
-    load 0 4 00000040 00000001\n\
-    load 1 2 00000040 00000007\n";
+const ENDED: &str = concat!(
+    "cut 5 3\ncore 0 exit retired 5 pc 00000014\ncore 0 x5 00000007\ncore 0 x6 00000001\n",
+    "core 1 total retired 3 pc 0000001c\ncore 1 x7 00000007\ncore 1 x10 00000001\n",
+    "mem 00000040 00000001\n",
+    "load 0 4 00000040 00000001\nload 1 2 00000040 00000007\n",
+);
 
 /// And where core 0 is about to write: core 1 can't read before that.
-pub const UNWRITTEN: &str = "cut 2 1\n\
-    core 0 total retired 2 pc 00000008\n\
-    core 0 x5 00000007\n\
-    core 1 total retired 1 pc 00000014\n\
-    core 1 x10 00000001\n";
-
-/// And where core 1 has taken its branch, which needs nothing of core 0.
-const BRANCHED: &str = "cut 0 1\n\
-    core 0 total retired 0 pc 00000000\n\
-    core 1 total retired 1 pc 00000014\n\
-    core 1 x10 00000001\n";
+pub const UNWRITTEN: &str = concat!(
+    "cut 2 1\ncore 0 total retired 2 pc 00000008\ncore 0 x5 00000007\n",
+    "core 1 total retired 1 pc 00000014\ncore 1 x10 00000001\n",
+);
 
 /// The rows.
 pub static STATES: [Replayed; 15] = [
+    // Core 1 has just read what core 0 wrote, or is about to read it.
     told!("at --core 1 --count 2", READ),
-    told!("at --core 1 --count 2 --latest", UNREAD),
+    told!(
+        "at --core 1 --count 2 --latest",
+        concat!(
+            "cut 3 1\ncore 0 total retired 3 pc 0000000c\ncore 0 x5 00000007\n",
+            "core 1 total retired 1 pc 00000014\ncore 1 x10 00000001\n",
+            "mem 00000040 00000007\n",
+        )
+    ),
     told!("at --core 0 --count 5 --loads", ENDED),
     told!("at --log regulated --loads --count 5 --core 0", ENDED),
     told!("at --core 0 --count 3 --latest --log=regulated", UNWRITTEN),
-    told!("at --core 1 --count 1 --loads", BRANCHED),
+    // Core 1 has taken its branch, which needs nothing of core 0.
+    told!(
+        "at --core 1 --count 1 --loads",
+        "cut 0 1\ncore 0 total retired 0 pc 00000000\ncore 1 total retired 1 pc 00000014\ncore 1 x10 00000001\n"
+    ),
     // Core 0 has five instructions.
-    Replayed {
-        words: "at --core 0 --count 6",
-        header: "52545201 02 904e 20 20",
-        image: HANDED_OVER,
-        logs: "0504 01 02 03 01 04 03 01 01 03 02 01 01 03 04",
-        status: 12,
-        text: "",
-        report: "rtr: no instruction 0:6\n",
-    },
+    unplayed!(
+        "at --core 0 --count 6",
+        HEADER,
+        HANDED_OVER,
+        LOGS,
+        12,
+        "rtr: no instruction 0:6\n"
+    ),
     // Core 0 has three instructions, and there are two cores.
     refused!(
         "at --core 0 --count 6",

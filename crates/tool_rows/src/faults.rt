@@ -1,8 +1,8 @@
 //! Sources and sinks that fail.
 
-use crate::calls::{Answer, answer_of, bytes, words};
+use crate::calls::{Answer, ask_over};
 use replay_threads::OpenGate;
-use rtr_cli::run_tool;
+use row_texts::bytes;
 use rtr_io::{MemSink, MemSource};
 use std::alloc::{AllocError, Global};
 use std::sync::Wait;
@@ -73,21 +73,10 @@ fn answer_to(
     alloc: Global,
     row: &Row,
 ) -> Result<Answer, AllocError> {
-    let words = words(alloc, row.words)?;
-    let image = bytes(alloc, "73000000")?;
-    let mut input = MemSource::new(image, one(alloc, row.input_fails)?, 99);
-    let mut output = MemSink::new(alloc, 99, one(alloc, row.output_fails)?, row.most.max(1))?;
-    let mut report = MemSink::new(alloc, 99, one(alloc, row.report_fails)?, 99)?;
-    let ended = run_tool(
-        rt,
-        alloc,
-        words.as_slice(),
-        &mut input,
-        &mut output,
-        &mut report,
-        &OpenGate,
-    );
-    answer_of(alloc, &ended, &output, &report)
+    let input = MemSource::new(bytes(alloc, "73000000")?, one(alloc, row.input_fails)?, 99);
+    let output = MemSink::new(alloc, 99, one(alloc, row.output_fails)?, row.most.max(1))?;
+    let report = MemSink::new(alloc, 99, one(alloc, row.report_fails)?, 99)?;
+    ask_over(rt, alloc, row.words, input, output, report, &OpenGate)
 }
 
 #[test]

@@ -1,6 +1,6 @@
 //! Images that the tool makes itself, and images out of ELF files.
 
-use crate::tables::{Row, answered, refused};
+use crate::tables::{Row, made, refused, told};
 
 /// The input that stands before `gen` and `soak`, which take none.
 const UNREAD: &str = "00";
@@ -11,31 +11,35 @@ pub const LOCK_500: &str =
     03260012 e30a76fe 83260013 93861600 2328d012 23200310 9382f2ff e39a02fc 73000000";
 
 pub static GENERATED: [Row; 11] = [
-    answered!("gen --shape lock --number 500", UNREAD, LOCK_500, ""),
+    made!("gen --shape lock --number 500", UNREAD, LOCK_500),
     refused!("gen --shape lock --number 0", UNREAD, 1, "rtr: usage\n"),
     refused!("gen --shape lock --number 2048", UNREAD, 1, "rtr: usage\n"),
     refused!("gen --shape mix", UNREAD, 1, "rtr: usage\n"),
     refused!("soak --shape mix", UNREAD, 1, "rtr: usage\n"),
     // One core takes the lock once, and waits for no one.
-    answered!(
+    told!(
         "soak --shape lock --number 1",
         UNREAD,
-        "",
         "shape lock number 1 cores 1\nretired 16\nreduced 0\nregulated 0 vectors 0 edges\nchanged 2 words\n"
     ),
     // The lock that is taken most often: a core by itself retires 6 instructions and 10 for each time.
-    answered!(
+    told!(
         "soak --shape lock --number 2047 --limit 100000",
         UNREAD,
-        "",
-        "shape lock number 2047 cores 1\nretired 20476\nreduced 0\nregulated 0 vectors 0 edges\nchanged 2 words\n"
+        concat!(
+            "shape lock number 2047 cores 1\nretired 20476\n",
+            "reduced 0\n",
+            "regulated 0 vectors 0 edges\nchanged 2 words\n",
+        )
     ),
-    answered!(
+    told!(
         "soak --shape lock --number 2047 --cores 2 --limit 100000",
         UNREAD,
-        "",
-        "shape lock number 2047 cores 2\nretired 98018\nreduced 13539\nregulated 6761 vectors 13539 edges\n\
-         changed 2 words\n"
+        concat!(
+            "shape lock number 2047 cores 2\nretired 98018\n",
+            "reduced 13539\n",
+            "regulated 6761 vectors 13539 edges\nchanged 2 words\n",
+        )
     ),
     // Its 72 bytes fill 18 words, and a memory has whole blocks of 4.
     refused!(
@@ -51,10 +55,9 @@ pub static GENERATED: [Row; 11] = [
         "rtr: input too large\n"
     ),
     // In a memory of 20 words every address of the lock but those of its instructions lies past the memory.
-    answered!(
+    told!(
         "soak --shape lock --number 1 --words 20",
         UNREAD,
-        "",
         "shape lock number 1 cores 1\nretired 5\nreduced 0\nregulated 0 vectors 0 edges\nchanged 0 words\n"
     ),
 ];
@@ -129,18 +132,17 @@ const LINKED: &str =
     00000000 00000000 01000000 00000000 1c000000 03000070 00000000 00000000 a8000000 1a000000 00000000 00000000 \
     01000000 00000000 01000000 03000000 00000000 00000000 c2000000 2e000000 00000000 00000000 01000000 00000000";
 
+/// How a run of it ends.
+const LINKED_ENDS: &str =
+    "core 0 exit retired 5 pc 00000020\ncore 0 x5 00000001\nmem 00000044 00000001\n";
+
 pub static ELF_FILES: [Row; 12] = [
-    answered!("run --elf --words 8", PROGRAM, "", ENDS),
-    answered!("run --words 8", FLAT, "", ENDS),
-    answered!("record --elf --words 8", PROGRAM, RECORDED, ""),
-    answered!("record --words 8", FLAT, RECORDED, ""),
+    told!("run --elf --words 8", PROGRAM, ENDS),
+    told!("run --words 8", FLAT, ENDS),
+    made!("record --elf --words 8", PROGRAM, RECORDED),
+    made!("record --words 8", FLAT, RECORDED),
     // The jump to the entry retires too.
-    answered!(
-        "run --elf --words 32",
-        LINKED,
-        "",
-        "core 0 exit retired 5 pc 00000020\ncore 0 x5 00000001\nmem 00000044 00000001\n"
-    ),
+    told!("run --elf --words 32", LINKED, LINKED_ENDS),
     // The file has 92 bytes, and a memory of 8 words 32. Without the flag it is too long.
     refused!("run --words 8", PROGRAM, 2, "rtr: input too large\n"),
     refused!(

@@ -4,7 +4,7 @@
 
 use crate::cut_tables::{READ, UNWRITTEN};
 use crate::replay_tables::HANDED_OVER_STATE;
-use crate::tables::{Row, answered, refused};
+use crate::tables::{Row, made, refused, told};
 
 /// `examples/hand_over.s`.
 const HAND_OVER: &str = "631a0500 93027000 23205004 03230004 73000000 83230004 2320a004 73000000";
@@ -88,452 +88,312 @@ const LOST_CERTIFICATE: &str =
     "52545202 02904e20 10832200 04938212 00232050 04730000 00040401 03010101 \
     03000301 01030301 01010301 03010200 010303";
 
-/// How the first run ends.
-const LOST_STATE: &str = "core 0 exit retired 4 pc 00000010\n\
-            core 0 x5 00000001\n\
-            core 1 exit retired 4 pc 00000010\n\
-            core 1 x5 00000001\n\
-            core 1 x10 00000001\n\
-            mem 00000040 00000001\n\
-            load 0 1 00000040 00000000\n\
-            load 1 1 00000040 00000000\n";
-
 /// What `tsorecord --cores 2 --words 64 --seed 0` makes of `STORE_BUFFERING`: both loads are logged.
 const BUFFERED: &str =
     "52545203 02904e40 1c131365 00930200 08b38262 40930310 00232073 0403ae02 00730000 \
     00070700 00010600 010600";
 
-/// How that run ends.
-const BUFFERED_STATE: &str = "core 0 exit retired 7 pc 0000001c\n\
-            core 0 x5 00000080\n\
-            core 0 x7 00000001\n\
-            core 1 exit retired 7 pc 0000001c\n\
-            core 1 x5 00000040\n\
-            core 1 x6 00000040\n\
-            core 1 x7 00000001\n\
-            core 1 x10 00000001\n\
-            mem 00000040 00000001\n\
-            mem 00000080 00000001\n\
-            load 0 6 00000080 00000000\n\
-            load 1 6 00000040 00000000\n";
-
-/// The same of `STORE_BUFFERING_FENCED`: one edge, and no logged load.
+/// What it makes of `STORE_BUFFERING_FENCED`: one edge, and no logged load.
 const FENCED: &str =
     "52545203 02904e40 20131365 00930200 08b38262 40930310 00232073 040f00f0 0f03ae02 \
     00730000 00080800 01050007 0000";
 
-/// How that run ends.
-const FENCED_STATE: &str = "core 0 exit retired 8 pc 00000020\n\
-            core 0 x5 00000080\n\
-            core 0 x7 00000001\n\
-            core 1 exit retired 8 pc 00000020\n\
-            core 1 x5 00000040\n\
-            core 1 x6 00000040\n\
-            core 1 x7 00000001\n\
-            core 1 x10 00000001\n\
-            core 1 x28 00000001\n\
-            mem 00000040 00000001\n\
-            mem 00000080 00000001\n\
-            load 0 7 00000080 00000000\n\
-            load 1 7 00000040 00000001\n";
-
-/// The same of `PETERSON`: a count is lost.
+/// What it makes of `PETERSON`: a count is lost.
 const BROKEN_LOCK: &str =
     "52545203 02904e40 48930220 00131325 00934315 00139423 00930410 00232093 08232470 \
     08832504 08638605 00032680 08e30a76 fe832600 09938616 002328d0 08232003 089382f2 \
     ffe39a02 fc730000 001a2603 0d010c03 01080601 02040600 080e0005 04000906 00010112 \
     00020e00 0201";
 
-/// How that run ends.
-const BROKEN_LOCK_STATE: &str = "core 0 exit retired 26 pc 00000048\n\
-            core 0 x7 00000001\n\
-            core 0 x8 00000004\n\
-            core 0 x9 00000001\n\
-            core 0 x13 00000002\n\
-            core 1 exit retired 38 pc 00000048\n\
-            core 1 x6 00000004\n\
-            core 1 x9 00000001\n\
-            core 1 x10 00000001\n\
-            core 1 x13 00000003\n\
-            mem 00000090 00000003\n\
-            load 0 8 00000084 00000000\n\
-            load 0 10 00000090 00000000\n\
-            load 0 18 00000084 00000000\n\
-            load 0 20 00000090 00000001\n\
-            load 1 8 00000080 00000001\n\
-            load 1 10 00000088 00000000\n\
-            load 1 12 00000080 00000001\n\
-            load 1 14 00000088 00000000\n\
-            load 1 16 00000080 00000001\n\
-            load 1 18 00000088 00000000\n\
-            load 1 20 00000080 00000000\n\
-            load 1 22 00000090 00000001\n\
-            load 1 30 00000080 00000000\n\
-            load 1 32 00000090 00000002\n";
+/// How the run of `LOST` ends.
+const LOST_STATE: &str = concat!(
+    "core 0 exit retired 4 pc 00000010\ncore 0 x5 00000001\n",
+    "core 1 exit retired 4 pc 00000010\ncore 1 x5 00000001\ncore 1 x10 00000001\n",
+    "mem 00000040 00000001\n",
+    "load 0 1 00000040 00000000\nload 1 1 00000040 00000000\n",
+);
+
+/// How the run of `BUFFERED` ends.
+const BUFFERED_STATE: &str = concat!(
+    "core 0 exit retired 7 pc 0000001c\ncore 0 x5 00000080\ncore 0 x7 00000001\n",
+    "core 1 exit retired 7 pc 0000001c\ncore 1 x5 00000040\ncore 1 x6 00000040\ncore 1 x7 00000001\n",
+    "core 1 x10 00000001\n",
+    "mem 00000040 00000001\nmem 00000080 00000001\n",
+    "load 0 6 00000080 00000000\nload 1 6 00000040 00000000\n",
+);
+
+/// How the run of `FENCED` ends.
+const FENCED_STATE: &str = concat!(
+    "core 0 exit retired 8 pc 00000020\ncore 0 x5 00000080\ncore 0 x7 00000001\n",
+    "core 1 exit retired 8 pc 00000020\ncore 1 x5 00000040\ncore 1 x6 00000040\ncore 1 x7 00000001\n",
+    "core 1 x10 00000001\ncore 1 x28 00000001\n",
+    "mem 00000040 00000001\nmem 00000080 00000001\n",
+    "load 0 7 00000080 00000000\nload 1 7 00000040 00000001\n",
+);
+
+/// How the run of `BROKEN_LOCK` ends.
+const BROKEN_LOCK_STATE: &str = concat!(
+    "core 0 exit retired 26 pc 00000048\ncore 0 x7 00000001\ncore 0 x8 00000004\ncore 0 x9 00000001\n",
+    "core 0 x13 00000002\n",
+    "core 1 exit retired 38 pc 00000048\ncore 1 x6 00000004\ncore 1 x9 00000001\ncore 1 x10 00000001\n",
+    "core 1 x13 00000003\n",
+    "mem 00000090 00000003\n",
+    "load 0 8 00000084 00000000\nload 0 10 00000090 00000000\nload 0 18 00000084 00000000\n",
+    "load 0 20 00000090 00000001\nload 1 8 00000080 00000001\nload 1 10 00000088 00000000\n",
+    "load 1 12 00000080 00000001\nload 1 14 00000088 00000000\nload 1 16 00000080 00000001\n",
+    "load 1 18 00000088 00000000\nload 1 20 00000080 00000000\nload 1 22 00000090 00000001\n",
+    "load 1 30 00000080 00000000\nload 1 32 00000090 00000002\n",
+);
+
+/// How the run of `STORE_BUFFERING` ends that has no store buffers.
+const STORE_BUFFERING_STATE: &str = concat!(
+    "core 0 exit retired 7 pc 0000001c\ncore 0 x5 00000080\ncore 0 x7 00000001\n",
+    "core 1 exit retired 7 pc 0000001c\ncore 1 x5 00000040\ncore 1 x6 00000040\ncore 1 x7 00000001\n",
+    "core 1 x10 00000001\ncore 1 x28 00000001\n",
+    "mem 00000040 00000001\nmem 00000080 00000001\n",
+);
 
 /// What is made of each example, what is printed of that, and how it ends.
 pub static EXAMPLES: [Row; 24] = [
-    answered!(
+    made!(
         "record --cores 2 --words 32 --choices 00000001010101010101010101010101",
         HAND_OVER,
-        HAND_OVER_RECORDING,
-        ""
+        HAND_OVER_RECORDING
     ),
-    answered!(
+    told!(
         "print",
         HAND_OVER_RECORDING,
-        "",
-        "cores 2 limit 10000 words 32 image 32\n\
-            total 0 5\n\
-            total 1 4\n\
-            reduced 2\n\
-            edge 0:3 1:2\n\
-            edge 1:3 0:4\n\
-            regulated 2 vectors 2 edges\n\
-            vector 0 1 1 3 2\n\
-            vector 1 0 1 3 4\n"
+        concat!(
+            "cores 2 limit 10000 words 32 image 32\ntotal 0 5\ntotal 1 4\n",
+            "reduced 2\nedge 0:3 1:2\nedge 1:3 0:4\n",
+            "regulated 2 vectors 2 edges\nvector 0 1 1 3 2\nvector 1 0 1 3 4\n",
+        )
     ),
-    answered!(
+    told!(
         "run --cores 2 --words 32 --choices 00000001010101010101010101010101",
         HAND_OVER,
-        "",
-        "core 0 exit retired 5 pc 00000014\n\
-            core 0 x5 00000007\n\
-            core 0 x6 00000001\n\
-            core 1 exit retired 4 pc 00000020\n\
-            core 1 x7 00000007\n\
-            core 1 x10 00000001\n\
-            mem 00000040 00000001\n"
+        concat!(
+            "core 0 exit retired 5 pc 00000014\ncore 0 x5 00000007\ncore 0 x6 00000001\n",
+            "core 1 exit retired 4 pc 00000020\ncore 1 x7 00000007\ncore 1 x10 00000001\n",
+            "mem 00000040 00000001\n",
+        )
     ),
-    answered!(
+    made!(
         "record --cores 2 --words 32 --seed 0",
         LOST_UPDATE,
-        LOST_UPDATE_RECORDING,
-        ""
+        LOST_UPDATE_RECORDING
     ),
-    answered!(
+    told!(
         "print",
         LOST_UPDATE_RECORDING,
-        "",
-        "cores 2 limit 10000 words 32 image 16\n\
-            total 0 4\n\
-            total 1 4\n\
-            reduced 2\n\
-            edge 0:3 1:3\n\
-            edge 1:1 0:3\n\
-            regulated 2 vectors 2 edges\n\
-            vector 0 1 1 3 3\n\
-            vector 1 0 1 1 3\n"
+        concat!(
+            "cores 2 limit 10000 words 32 image 16\ntotal 0 4\ntotal 1 4\n",
+            "reduced 2\nedge 0:3 1:3\nedge 1:1 0:3\n",
+            "regulated 2 vectors 2 edges\nvector 0 1 1 3 3\nvector 1 0 1 1 3\n",
+        )
     ),
-    answered!(
+    told!(
         "run --cores 2 --words 32 --seed 0",
         LOST_UPDATE,
-        "",
-        "core 0 exit retired 4 pc 00000010\n\
-            core 0 x5 00000001\n\
-            core 1 exit retired 4 pc 00000010\n\
-            core 1 x5 00000001\n\
-            core 1 x10 00000001\n\
-            mem 00000040 00000001\n"
+        concat!(
+            "core 0 exit retired 4 pc 00000010\ncore 0 x5 00000001\n",
+            "core 1 exit retired 4 pc 00000010\ncore 1 x5 00000001\ncore 1 x10 00000001\n",
+            "mem 00000040 00000001\n",
+        )
     ),
-    answered!(
+    made!(
         "record --cores 2 --words 32 --seed 4",
         LOST_UPDATE,
-        LOST_UPDATE_LATER_RECORDING,
-        ""
+        LOST_UPDATE_LATER_RECORDING
     ),
-    answered!(
+    told!(
         "print",
         LOST_UPDATE_LATER_RECORDING,
-        "",
-        "cores 2 limit 10000 words 32 image 16\n\
-            total 0 4\n\
-            total 1 4\n\
-            reduced 1\n\
-            edge 0:3 1:1\n\
-            regulated 1 vectors 1 edges\n\
-            vector 0 1 1 3 1\n"
+        concat!(
+            "cores 2 limit 10000 words 32 image 16\ntotal 0 4\ntotal 1 4\n",
+            "reduced 1\nedge 0:3 1:1\n",
+            "regulated 1 vectors 1 edges\nvector 0 1 1 3 1\n",
+        )
     ),
-    answered!(
+    told!(
         "run --cores 2 --words 32 --seed 4",
         LOST_UPDATE,
-        "",
-        "core 0 exit retired 4 pc 00000010\n\
-            core 0 x5 00000001\n\
-            core 1 exit retired 4 pc 00000010\n\
-            core 1 x5 00000002\n\
-            core 1 x10 00000001\n\
-            mem 00000040 00000002\n"
+        concat!(
+            "core 0 exit retired 4 pc 00000010\ncore 0 x5 00000001\n",
+            "core 1 exit retired 4 pc 00000010\ncore 1 x5 00000002\ncore 1 x10 00000001\n",
+            "mem 00000040 00000002\n",
+        )
     ),
-    answered!(
+    made!(
         "record --cores 2 --words 64 --seed 0",
         STORE_BUFFERING,
-        STORE_BUFFERING_RECORDING,
-        ""
+        STORE_BUFFERING_RECORDING
     ),
-    answered!(
+    told!(
         "print",
         STORE_BUFFERING_RECORDING,
-        "",
-        "cores 2 limit 10000 words 64 image 28\n\
-            total 0 7\n\
-            total 1 7\n\
-            reduced 1\n\
-            edge 0:6 1:5\n\
-            regulated 1 vectors 1 edges\n\
-            vector 0 1 1 6 5\n"
+        concat!(
+            "cores 2 limit 10000 words 64 image 28\ntotal 0 7\ntotal 1 7\n",
+            "reduced 1\nedge 0:6 1:5\n",
+            "regulated 1 vectors 1 edges\nvector 0 1 1 6 5\n",
+        )
     ),
-    answered!(
+    told!(
         "run --cores 2 --words 64 --seed 0",
         STORE_BUFFERING,
-        "",
-        "core 0 exit retired 7 pc 0000001c\n\
-            core 0 x5 00000080\n\
-            core 0 x7 00000001\n\
-            core 1 exit retired 7 pc 0000001c\n\
-            core 1 x5 00000040\n\
-            core 1 x6 00000040\n\
-            core 1 x7 00000001\n\
-            core 1 x10 00000001\n\
-            core 1 x28 00000001\n\
-            mem 00000040 00000001\n\
-            mem 00000080 00000001\n"
+        STORE_BUFFERING_STATE
     ),
-    answered!(
+    made!(
         "record --cores 2 --words 64 --seed 0",
         STORE_BUFFERING_FENCED,
-        STORE_BUFFERING_FENCED_RECORDING,
-        ""
+        STORE_BUFFERING_FENCED_RECORDING
     ),
-    answered!(
+    told!(
         "print",
         STORE_BUFFERING_FENCED_RECORDING,
-        "",
-        "cores 2 limit 10000 words 64 image 32\n\
-            total 0 8\n\
-            total 1 8\n\
-            reduced 2\n\
-            edge 0:5 1:7\n\
-            edge 1:5 0:7\n\
-            regulated 2 vectors 2 edges\n\
-            vector 0 1 1 5 7\n\
-            vector 1 0 1 5 7\n"
+        concat!(
+            "cores 2 limit 10000 words 64 image 32\ntotal 0 8\ntotal 1 8\n",
+            "reduced 2\nedge 0:5 1:7\nedge 1:5 0:7\n",
+            "regulated 2 vectors 2 edges\nvector 0 1 1 5 7\nvector 1 0 1 5 7\n",
+        )
     ),
-    answered!(
+    told!(
         "run --cores 2 --words 64 --seed 0",
         STORE_BUFFERING_FENCED,
-        "",
-        "core 0 exit retired 8 pc 00000020\n\
-            core 0 x5 00000080\n\
-            core 0 x7 00000001\n\
-            core 0 x28 00000001\n\
-            core 1 exit retired 8 pc 00000020\n\
-            core 1 x5 00000040\n\
-            core 1 x6 00000040\n\
-            core 1 x7 00000001\n\
-            core 1 x10 00000001\n\
-            core 1 x28 00000001\n\
-            mem 00000040 00000001\n\
-            mem 00000080 00000001\n"
+        concat!(
+            "core 0 exit retired 8 pc 00000020\ncore 0 x5 00000080\ncore 0 x7 00000001\ncore 0 x28 00000001\n",
+            "core 1 exit retired 8 pc 00000020\ncore 1 x5 00000040\ncore 1 x6 00000040\ncore 1 x7 00000001\n",
+            "core 1 x10 00000001\ncore 1 x28 00000001\n",
+            "mem 00000040 00000001\nmem 00000080 00000001\n",
+        )
     ),
-    answered!(
+    made!(
         "record --cores 2 --words 64 --seed 0",
         PETERSON,
-        PETERSON_RECORDING,
-        ""
+        PETERSON_RECORDING
     ),
-    answered!(
+    told!(
         "print",
         PETERSON_RECORDING,
-        "",
-        "cores 2 limit 10000 words 64 image 72\n\
-            total 0 40\n\
-            total 1 50\n\
-            reduced 8\n\
-            edge 0:8 1:6\n\
-            edge 0:13 1:12\n\
-            edge 0:30 1:17\n\
-            edge 0:37 1:42\n\
-            edge 1:8 0:13\n\
-            edge 1:12 0:16\n\
-            edge 1:21 0:32\n\
-            edge 1:38 0:37\n\
-            regulated 4 vectors 8 edges\n\
-            vector 0 1 2 8 6 5 6\n\
-            vector 0 1 2 30 17 7 25\n\
-            vector 1 0 2 8 13 4 3\n\
-            vector 1 0 2 21 32 17 5\n"
+        concat!(
+            "cores 2 limit 10000 words 64 image 72\ntotal 0 40\ntotal 1 50\n",
+            "reduced 8\nedge 0:8 1:6\nedge 0:13 1:12\nedge 0:30 1:17\nedge 0:37 1:42\nedge 1:8 0:13\nedge 1:12 0:16\n",
+            "edge 1:21 0:32\nedge 1:38 0:37\n",
+            "regulated 4 vectors 8 edges\nvector 0 1 2 8 6 5 6\nvector 0 1 2 30 17 7 25\nvector 1 0 2 8 13 4 3\n",
+            "vector 1 0 2 21 32 17 5\n",
+        )
     ),
-    answered!(
+    told!(
         "run --cores 2 --words 64 --seed 0",
         PETERSON,
-        "",
-        "core 0 exit retired 40 pc 00000048\n\
-            core 0 x7 00000001\n\
-            core 0 x8 00000004\n\
-            core 0 x9 00000001\n\
-            core 0 x11 00000001\n\
-            core 0 x13 00000003\n\
-            core 1 exit retired 50 pc 00000048\n\
-            core 1 x6 00000004\n\
-            core 1 x9 00000001\n\
-            core 1 x10 00000001\n\
-            core 1 x13 00000004\n\
-            mem 00000090 00000004\n"
+        concat!(
+            "core 0 exit retired 40 pc 00000048\ncore 0 x7 00000001\ncore 0 x8 00000004\ncore 0 x9 00000001\n",
+            "core 0 x11 00000001\ncore 0 x13 00000003\n",
+            "core 1 exit retired 50 pc 00000048\ncore 1 x6 00000004\ncore 1 x9 00000001\ncore 1 x10 00000001\n",
+            "core 1 x13 00000004\n",
+            "mem 00000090 00000004\n",
+        )
     ),
-    answered!(
+    made!(
         "record --cores 2 --words 32 --seed 1",
         FALSE_SHARING,
-        FALSE_SHARING_RECORDING,
-        ""
+        FALSE_SHARING_RECORDING
     ),
-    answered!(
+    told!(
         "print",
         FALSE_SHARING_RECORDING,
-        "",
-        "cores 2 limit 10000 words 32 image 32\n\
-            total 0 18\n\
-            total 1 18\n\
-            reduced 0\n\
-            regulated 0 vectors 0 edges\n"
+        concat!(
+            "cores 2 limit 10000 words 32 image 32\ntotal 0 18\ntotal 1 18\n",
+            "reduced 0\n",
+            "regulated 0 vectors 0 edges\n",
+        )
     ),
-    answered!(
+    told!(
         "run --cores 2 --words 32 --seed 1",
         FALSE_SHARING,
-        "",
-        "core 0 exit retired 18 pc 00000020\n\
-            core 0 x7 00000003\n\
-            core 1 exit retired 18 pc 00000020\n\
-            core 1 x6 00000004\n\
-            core 1 x7 00000003\n\
-            core 1 x10 00000001\n\
-            mem 00000040 00000003\n\
-            mem 00000044 00000003\n"
+        concat!(
+            "core 0 exit retired 18 pc 00000020\ncore 0 x7 00000003\n",
+            "core 1 exit retired 18 pc 00000020\ncore 1 x6 00000004\ncore 1 x7 00000003\ncore 1 x10 00000001\n",
+            "mem 00000040 00000003\nmem 00000044 00000003\n",
+        )
     ),
-    answered!(
+    made!(
         "record --cores 3 --words 64 --seed 1",
         BARRIER,
-        BARRIER_RECORDING,
-        ""
+        BARRIER_RECORDING
     ),
-    answered!(
+    told!(
         "print",
         BARRIER_RECORDING,
-        "",
-        "cores 3 limit 10000 words 64 image 60\n\
-            total 0 14\n\
-            total 1 14\n\
-            total 2 15\n\
-            reduced 4\n\
-            edge 0:6 2:6\n\
-            edge 1:6 0:6\n\
-            edge 2:6 0:8\n\
-            edge 2:6 1:8\n\
-            regulated 4 vectors 4 edges\n\
-            vector 0 2 1 6 6\n\
-            vector 1 0 1 6 6\n\
-            vector 2 0 1 6 8\n\
-            vector 2 1 1 6 8\n"
+        concat!(
+            "cores 3 limit 10000 words 64 image 60\ntotal 0 14\ntotal 1 14\ntotal 2 15\n",
+            "reduced 4\nedge 0:6 2:6\nedge 1:6 0:6\nedge 2:6 0:8\nedge 2:6 1:8\n",
+            "regulated 4 vectors 4 edges\nvector 0 2 1 6 6\nvector 1 0 1 6 6\nvector 2 0 1 6 8\nvector 2 1 1 6 8\n",
+        )
     ),
-    answered!(
+    told!(
         "run --cores 3 --words 64 --seed 1",
         BARRIER,
-        "",
-        "core 0 exit retired 14 pc 0000003c\n\
-            core 0 x5 00000001\n\
-            core 0 x6 00000010\n\
-            core 0 x7 00000080\n\
-            core 0 x8 00000001\n\
-            core 0 x9 00000003\n\
-            core 0 x11 00000003\n\
-            core 0 x12 00000030\n\
-            core 0 x13 00000002\n\
-            core 1 exit retired 14 pc 0000003c\n\
-            core 1 x5 00000002\n\
-            core 1 x6 00000020\n\
-            core 1 x7 00000080\n\
-            core 1 x8 00000001\n\
-            core 1 x9 00000003\n\
-            core 1 x10 00000001\n\
-            core 1 x11 00000003\n\
-            core 1 x12 00000030\n\
-            core 1 x13 00000003\n\
-            core 2 exit retired 15 pc 0000003c\n\
-            core 2 x5 00000003\n\
-            core 2 x7 00000080\n\
-            core 2 x8 00000001\n\
-            core 2 x9 00000003\n\
-            core 2 x10 00000002\n\
-            core 2 x11 00000003\n\
-            core 2 x12 00000030\n\
-            core 2 x13 00000001\n\
-            mem 00000040 00000001\n\
-            mem 00000050 00000002\n\
-            mem 00000060 00000003\n\
-            mem 00000080 00000003\n"
+        concat!(
+            "core 0 exit retired 14 pc 0000003c\ncore 0 x5 00000001\ncore 0 x6 00000010\ncore 0 x7 00000080\n",
+            "core 0 x8 00000001\ncore 0 x9 00000003\ncore 0 x11 00000003\ncore 0 x12 00000030\ncore 0 x13 00000002\n",
+            "core 1 exit retired 14 pc 0000003c\ncore 1 x5 00000002\ncore 1 x6 00000020\ncore 1 x7 00000080\n",
+            "core 1 x8 00000001\ncore 1 x9 00000003\ncore 1 x10 00000001\ncore 1 x11 00000003\ncore 1 x12 00000030\n",
+            "core 1 x13 00000003\n",
+            "core 2 exit retired 15 pc 0000003c\ncore 2 x5 00000003\ncore 2 x7 00000080\ncore 2 x8 00000001\n",
+            "core 2 x9 00000003\ncore 2 x10 00000002\ncore 2 x11 00000003\ncore 2 x12 00000030\ncore 2 x13 00000001\n",
+            "mem 00000040 00000001\nmem 00000050 00000002\nmem 00000060 00000003\nmem 00000080 00000003\n",
+        )
     ),
 ];
 
 /// The steps of the lesson.
 pub static LESSON: [Row; 30] = [
-    answered!(
+    made!(
         "record --cores 2 --words 32 --choices 000001",
         LOST_UPDATE,
-        LOST,
-        ""
+        LOST
     ),
-    answered!(
+    told!(
         "run --cores 2 --words 32 --choices 000001 --loads",
         LOST_UPDATE,
-        "",
         LOST_STATE
     ),
-    answered!(
+    told!(
         "print",
         LOST,
-        "",
-        "cores 2 limit 10000 words 32 image 16\n\
-            total 0 4\n\
-            total 1 4\n\
-            reduced 2\n\
-            edge 0:3 1:3\n\
-            edge 1:1 0:3\n\
-            regulated 2 vectors 2 edges\n\
-            vector 0 1 1 3 3\n\
-            vector 1 0 1 1 3\n"
+        concat!(
+            "cores 2 limit 10000 words 32 image 16\ntotal 0 4\ntotal 1 4\n",
+            "reduced 2\nedge 0:3 1:3\nedge 1:1 0:3\n",
+            "regulated 2 vectors 2 edges\nvector 0 1 1 3 3\nvector 1 0 1 1 3\n",
+        )
     ),
-    answered!(
+    made!(
         "record --cores 2 --words 32 --choices 000101",
         LOST_UPDATE,
-        KEPT,
-        ""
+        KEPT
     ),
-    answered!(
+    told!(
         "print",
         KEPT,
-        "",
-        "cores 2 limit 10000 words 32 image 16\n\
-            total 0 4\n\
-            total 1 4\n\
-            reduced 1\n\
-            edge 0:3 1:1\n\
-            regulated 1 vectors 1 edges\n\
-            vector 0 1 1 3 1\n"
+        concat!(
+            "cores 2 limit 10000 words 32 image 16\ntotal 0 4\ntotal 1 4\n",
+            "reduced 1\nedge 0:3 1:1\n",
+            "regulated 1 vectors 1 edges\nvector 0 1 1 3 1\n",
+        )
     ),
-    answered!(
+    told!(
         "run --cores 2 --words 32 --choices 000101",
         LOST_UPDATE,
-        "",
-        "core 0 exit retired 4 pc 00000010\n\
-            core 0 x5 00000001\n\
-            core 1 exit retired 4 pc 00000010\n\
-            core 1 x5 00000002\n\
-            core 1 x10 00000001\n\
-            mem 00000040 00000002\n"
+        concat!(
+            "core 0 exit retired 4 pc 00000010\ncore 0 x5 00000001\n",
+            "core 1 exit retired 4 pc 00000010\ncore 1 x5 00000002\ncore 1 x10 00000001\n",
+            "mem 00000040 00000002\n",
+        )
     ),
-    answered!("replay --loads", LOST, "", LOST_STATE),
-    answered!("replay --log regulated --loads", LOST, "", LOST_STATE),
-    answered!("replay --threads 2 --loads", LOST, "", LOST_STATE),
+    told!("replay --loads", LOST, LOST_STATE),
+    told!("replay --log regulated --loads", LOST, LOST_STATE),
+    told!("replay --threads 2 --loads", LOST, LOST_STATE),
     // The edge from core 1 is left out; it is turned round; core 0 is said to have retired one more.
     refused!(
         "replay",
@@ -559,8 +419,8 @@ pub static LESSON: [Row; 30] = [
         5,
         "rtr: core 0 stops at 4\n"
     ),
-    answered!("certify", LOST, LOST_CERTIFICATE, ""),
-    answered!("check", LOST_CERTIFICATE, "", "least 2 edges\n"),
+    made!("certify", LOST, LOST_CERTIFICATE),
+    told!("check", LOST_CERTIFICATE, "least 2 edges\n"),
     // The clock of 0:3 doesn't know of 1:1.
     refused!(
         "check",
@@ -570,82 +430,63 @@ pub static LESSON: [Row; 30] = [
         "rtr: clock 1 of core 0 is wrong\n"
     ),
     // From the load of core 1 to the store that it read; then all of core 1, which doesn't need core 0's load.
-    answered!("replay --loads", HAND_OVER_RECORDING, "", HANDED_OVER_STATE),
-    answered!("at --core 1 --count 2", HAND_OVER_RECORDING, "", READ),
-    answered!(
+    told!("replay --loads", HAND_OVER_RECORDING, HANDED_OVER_STATE),
+    told!("at --core 1 --count 2", HAND_OVER_RECORDING, READ),
+    told!(
         "at --core 0 --count 3 --latest",
         HAND_OVER_RECORDING,
-        "",
         UNWRITTEN
     ),
-    answered!(
+    told!(
         "at --core 0 --count 4 --latest",
         HAND_OVER_RECORDING,
-        "",
-        "cut 3 4\n\
-            core 0 total retired 3 pc 0000000c\n\
-            core 0 x5 00000007\n\
-            core 1 exit retired 4 pc 00000020\n\
-            core 1 x7 00000007\n\
-            core 1 x10 00000001\n\
-            mem 00000040 00000001\n"
+        concat!(
+            "cut 3 4\n",
+            "core 0 total retired 3 pc 0000000c\ncore 0 x5 00000007\n",
+            "core 1 exit retired 4 pc 00000020\ncore 1 x7 00000007\ncore 1 x10 00000001\n",
+            "mem 00000040 00000001\n",
+        )
     ),
     // Stores that wait in their cores, a FENCE between store and load, and a lock that needs one.
-    answered!(
-        "run --cores 2 --words 64 --seed 0 --loads",
-        STORE_BUFFERING,
-        "",
-        "core 0 exit retired 7 pc 0000001c\n\
-            core 0 x5 00000080\n\
-            core 0 x7 00000001\n\
-            core 1 exit retired 7 pc 0000001c\n\
-            core 1 x5 00000040\n\
-            core 1 x6 00000040\n\
-            core 1 x7 00000001\n\
-            core 1 x10 00000001\n\
-            core 1 x28 00000001\n\
-            mem 00000040 00000001\n\
-            mem 00000080 00000001\n\
-            load 0 6 00000080 00000000\n\
-            load 1 6 00000040 00000001\n"
-    ),
-    answered!(
+    Row {
+        loads: "load 0 6 00000080 00000000\nload 1 6 00000040 00000001\n",
+        ..told!(
+            "run --cores 2 --words 64 --seed 0 --loads",
+            STORE_BUFFERING,
+            STORE_BUFFERING_STATE
+        )
+    },
+    told!(
         "tsorun --cores 2 --words 64 --seed 0 --loads",
         STORE_BUFFERING,
-        "",
         BUFFERED_STATE
     ),
-    answered!(
+    made!(
         "tsorecord --cores 2 --words 64 --seed 0",
         STORE_BUFFERING,
-        BUFFERED,
-        ""
+        BUFFERED
     ),
-    answered!("tsoreplay --loads", BUFFERED, "", BUFFERED_STATE),
-    answered!(
+    told!("tsoreplay --loads", BUFFERED, BUFFERED_STATE),
+    told!(
         "tsorun --cores 2 --words 64 --seed 0 --loads",
         STORE_BUFFERING_FENCED,
-        "",
         FENCED_STATE
     ),
-    answered!(
+    made!(
         "tsorecord --cores 2 --words 64 --seed 0",
         STORE_BUFFERING_FENCED,
-        FENCED,
-        ""
+        FENCED
     ),
-    answered!("tsoreplay --loads", FENCED, "", FENCED_STATE),
-    answered!(
+    told!("tsoreplay --loads", FENCED, FENCED_STATE),
+    told!(
         "tsorun --cores 2 --words 64 --seed 0 --loads",
         PETERSON,
-        "",
         BROKEN_LOCK_STATE
     ),
-    answered!(
+    made!(
         "tsorecord --cores 2 --words 64 --seed 0",
         PETERSON,
-        BROKEN_LOCK,
-        ""
+        BROKEN_LOCK
     ),
-    answered!("tsoreplay --loads", BROKEN_LOCK, "", BROKEN_LOCK_STATE),
+    told!("tsoreplay --loads", BROKEN_LOCK, BROKEN_LOCK_STATE),
 ];

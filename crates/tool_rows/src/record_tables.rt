@@ -7,14 +7,19 @@ use crate::run_tables::{
     WRITER_EVICTS, WRITERS_EVICT,
 };
 
-/// A call of `record` that ends well: its words and its image. Then the bytes of the recording before the
-/// image, those after it, and how many bytes 00 end it; and what `print` says of it. Bytes are hexadecimal
-/// digits.
+/// The pieces of a recording: what stands before its image, the image, and what stands behind it. Bytes are
+/// hexadecimal digits.
+pub struct Pieces {
+    pub header: &'static str,
+    pub image: &'static str,
+    pub rest: &'static str,
+}
+
+/// A call of `record` that ends well: its words, the recording, and how many bytes 00 end it; and what `print`
+/// says of it.
 pub struct Recorded {
     pub words: &'static str,
-    pub image: &'static str,
-    pub header: &'static str,
-    pub rest: &'static str,
+    pub recording: Pieces,
     pub zeros: u32,
     pub text: &'static str,
 }
@@ -23,9 +28,11 @@ macro_rules! recorded {
     ($words:expr, $image:expr, $header:expr, $rest:expr, $zeros:literal, $text:expr) => {
         Recorded {
             words: $words,
-            image: $image,
-            header: $header,
-            rest: $rest,
+            recording: Pieces {
+                header: $header,
+                image: $image,
+                rest: $rest,
+            },
             zeros: $zeros,
             text: $text,
         }
@@ -47,36 +54,20 @@ pub const THREE_WORDS: &str =
     13000000 13000000 03248004 73000000";
 
 /// What is said of a recording of `OWN_WORDS`, whose cores share no word.
-const OWN_WORDS_LOGS: &str = "cores 2 limit 10000 words 16 image 16\n\
-    total 0 4\n\
-    total 1 4\n\
-    reduced 0\n\
-    regulated 0 vectors 0 edges\n";
+const OWN_WORDS_LOGS: &str =
+    "cores 2 limit 10000 words 16 image 16\ntotal 0 4\ntotal 1 4\nreduced 0\nregulated 0 vectors 0 edges\n";
 
-/// What is said of one of `THREE_WORDS` where core 0's stores come before core 1's loads: each load needs an
-/// edge, as the store that it finds comes after those of the words before. Where the third store is known two
-/// instructions before the load that finds it, by the strides of the first two edges, one vector has it.
-const THREE_WORDS_KNOWN: &str = "cores 2 limit 10000 words 32 image 48\n\
-    total 0 6\n\
-    total 1 8\n\
-    reduced 3\n\
-    edge 0:3 1:3\n\
-    edge 0:4 1:4\n\
-    edge 0:5 1:7\n\
-    regulated 1 vectors 3 edges\n\
-    vector 0 1 3 3 3 1 1\n";
+/// What is said where core 1 stores last to the word of `OWN_BYTES` or `ONE_WORD`.
+const SECOND_LAST_LOGS: &str = concat!(
+    "cores 2 limit 10000 words 16 image 12\ntotal 0 3\ntotal 1 3\n",
+    "reduced 1\nedge 0:2 1:2\nregulated 1 vectors 1 edges\nvector 0 1 1 2 2\n",
+);
 
-/// And where it is not known there, so that the third edge opens a vector.
-const THREE_WORDS_UNKNOWN: &str = "cores 2 limit 10000 words 32 image 48\n\
-    total 0 6\n\
-    total 1 8\n\
-    reduced 3\n\
-    edge 0:3 1:3\n\
-    edge 0:4 1:4\n\
-    edge 0:5 1:7\n\
-    regulated 2 vectors 3 edges\n\
-    vector 0 1 2 3 3 1 1\n\
-    vector 0 1 1 5 7\n";
+/// What is said of a recording of `WRITER_EVICTS` or `WRITERS_EVICT` where core 1 comes to the word after core 0.
+const WRITERS_EVICT_LOGS: &str = concat!(
+    "cores 2 limit 10000 words 96 image 28\ntotal 0 5\ntotal 1 4\n",
+    "reduced 1\nedge 0:3 1:3\nregulated 1 vectors 1 edges\nvector 0 1 1 3 3\n",
+);
 
 /// The rows.
 pub static RECORDINGS: [Recorded; 18] = [
@@ -106,15 +97,11 @@ pub static RECORDINGS: [Recorded; 18] = [
         "52545202 02 904e 20 20",
         "0504 01 040103 01 020003 01 010302 01 010304",
         0,
-        "cores 2 limit 10000 words 32 image 32\n\
-            total 0 5\n\
-            total 1 4\n\
-            reduced 2\n\
-            edge 0:3 1:2\n\
-            edge 1:3 0:4\n\
-            regulated 2 vectors 2 edges\n\
-            vector 0 1 1 3 2\n\
-            vector 1 0 1 3 4\n"
+        concat!(
+            "cores 2 limit 10000 words 32 image 32\ntotal 0 5\ntotal 1 4\n",
+            "reduced 2\nedge 0:3 1:2\nedge 1:3 0:4\n",
+            "regulated 2 vectors 2 edges\nvector 0 1 1 3 2\nvector 1 0 1 3 4\n",
+        )
     ),
     // Bytes of one word conflict. Core 0's request is served first.
     recorded!(
@@ -123,13 +110,7 @@ pub static RECORDINGS: [Recorded; 18] = [
         "52545202 02 904e 10 0c",
         "0303 00 01 020002 01 010202 00",
         0,
-        "cores 2 limit 10000 words 16 image 12\n\
-            total 0 3\n\
-            total 1 3\n\
-            reduced 1\n\
-            edge 0:2 1:2\n\
-            regulated 1 vectors 1 edges\n\
-            vector 0 1 1 2 2\n"
+        SECOND_LAST_LOGS
     ),
     // Readers ordered through another word. The choices let core 1 end first, and then core 2; so core 1's
     // load at 3 comes before core 0's store at 4 by way of its store and core 2's loads.
@@ -139,16 +120,11 @@ pub static RECORDINGS: [Recorded; 18] = [
         "52545202 03 904e 40 2c",
         "050506 01 040205 00 01 040104 00 00 00 01 010404 01 010504 00",
         0,
-        "cores 3 limit 10000 words 64 image 44\n\
-            total 0 5\n\
-            total 1 5\n\
-            total 2 6\n\
-            reduced 2\n\
-            edge 1:4 2:4\n\
-            edge 2:5 0:4\n\
-            regulated 2 vectors 2 edges\n\
-            vector 1 2 1 4 4\n\
-            vector 2 0 1 5 4\n"
+        concat!(
+            "cores 3 limit 10000 words 64 image 44\ntotal 0 5\ntotal 1 5\ntotal 2 6\n",
+            "reduced 2\nedge 1:4 2:4\nedge 2:5 0:4\n",
+            "regulated 2 vectors 2 edges\nvector 1 2 1 4 4\nvector 2 0 1 5 4\n",
+        )
     ),
     // The fifth choice lets the request of one core or of the other be first.
     recorded!(
@@ -157,13 +133,7 @@ pub static RECORDINGS: [Recorded; 18] = [
         "52545202 02 904e 10 0c",
         "0303 00 01 020002 01 010202 00",
         0,
-        "cores 2 limit 10000 words 16 image 12\n\
-            total 0 3\n\
-            total 1 3\n\
-            reduced 1\n\
-            edge 0:2 1:2\n\
-            regulated 1 vectors 1 edges\n\
-            vector 0 1 1 2 2\n"
+        SECOND_LAST_LOGS
     ),
     recorded!(
         "record --cores 2 --words 16 --choices 0000000001",
@@ -171,13 +141,11 @@ pub static RECORDINGS: [Recorded; 18] = [
         "52545202 02 904e 10 0c",
         "0303 01 020102 00 00 01 010202",
         0,
-        "cores 2 limit 10000 words 16 image 12\n\
-            total 0 3\n\
-            total 1 3\n\
-            reduced 1\n\
-            edge 1:2 0:2\n\
-            regulated 1 vectors 1 edges\n\
-            vector 1 0 1 2 2\n"
+        concat!(
+            "cores 2 limit 10000 words 16 image 12\ntotal 0 3\ntotal 1 3\n",
+            "reduced 1\nedge 1:2 0:2\n",
+            "regulated 1 vectors 1 edges\nvector 1 0 1 2 2\n",
+        )
     ),
     // Each core adds to one word: two atomic memory operations conflict.
     recorded!(
@@ -186,13 +154,11 @@ pub static RECORDINGS: [Recorded; 18] = [
         "52545202 02 904e 10 10",
         "0404 00 01 030003 01 010303 00",
         0,
-        "cores 2 limit 10000 words 16 image 16\n\
-            total 0 4\n\
-            total 1 4\n\
-            reduced 1\n\
-            edge 0:3 1:3\n\
-            regulated 1 vectors 1 edges\n\
-            vector 0 1 1 3 3\n"
+        concat!(
+            "cores 2 limit 10000 words 16 image 16\ntotal 0 4\ntotal 1 4\n",
+            "reduced 1\nedge 0:3 1:3\n",
+            "regulated 1 vectors 1 edges\nvector 0 1 1 3 3\n",
+        )
     ),
     // A read by the first writer between two writes: core 1 loads at 2, core 0 stores at 3 and loads at 4, core
     // 1 stores at 3. No edge leaves the first write.
@@ -202,15 +168,11 @@ pub static RECORDINGS: [Recorded; 18] = [
         "52545202 02 904e 20 20",
         "0504 01 030102 01 030004 01 010403 01 010203",
         0,
-        "cores 2 limit 10000 words 32 image 32\n\
-            total 0 5\n\
-            total 1 4\n\
-            reduced 2\n\
-            edge 0:4 1:3\n\
-            edge 1:2 0:3\n\
-            regulated 2 vectors 2 edges\n\
-            vector 0 1 1 4 3\n\
-            vector 1 0 1 2 3\n"
+        concat!(
+            "cores 2 limit 10000 words 32 image 32\ntotal 0 5\ntotal 1 4\n",
+            "reduced 2\nedge 0:4 1:3\nedge 1:2 0:3\n",
+            "regulated 2 vectors 2 edges\nvector 0 1 1 4 3\nvector 1 0 1 2 3\n",
+        )
     ),
     // PutS is stalled while Inv takes core 1's read copy back: its read goes home with the answer to Inv.
     recorded!(
@@ -219,13 +181,11 @@ pub static RECORDINGS: [Recorded; 18] = [
         "52545202 02 904e 60 1c",
         "0405 01 030103 00 00 01 010303",
         0,
-        "cores 2 limit 10000 words 96 image 28\n\
-            total 0 4\n\
-            total 1 5\n\
-            reduced 1\n\
-            edge 1:3 0:3\n\
-            regulated 1 vectors 1 edges\n\
-            vector 1 0 1 3 3\n"
+        concat!(
+            "cores 2 limit 10000 words 96 image 28\ntotal 0 4\ntotal 1 5\n",
+            "reduced 1\nedge 1:3 0:3\n",
+            "regulated 1 vectors 1 edges\nvector 1 0 1 3 3\n",
+        )
     ),
     // PutM is stalled while core 1's load, or its store, is forwarded to core 0.
     recorded!(
@@ -234,13 +194,7 @@ pub static RECORDINGS: [Recorded; 18] = [
         "52545202 02 904e 60 1c",
         "0504 00 01 030003 01 010303 00",
         0,
-        "cores 2 limit 10000 words 96 image 28\n\
-            total 0 5\n\
-            total 1 4\n\
-            reduced 1\n\
-            edge 0:3 1:3\n\
-            regulated 1 vectors 1 edges\n\
-            vector 0 1 1 3 3\n"
+        WRITERS_EVICT_LOGS
     ),
     recorded!(
         "record --cores 2 --words 96 --choices 00000001010101010001000000",
@@ -248,13 +202,7 @@ pub static RECORDINGS: [Recorded; 18] = [
         "52545202 02 904e 60 1c",
         "0504 00 01 030003 01 010303 00",
         0,
-        "cores 2 limit 10000 words 96 image 28\n\
-            total 0 5\n\
-            total 1 4\n\
-            reduced 1\n\
-            edge 0:3 1:3\n\
-            regulated 1 vectors 1 edges\n\
-            vector 0 1 1 3 3\n"
+        WRITERS_EVICT_LOGS
     ),
     // Three stores and then three loads: all stores come first, or the third one after two of the loads, when
     // core 1 gives its read copy up again. The rises are 3 and 3, 1 and 1, 3 and 1.
@@ -264,7 +212,11 @@ pub static RECORDINGS: [Recorded; 18] = [
         "52545202 02 904e 20 30",
         "0608 00 03 030003 010001 030001 01 0303030101 00",
         0,
-        THREE_WORDS_KNOWN
+        concat!(
+            "cores 2 limit 10000 words 32 image 48\ntotal 0 6\ntotal 1 8\n",
+            "reduced 3\nedge 0:3 1:3\nedge 0:4 1:4\nedge 0:5 1:7\n",
+            "regulated 1 vectors 3 edges\nvector 0 1 3 3 3 1 1\n",
+        )
     ),
     recorded!(
         "record --cores 2 --words 32 --choices 000000010100010101010101010101010001010101",
@@ -272,7 +224,11 @@ pub static RECORDINGS: [Recorded; 18] = [
         "52545202 02 904e 20 30",
         "0608 00 03 030003 010001 030001 02 0203030101 010507 00",
         0,
-        THREE_WORDS_UNKNOWN
+        concat!(
+            "cores 2 limit 10000 words 32 image 48\ntotal 0 6\ntotal 1 8\n",
+            "reduced 3\nedge 0:3 1:3\nedge 0:4 1:4\nedge 0:5 1:7\n",
+            "regulated 2 vectors 3 edges\nvector 0 1 2 3 3 1 1\nvector 0 1 1 5 7\n",
+        )
     ),
     // Core 0 ends at the limit with its ECALL, and core 1 is stopped by it. No core stores anything.
     recorded!(
@@ -281,11 +237,7 @@ pub static RECORDINGS: [Recorded; 18] = [
         "52545202 02 03 20 10",
         "0303",
         4,
-        "cores 2 limit 3 words 32 image 16\n\
-            total 0 3\n\
-            total 1 3\n\
-            reduced 0\n\
-            regulated 0 vectors 0 edges\n"
+        "cores 2 limit 3 words 32 image 16\ntotal 0 3\ntotal 1 3\nreduced 0\nregulated 0 vectors 0 edges\n"
     ),
     // Sixteen cores have 240 pairs in each log, and the reduced one has a number of edges for each target.
     recorded!(
@@ -294,25 +246,13 @@ pub static RECORDINGS: [Recorded; 18] = [
         "52545202 10 904e 808001 04",
         "01 01 01 01 01 01 01 01 01 01 01 01 01 01 01 01",
         256,
-        "cores 16 limit 10000 words 16384 image 4\n\
-            total 0 1\n\
-            total 1 1\n\
-            total 2 1\n\
-            total 3 1\n\
-            total 4 1\n\
-            total 5 1\n\
-            total 6 1\n\
-            total 7 1\n\
-            total 8 1\n\
-            total 9 1\n\
-            total 10 1\n\
-            total 11 1\n\
-            total 12 1\n\
-            total 13 1\n\
-            total 14 1\n\
-            total 15 1\n\
-            reduced 0\n\
-            regulated 0 vectors 0 edges\n"
+        concat!(
+            "cores 16 limit 10000 words 16384 image 4\ntotal 0 1\ntotal 1 1\ntotal 2 1\ntotal 3 1\ntotal 4 1\n",
+            "total 5 1\ntotal 6 1\ntotal 7 1\ntotal 8 1\ntotal 9 1\ntotal 10 1\ntotal 11 1\ntotal 12 1\ntotal 13 1\n",
+            "total 14 1\ntotal 15 1\n",
+            "reduced 0\n",
+            "regulated 0 vectors 0 edges\n",
+        )
     ),
     // Eight have 56.
     recorded!(
@@ -321,17 +261,12 @@ pub static RECORDINGS: [Recorded; 18] = [
         "52545202 08 01 04 04",
         "01 01 01 01 01 01 01 01",
         64,
-        "cores 8 limit 1 words 4 image 4\n\
-            total 0 1\n\
-            total 1 1\n\
-            total 2 1\n\
-            total 3 1\n\
-            total 4 1\n\
-            total 5 1\n\
-            total 6 1\n\
-            total 7 1\n\
-            reduced 0\n\
-            regulated 0 vectors 0 edges\n"
+        concat!(
+            "cores 8 limit 1 words 4 image 4\ntotal 0 1\ntotal 1 1\ntotal 2 1\ntotal 3 1\ntotal 4 1\ntotal 5 1\n",
+            "total 6 1\ntotal 7 1\n",
+            "reduced 0\n",
+            "regulated 0 vectors 0 edges\n",
+        )
     ),
     // Eight cores that share blocks, upgrade and evict: each word that is written belongs to one core, and so
     // there is no edge.
@@ -341,16 +276,11 @@ pub static RECORDINGS: [Recorded; 18] = [
         "52545202 08 904e 8001 4c",
         "11 11 11 11 11 11 11 11",
         64,
-        "cores 8 limit 10000 words 128 image 76\n\
-            total 0 17\n\
-            total 1 17\n\
-            total 2 17\n\
-            total 3 17\n\
-            total 4 17\n\
-            total 5 17\n\
-            total 6 17\n\
-            total 7 17\n\
-            reduced 0\n\
-            regulated 0 vectors 0 edges\n"
+        concat!(
+            "cores 8 limit 10000 words 128 image 76\ntotal 0 17\ntotal 1 17\ntotal 2 17\ntotal 3 17\ntotal 4 17\n",
+            "total 5 17\ntotal 6 17\ntotal 7 17\n",
+            "reduced 0\n",
+            "regulated 0 vectors 0 edges\n",
+        )
     ),
 ];

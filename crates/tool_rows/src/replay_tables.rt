@@ -1,29 +1,29 @@
 //! Replays of recordings whose logs were written by hand. What each row wants was worked out from the logs and
 //! the instructions: a comment says how, where they don't show it.
 
-use crate::record_tables::THREE_WORDS;
+use crate::record_tables::{Pieces, THREE_WORDS};
 use crate::run_tables::{HANDED_OVER, ONE_WORD, OWN_BYTES};
 
-/// A call of `replay`: its words, and the recording that it reads, in three pieces: what stands before the
-/// image, the image, and the totals and logs. Then the status that it ends with, the state that it prints,
-/// and the report. Bytes are hexadecimal digits.
+/// A call of `replay`: its words, and the recording that it reads. Then the status that it ends with, the state that it
+/// prints, and the report.
 pub struct Replayed {
     pub words: &'static str,
-    pub header: &'static str,
-    pub image: &'static str,
-    pub logs: &'static str,
+    pub recording: Pieces,
     pub status: u8,
     pub text: &'static str,
     pub report: &'static str,
 }
 
+/// A replay that ends well: its words, the pieces of the recording, and the state.
 macro_rules! replayed {
     ($words:expr, $header:expr, $image:expr, $logs:expr, $text:expr) => {
         Replayed {
             words: $words,
-            header: $header,
-            image: $image,
-            logs: $logs,
+            recording: Pieces {
+                header: $header,
+                image: $image,
+                rest: $logs,
+            },
             status: 0,
             text: $text,
             report: "",
@@ -31,70 +31,53 @@ macro_rules! replayed {
     };
 }
 
-macro_rules! refused {
-    ($words:expr, $header:expr, $logs:expr, $status:expr, $report:expr) => {
+/// A call that is refused: its words, the pieces of the recording, the status, and the report.
+macro_rules! unplayed {
+    ($words:expr, $header:expr, $image:expr, $logs:expr, $status:expr, $report:expr) => {
         Replayed {
-            words: $words,
-            header: $header,
-            image: ONE_WORD,
-            logs: $logs,
             status: $status,
-            text: "",
             report: $report,
+            ..replayed!($words, $header, $image, $logs, "")
         }
     };
 }
 
+pub(crate) use replayed;
+pub(crate) use unplayed;
+
+/// A replay of `ONE_WORD` that is refused.
+macro_rules! refused {
+    ($words:expr, $header:expr, $logs:expr, $status:expr, $report:expr) => {
+        unplayed!($words, $header, ONE_WORD, $logs, $status, $report)
+    };
+}
+
 /// Two cores, a limit of 10,000, sixteen words, and twelve bytes of `ONE_WORD`.
-const TWO_CORES: &str = "52545201 02 904e 10 0c";
+pub const TWO_CORES: &str = "52545201 02 904e 10 0c";
 
 /// The same of three cores.
 const FOR_THREE: &str = "52545201 03 904e 10 0c";
 
-/// What `HANDED_OVER` leaves where core 1 reads what core 0 wrote, and core 0 what core 1 wrote.
-pub const HANDED_OVER_STATE: &str = "core 0 exit retired 5 pc 00000014\n\
-    core 0 x5 00000007\n\
-    core 0 x6 00000001\n\
-    core 1 exit retired 4 pc 00000020\n\
-    core 1 x7 00000007\n\
-    core 1 x10 00000001\n\
-    mem 00000040 00000001\n\
-    load 0 4 00000040 00000001\n\
-    load 1 2 00000040 00000007\n";
-
-/// What `ONE_WORD` leaves where core 1 writes last.
-const SECOND_LAST: &str = "core 0 exit retired 3 pc 0000000c\n\
-    core 0 x5 00000005\n\
-    core 1 exit retired 3 pc 0000000c\n\
-    core 1 x5 00000006\n\
-    core 1 x10 00000001\n\
-    mem 00000020 00000006\n";
-
 /// What `THREE_WORDS` leaves of three cores, where cores 1 and 2 each load the three words after core 0 wrote
 /// them.
-const THREE_WORDS_STATE: &str = "core 0 exit retired 6 pc 00000018\n\
-    core 0 x5 00000009\n\
-    core 1 exit retired 8 pc 00000030\n\
-    core 1 x5 0000000a\n\
-    core 1 x6 00000009\n\
-    core 1 x7 00000009\n\
-    core 1 x8 00000009\n\
-    core 1 x10 00000001\n\
-    core 2 exit retired 8 pc 00000030\n\
-    core 2 x5 0000000b\n\
-    core 2 x6 00000009\n\
-    core 2 x7 00000009\n\
-    core 2 x8 00000009\n\
-    core 2 x10 00000002\n\
-    mem 00000040 00000009\n\
-    mem 00000044 00000009\n\
-    mem 00000048 00000009\n\
-    load 1 3 00000040 00000009\n\
-    load 1 4 00000044 00000009\n\
-    load 1 7 00000048 00000009\n\
-    load 2 3 00000040 00000009\n\
-    load 2 4 00000044 00000009\n\
-    load 2 7 00000048 00000009\n";
+const THREE_WORDS_STATE: &str = concat!(
+    "core 0 exit retired 6 pc 00000018\ncore 0 x5 00000009\n",
+    "core 1 exit retired 8 pc 00000030\ncore 1 x5 0000000a\ncore 1 x6 00000009\ncore 1 x7 00000009\n",
+    "core 1 x8 00000009\ncore 1 x10 00000001\n",
+    "core 2 exit retired 8 pc 00000030\ncore 2 x5 0000000b\ncore 2 x6 00000009\ncore 2 x7 00000009\n",
+    "core 2 x8 00000009\ncore 2 x10 00000002\n",
+    "mem 00000040 00000009\nmem 00000044 00000009\nmem 00000048 00000009\n",
+    "load 1 3 00000040 00000009\nload 1 4 00000044 00000009\nload 1 7 00000048 00000009\nload 2 3 00000040 00000009\n",
+    "load 2 4 00000044 00000009\nload 2 7 00000048 00000009\n",
+);
+
+/// What `HANDED_OVER` leaves where core 1 reads what core 0 wrote, and core 0 what core 1 wrote.
+pub const HANDED_OVER_STATE: &str = concat!(
+    "core 0 exit retired 5 pc 00000014\ncore 0 x5 00000007\ncore 0 x6 00000001\n",
+    "core 1 exit retired 4 pc 00000020\ncore 1 x7 00000007\ncore 1 x10 00000001\n",
+    "mem 00000040 00000001\n",
+    "load 0 4 00000040 00000001\nload 1 2 00000040 00000007\n",
+);
 
 /// The rows.
 pub static REPLAYS: [Replayed; 19] = [
@@ -120,13 +103,18 @@ pub static REPLAYS: [Replayed; 19] = [
         "0504 01 02 03 01 04 03 01 01 03 02 01 01 03 04",
         HANDED_OVER_STATE
     ),
-    // The reduced log orders 0:2 before 1:2. The regulated log goes round, and neither comes first.
+    // The reduced log orders 0:2 before 1:2, so that core 1 writes last. The regulated log goes round, and neither
+    // comes first.
     replayed!(
         "replay --log reduced",
         TWO_CORES,
         ONE_WORD,
         "0303 010202 00 01010202 01010202",
-        SECOND_LAST
+        concat!(
+            "core 0 exit retired 3 pc 0000000c\ncore 0 x5 00000005\n",
+            "core 1 exit retired 3 pc 0000000c\ncore 1 x5 00000006\ncore 1 x10 00000001\n",
+            "mem 00000020 00000006\n",
+        )
     ),
     refused!(
         "replay --log regulated",
@@ -141,12 +129,11 @@ pub static REPLAYS: [Replayed; 19] = [
         TWO_CORES,
         ONE_WORD,
         "0103 00 00 00 00",
-        "core 0 total retired 1 pc 00000004\n\
-            core 0 x5 00000005\n\
-            core 1 exit retired 3 pc 0000000c\n\
-            core 1 x5 00000006\n\
-            core 1 x10 00000001\n\
-            mem 00000020 00000006\n"
+        concat!(
+            "core 0 total retired 1 pc 00000004\ncore 0 x5 00000005\n",
+            "core 1 exit retired 3 pc 0000000c\ncore 1 x5 00000006\ncore 1 x10 00000001\n",
+            "mem 00000020 00000006\n",
+        )
     ),
     // Vectors of three positions each, from 0:3, 0:4 and 0:5 to 3, 4 and 5 of cores 1 and 2. The third position
     // comes two instructions before the load that the reduced log orders.
@@ -230,15 +217,14 @@ pub static REPLAYS: [Replayed; 19] = [
         "rtr: no order from 0:2 to 2:2\n"
     ),
     // Each core stores a byte of its own in one word, and neither log orders the two.
-    Replayed {
-        words: "replay",
-        header: TWO_CORES,
-        image: OWN_BYTES,
-        logs: "0303 00 00 00 00",
-        status: 6,
-        text: "",
-        report: "rtr: no order from 0:2 to 1:2\n",
-    },
+    unplayed!(
+        "replay",
+        TWO_CORES,
+        OWN_BYTES,
+        "0303 00 00 00 00",
+        6,
+        "rtr: no order from 0:2 to 1:2\n"
+    ),
     // No recording.
     refused!("replay", "", "", 3, "rtr: bad input, part 1\n"),
     refused!(

@@ -1,22 +1,15 @@
 //! Runs of the machine. What each row wants was worked out by hand from the instructions and the tables of
 //! the protocol: a comment says how, where the words of the row and its image don't show it.
 
-/// A call of `run` that ends well: its words and its image, then the lines of cores and memory, and those of
-/// loads, which are asked for by the words. The image is hexadecimal digits.
-pub struct Run {
-    pub words: &'static str,
-    pub image: &'static str,
-    pub state: &'static str,
-    pub loads: &'static str,
-}
+use crate::tables::{Row, told};
 
+/// A call of `run` that ends well: its words and its image, then the lines of cores and memory, and those of
+/// loads, which are asked for by the words.
 macro_rules! run {
     ($words:expr, $image:expr, $state:expr, $loads:expr) => {
-        Run {
-            words: $words,
-            image: $image,
-            state: $state,
+        Row {
             loads: $loads,
+            ..told!($words, $image, $state)
         }
     };
 }
@@ -81,234 +74,90 @@ pub const LAST_WORD: &str = "b7021000 23ae52fe 73000000";
 pub const EVERY_BLOCK: &str = "93121501 b7030200 b3835300 03a30200 93820201 e39c72fe 73000000";
 
 /// What `EVERY_BLOCK` leaves: each core stopped where the next one began, and its last word was 0.
-const EVERY_BLOCK_STATE: &str = "core 0 exit retired 24580 pc 0000001c\n\
-    core 0 x5 00020000\n\
-    core 0 x7 00020000\n\
-    core 1 exit retired 24580 pc 0000001c\n\
-    core 1 x5 00040000\n\
-    core 1 x7 00040000\n\
-    core 1 x10 00000001\n\
-    core 2 exit retired 24580 pc 0000001c\n\
-    core 2 x5 00060000\n\
-    core 2 x7 00060000\n\
-    core 2 x10 00000002\n\
-    core 3 exit retired 24580 pc 0000001c\n\
-    core 3 x5 00080000\n\
-    core 3 x7 00080000\n\
-    core 3 x10 00000003\n\
-    core 4 exit retired 24580 pc 0000001c\n\
-    core 4 x5 000a0000\n\
-    core 4 x7 000a0000\n\
-    core 4 x10 00000004\n\
-    core 5 exit retired 24580 pc 0000001c\n\
-    core 5 x5 000c0000\n\
-    core 5 x7 000c0000\n\
-    core 5 x10 00000005\n\
-    core 6 exit retired 24580 pc 0000001c\n\
-    core 6 x5 000e0000\n\
-    core 6 x7 000e0000\n\
-    core 6 x10 00000006\n\
-    core 7 exit retired 24580 pc 0000001c\n\
-    core 7 x5 00100000\n\
-    core 7 x7 00100000\n\
-    core 7 x10 00000007\n";
+const EVERY_BLOCK_STATE: &str = concat!(
+    "core 0 exit retired 24580 pc 0000001c\ncore 0 x5 00020000\ncore 0 x7 00020000\n",
+    "core 1 exit retired 24580 pc 0000001c\ncore 1 x5 00040000\ncore 1 x7 00040000\ncore 1 x10 00000001\n",
+    "core 2 exit retired 24580 pc 0000001c\ncore 2 x5 00060000\ncore 2 x7 00060000\ncore 2 x10 00000002\n",
+    "core 3 exit retired 24580 pc 0000001c\ncore 3 x5 00080000\ncore 3 x7 00080000\ncore 3 x10 00000003\n",
+    "core 4 exit retired 24580 pc 0000001c\ncore 4 x5 000a0000\ncore 4 x7 000a0000\ncore 4 x10 00000004\n",
+    "core 5 exit retired 24580 pc 0000001c\ncore 5 x5 000c0000\ncore 5 x7 000c0000\ncore 5 x10 00000005\n",
+    "core 6 exit retired 24580 pc 0000001c\ncore 6 x5 000e0000\ncore 6 x7 000e0000\ncore 6 x10 00000006\n",
+    "core 7 exit retired 24580 pc 0000001c\ncore 7 x5 00100000\ncore 7 x7 00100000\ncore 7 x10 00000007\n",
+);
 
 /// What `EIGHT_WORK` leaves. Each word that is written belongs to one core, and was 0, and the two words
 /// that all cores load are never written; so no schedule changes anything. The results of core c are b00 + c,
 /// a00 + c, and a00 + c + a00.
-const EIGHT_RESULTS: &str = "core 0 exit retired 17 pc 00000044\n\
-    core 0 x7 00000a00\n\
-    core 0 x8 00000a00\n\
-    core 0 x9 00001400\n\
-    core 0 x11 00000b00\n\
-    core 0 x12 00000b00\n\
-    core 1 exit retired 17 pc 00000044\n\
-    core 1 x5 00000010\n\
-    core 1 x6 00000004\n\
-    core 1 x7 00000a00\n\
-    core 1 x8 00000a01\n\
-    core 1 x9 00001401\n\
-    core 1 x10 00000001\n\
-    core 1 x11 00000b00\n\
-    core 1 x12 00000b01\n\
-    core 2 exit retired 17 pc 00000044\n\
-    core 2 x5 00000020\n\
-    core 2 x6 00000008\n\
-    core 2 x7 00000a00\n\
-    core 2 x8 00000a02\n\
-    core 2 x9 00001402\n\
-    core 2 x10 00000002\n\
-    core 2 x11 00000b00\n\
-    core 2 x12 00000b02\n\
-    core 3 exit retired 17 pc 00000044\n\
-    core 3 x5 00000030\n\
-    core 3 x6 0000000c\n\
-    core 3 x7 00000a00\n\
-    core 3 x8 00000a03\n\
-    core 3 x9 00001403\n\
-    core 3 x10 00000003\n\
-    core 3 x11 00000b00\n\
-    core 3 x12 00000b03\n\
-    core 4 exit retired 17 pc 00000044\n\
-    core 4 x5 00000040\n\
-    core 4 x6 00000010\n\
-    core 4 x7 00000a00\n\
-    core 4 x8 00000a04\n\
-    core 4 x9 00001404\n\
-    core 4 x10 00000004\n\
-    core 4 x11 00000b00\n\
-    core 4 x12 00000b04\n\
-    core 5 exit retired 17 pc 00000044\n\
-    core 5 x5 00000050\n\
-    core 5 x6 00000014\n\
-    core 5 x7 00000a00\n\
-    core 5 x8 00000a05\n\
-    core 5 x9 00001405\n\
-    core 5 x10 00000005\n\
-    core 5 x11 00000b00\n\
-    core 5 x12 00000b05\n\
-    core 6 exit retired 17 pc 00000044\n\
-    core 6 x5 00000060\n\
-    core 6 x6 00000018\n\
-    core 6 x7 00000a00\n\
-    core 6 x8 00000a06\n\
-    core 6 x9 00001406\n\
-    core 6 x10 00000006\n\
-    core 6 x11 00000b00\n\
-    core 6 x12 00000b06\n\
-    core 7 exit retired 17 pc 00000044\n\
-    core 7 x5 00000070\n\
-    core 7 x6 0000001c\n\
-    core 7 x7 00000a00\n\
-    core 7 x8 00000a07\n\
-    core 7 x9 00001407\n\
-    core 7 x10 00000007\n\
-    core 7 x11 00000b00\n\
-    core 7 x12 00000b07\n\
-    mem 00000060 00000b00\n\
-    mem 00000064 00000b01\n\
-    mem 00000068 00000b02\n\
-    mem 0000006c 00000b03\n\
-    mem 00000070 00000b04\n\
-    mem 00000074 00000b05\n\
-    mem 00000078 00000b06\n\
-    mem 0000007c 00000b07\n\
-    mem 00000080 00000a00\n\
-    mem 00000090 00000a01\n\
-    mem 000000a0 00000a02\n\
-    mem 000000b0 00000a03\n\
-    mem 000000c0 00000a04\n\
-    mem 000000d0 00000a05\n\
-    mem 000000e0 00000a06\n\
-    mem 000000f0 00000a07\n\
-    mem 00000180 00001400\n\
-    mem 00000190 00001401\n\
-    mem 000001a0 00001402\n\
-    mem 000001b0 00001403\n\
-    mem 000001c0 00001404\n\
-    mem 000001d0 00001405\n\
-    mem 000001e0 00001406\n\
-    mem 000001f0 00001407\n";
+const EIGHT_RESULTS: &str = concat!(
+    "core 0 exit retired 17 pc 00000044\ncore 0 x7 00000a00\ncore 0 x8 00000a00\ncore 0 x9 00001400\n",
+    "core 0 x11 00000b00\ncore 0 x12 00000b00\n",
+    "core 1 exit retired 17 pc 00000044\ncore 1 x5 00000010\ncore 1 x6 00000004\ncore 1 x7 00000a00\n",
+    "core 1 x8 00000a01\ncore 1 x9 00001401\ncore 1 x10 00000001\ncore 1 x11 00000b00\ncore 1 x12 00000b01\n",
+    "core 2 exit retired 17 pc 00000044\ncore 2 x5 00000020\ncore 2 x6 00000008\ncore 2 x7 00000a00\n",
+    "core 2 x8 00000a02\ncore 2 x9 00001402\ncore 2 x10 00000002\ncore 2 x11 00000b00\ncore 2 x12 00000b02\n",
+    "core 3 exit retired 17 pc 00000044\ncore 3 x5 00000030\ncore 3 x6 0000000c\ncore 3 x7 00000a00\n",
+    "core 3 x8 00000a03\ncore 3 x9 00001403\ncore 3 x10 00000003\ncore 3 x11 00000b00\ncore 3 x12 00000b03\n",
+    "core 4 exit retired 17 pc 00000044\ncore 4 x5 00000040\ncore 4 x6 00000010\ncore 4 x7 00000a00\n",
+    "core 4 x8 00000a04\ncore 4 x9 00001404\ncore 4 x10 00000004\ncore 4 x11 00000b00\ncore 4 x12 00000b04\n",
+    "core 5 exit retired 17 pc 00000044\ncore 5 x5 00000050\ncore 5 x6 00000014\ncore 5 x7 00000a00\n",
+    "core 5 x8 00000a05\ncore 5 x9 00001405\ncore 5 x10 00000005\ncore 5 x11 00000b00\ncore 5 x12 00000b05\n",
+    "core 6 exit retired 17 pc 00000044\ncore 6 x5 00000060\ncore 6 x6 00000018\ncore 6 x7 00000a00\n",
+    "core 6 x8 00000a06\ncore 6 x9 00001406\ncore 6 x10 00000006\ncore 6 x11 00000b00\ncore 6 x12 00000b06\n",
+    "core 7 exit retired 17 pc 00000044\ncore 7 x5 00000070\ncore 7 x6 0000001c\ncore 7 x7 00000a00\n",
+    "core 7 x8 00000a07\ncore 7 x9 00001407\ncore 7 x10 00000007\ncore 7 x11 00000b00\ncore 7 x12 00000b07\n",
+    "mem 00000060 00000b00\nmem 00000064 00000b01\nmem 00000068 00000b02\nmem 0000006c 00000b03\n",
+    "mem 00000070 00000b04\nmem 00000074 00000b05\nmem 00000078 00000b06\nmem 0000007c 00000b07\n",
+    "mem 00000080 00000a00\nmem 00000090 00000a01\nmem 000000a0 00000a02\nmem 000000b0 00000a03\n",
+    "mem 000000c0 00000a04\nmem 000000d0 00000a05\nmem 000000e0 00000a06\nmem 000000f0 00000a07\n",
+    "mem 00000180 00001400\nmem 00000190 00001401\nmem 000001a0 00001402\nmem 000001b0 00001403\n",
+    "mem 000001c0 00001404\nmem 000001d0 00001405\nmem 000001e0 00001406\nmem 000001f0 00001407\n",
+);
 
 /// The loads of `EIGHT_WORK`: each core finds its words 0 at its first loads of them, and at the last load
 /// its own result.
-const EIGHT_LOADS: &str = "load 0 3 00000044 00000a00\n\
-    load 0 4 00000080 00000000\n\
-    load 0 8 00000180 00000000\n\
-    load 0 9 00000048 00000b00\n\
-    load 0 10 00000060 00000000\n\
-    load 0 14 00000080 00000a00\n\
-    load 1 3 00000044 00000a00\n\
-    load 1 4 00000090 00000000\n\
-    load 1 8 00000190 00000000\n\
-    load 1 9 00000048 00000b00\n\
-    load 1 10 00000064 00000000\n\
-    load 1 14 00000090 00000a01\n\
-    load 2 3 00000044 00000a00\n\
-    load 2 4 000000a0 00000000\n\
-    load 2 8 000001a0 00000000\n\
-    load 2 9 00000048 00000b00\n\
-    load 2 10 00000068 00000000\n\
-    load 2 14 000000a0 00000a02\n\
-    load 3 3 00000044 00000a00\n\
-    load 3 4 000000b0 00000000\n\
-    load 3 8 000001b0 00000000\n\
-    load 3 9 00000048 00000b00\n\
-    load 3 10 0000006c 00000000\n\
-    load 3 14 000000b0 00000a03\n\
-    load 4 3 00000044 00000a00\n\
-    load 4 4 000000c0 00000000\n\
-    load 4 8 000001c0 00000000\n\
-    load 4 9 00000048 00000b00\n\
-    load 4 10 00000070 00000000\n\
-    load 4 14 000000c0 00000a04\n\
-    load 5 3 00000044 00000a00\n\
-    load 5 4 000000d0 00000000\n\
-    load 5 8 000001d0 00000000\n\
-    load 5 9 00000048 00000b00\n\
-    load 5 10 00000074 00000000\n\
-    load 5 14 000000d0 00000a05\n\
-    load 6 3 00000044 00000a00\n\
-    load 6 4 000000e0 00000000\n\
-    load 6 8 000001e0 00000000\n\
-    load 6 9 00000048 00000b00\n\
-    load 6 10 00000078 00000000\n\
-    load 6 14 000000e0 00000a06\n\
-    load 7 3 00000044 00000a00\n\
-    load 7 4 000000f0 00000000\n\
-    load 7 8 000001f0 00000000\n\
-    load 7 9 00000048 00000b00\n\
-    load 7 10 0000007c 00000000\n\
-    load 7 14 000000f0 00000a07\n";
+const EIGHT_LOADS: &str = concat!(
+    "load 0 3 00000044 00000a00\nload 0 4 00000080 00000000\nload 0 8 00000180 00000000\nload 0 9 00000048 00000b00\n",
+    "load 0 10 00000060 00000000\nload 0 14 00000080 00000a00\nload 1 3 00000044 00000a00\n",
+    "load 1 4 00000090 00000000\nload 1 8 00000190 00000000\nload 1 9 00000048 00000b00\nload 1 10 00000064 00000000\n",
+    "load 1 14 00000090 00000a01\nload 2 3 00000044 00000a00\nload 2 4 000000a0 00000000\nload 2 8 000001a0 00000000\n",
+    "load 2 9 00000048 00000b00\nload 2 10 00000068 00000000\nload 2 14 000000a0 00000a02\n",
+    "load 3 3 00000044 00000a00\nload 3 4 000000b0 00000000\nload 3 8 000001b0 00000000\nload 3 9 00000048 00000b00\n",
+    "load 3 10 0000006c 00000000\nload 3 14 000000b0 00000a03\nload 4 3 00000044 00000a00\n",
+    "load 4 4 000000c0 00000000\nload 4 8 000001c0 00000000\nload 4 9 00000048 00000b00\nload 4 10 00000070 00000000\n",
+    "load 4 14 000000c0 00000a04\nload 5 3 00000044 00000a00\nload 5 4 000000d0 00000000\nload 5 8 000001d0 00000000\n",
+    "load 5 9 00000048 00000b00\nload 5 10 00000074 00000000\nload 5 14 000000d0 00000a05\n",
+    "load 6 3 00000044 00000a00\nload 6 4 000000e0 00000000\nload 6 8 000001e0 00000000\nload 6 9 00000048 00000b00\n",
+    "load 6 10 00000078 00000000\nload 6 14 000000e0 00000a06\nload 7 3 00000044 00000a00\n",
+    "load 7 4 000000f0 00000000\nload 7 8 000001f0 00000000\nload 7 9 00000048 00000b00\nload 7 10 0000007c 00000000\n",
+    "load 7 14 000000f0 00000a07\n",
+);
 
 /// Sixteen cores that end at once: register x10 holds the number of its core.
-const SIXTEEN_ENDS: &str = "core 0 exit retired 1 pc 00000004\n\
-    core 1 exit retired 1 pc 00000004\n\
-    core 1 x10 00000001\n\
-    core 2 exit retired 1 pc 00000004\n\
-    core 2 x10 00000002\n\
-    core 3 exit retired 1 pc 00000004\n\
-    core 3 x10 00000003\n\
-    core 4 exit retired 1 pc 00000004\n\
-    core 4 x10 00000004\n\
-    core 5 exit retired 1 pc 00000004\n\
-    core 5 x10 00000005\n\
-    core 6 exit retired 1 pc 00000004\n\
-    core 6 x10 00000006\n\
-    core 7 exit retired 1 pc 00000004\n\
-    core 7 x10 00000007\n\
-    core 8 exit retired 1 pc 00000004\n\
-    core 8 x10 00000008\n\
-    core 9 exit retired 1 pc 00000004\n\
-    core 9 x10 00000009\n\
-    core 10 exit retired 1 pc 00000004\n\
-    core 10 x10 0000000a\n\
-    core 11 exit retired 1 pc 00000004\n\
-    core 11 x10 0000000b\n\
-    core 12 exit retired 1 pc 00000004\n\
-    core 12 x10 0000000c\n\
-    core 13 exit retired 1 pc 00000004\n\
-    core 13 x10 0000000d\n\
-    core 14 exit retired 1 pc 00000004\n\
-    core 14 x10 0000000e\n\
-    core 15 exit retired 1 pc 00000004\n\
-    core 15 x10 0000000f\n";
-
-/// What `OWN_WORDS` leaves: core 1 alone changes its word, the one at 36.
-const OWN_WORDS_STATE: &str = "core 0 exit retired 4 pc 00000010\n\
-    core 1 exit retired 4 pc 00000010\n\
-    core 1 x5 00000004\n\
-    core 1 x6 00000001\n\
-    core 1 x10 00000001\n\
-    mem 00000024 00000001\n";
+const SIXTEEN_ENDS: &str = concat!(
+    "core 0 exit retired 1 pc 00000004\ncore 1 exit retired 1 pc 00000004\ncore 1 x10 00000001\n",
+    "core 2 exit retired 1 pc 00000004\ncore 2 x10 00000002\ncore 3 exit retired 1 pc 00000004\ncore 3 x10 00000003\n",
+    "core 4 exit retired 1 pc 00000004\ncore 4 x10 00000004\ncore 5 exit retired 1 pc 00000004\ncore 5 x10 00000005\n",
+    "core 6 exit retired 1 pc 00000004\ncore 6 x10 00000006\ncore 7 exit retired 1 pc 00000004\ncore 7 x10 00000007\n",
+    "core 8 exit retired 1 pc 00000004\ncore 8 x10 00000008\ncore 9 exit retired 1 pc 00000004\ncore 9 x10 00000009\n",
+    "core 10 exit retired 1 pc 00000004\ncore 10 x10 0000000a\ncore 11 exit retired 1 pc 00000004\n",
+    "core 11 x10 0000000b\ncore 12 exit retired 1 pc 00000004\ncore 12 x10 0000000c\n",
+    "core 13 exit retired 1 pc 00000004\ncore 13 x10 0000000d\ncore 14 exit retired 1 pc 00000004\n",
+    "core 14 x10 0000000e\ncore 15 exit retired 1 pc 00000004\ncore 15 x10 0000000f\n",
+);
 
 /// What `ENDLESS` leaves at the limit of 3: core 0's ECALL still retires there, and so it is an exit.
-const LIMIT_STATE: &str = "core 0 exit retired 3 pc 0000000c\n\
-    core 1 limit retired 3 pc 0000000c\n\
-    core 1 x10 00000001\n";
+const LIMIT_STATE: &str =
+    "core 0 exit retired 3 pc 0000000c\ncore 1 limit retired 3 pc 0000000c\ncore 1 x10 00000001\n";
+
+/// What `OWN_WORDS` leaves: core 1 alone changes its word, the one at 36.
+const OWN_WORDS_STATE: &str = concat!(
+    "core 0 exit retired 4 pc 00000010\n",
+    "core 1 exit retired 4 pc 00000010\ncore 1 x5 00000004\ncore 1 x6 00000001\ncore 1 x10 00000001\n",
+    "mem 00000024 00000001\n",
+);
 
 /// The rows.
-pub static RUNS: [Run; 19] = [
+pub static RUNS: [Row; 19] = [
     // Two words of one block. No core stores to the other's word, so no schedule changes anything.
     run!(
         "run --cores 2 --words 16 --seed 5",
@@ -321,34 +170,29 @@ pub static RUNS: [Run; 19] = [
         "run --cores 2 --words 16 --choices 0000010101010101010100 --seed 9 --loads",
         OWN_WORDS,
         OWN_WORDS_STATE,
-        "load 0 3 00000020 00000000\n\
-            load 1 3 00000024 00000001\n"
+        "load 0 3 00000020 00000000\nload 1 3 00000024 00000001\n"
     ),
     // Core 0 stores 7; core 1's load takes it from the owner by way of the home, and core 1 then owns the
     // block. That took all the choices, and core 0's load comes after.
     run!(
         "run --loads --cores 2 --words 32 --choices 00000001010101010101010101010101",
         HANDED_OVER,
-        "core 0 exit retired 5 pc 00000014\n\
-            core 0 x5 00000007\n\
-            core 0 x6 00000001\n\
-            core 1 exit retired 4 pc 00000020\n\
-            core 1 x7 00000007\n\
-            core 1 x10 00000001\n\
-            mem 00000040 00000001\n",
-        "load 0 4 00000040 00000001\n\
-            load 1 2 00000040 00000007\n"
+        concat!(
+            "core 0 exit retired 5 pc 00000014\ncore 0 x5 00000007\ncore 0 x6 00000001\n",
+            "core 1 exit retired 4 pc 00000020\ncore 1 x7 00000007\ncore 1 x10 00000001\n",
+            "mem 00000040 00000001\n",
+        ),
+        "load 0 4 00000040 00000001\nload 1 2 00000040 00000007\n"
     ),
     // Bytes of one word: whoever is second, neither store loses the other's byte.
     run!(
         "run --cores 2 --words 16 --choices 000000000000000000000000",
         OWN_BYTES,
-        "core 0 exit retired 3 pc 0000000c\n\
-            core 0 x5 00000005\n\
-            core 1 exit retired 3 pc 0000000c\n\
-            core 1 x5 00000006\n\
-            core 1 x10 00000001\n\
-            mem 00000020 00000605\n",
+        concat!(
+            "core 0 exit retired 3 pc 0000000c\ncore 0 x5 00000005\n",
+            "core 1 exit retired 3 pc 0000000c\ncore 1 x5 00000006\ncore 1 x10 00000001\n",
+            "mem 00000020 00000605\n",
+        ),
         ""
     ),
     // One choice decides. After four choices a request of each core is on its link, and the fifth lets one be
@@ -356,54 +200,46 @@ pub static RUNS: [Run; 19] = [
     run!(
         "run --cores 2 --words 16 --choices 0000000000",
         ONE_WORD,
-        "core 0 exit retired 3 pc 0000000c\n\
-            core 0 x5 00000005\n\
-            core 1 exit retired 3 pc 0000000c\n\
-            core 1 x5 00000006\n\
-            core 1 x10 00000001\n\
-            mem 00000020 00000006\n",
+        concat!(
+            "core 0 exit retired 3 pc 0000000c\ncore 0 x5 00000005\n",
+            "core 1 exit retired 3 pc 0000000c\ncore 1 x5 00000006\ncore 1 x10 00000001\n",
+            "mem 00000020 00000006\n",
+        ),
         ""
     ),
     run!(
         "run --cores 2 --words 16 --choices 0000000001",
         ONE_WORD,
-        "core 0 exit retired 3 pc 0000000c\n\
-            core 0 x5 00000005\n\
-            core 1 exit retired 3 pc 0000000c\n\
-            core 1 x5 00000006\n\
-            core 1 x10 00000001\n\
-            mem 00000020 00000005\n",
+        concat!(
+            "core 0 exit retired 3 pc 0000000c\ncore 0 x5 00000005\n",
+            "core 1 exit retired 3 pc 0000000c\ncore 1 x5 00000006\ncore 1 x10 00000001\n",
+            "mem 00000020 00000005\n",
+        ),
         ""
     ),
     // Core 0 adds 1 and core 1 adds 2, in fourteen steps. Each has the word that it found among its loads.
     run!(
         "run --loads --cores 2 --words 16 --choices 0000000000000000000000000000",
         SUM,
-        "core 0 exit retired 4 pc 00000010\n\
-            core 0 x5 00000001\n\
-            core 0 x7 00000020\n\
-            core 1 exit retired 4 pc 00000010\n\
-            core 1 x5 00000002\n\
-            core 1 x6 00000001\n\
-            core 1 x7 00000020\n\
-            core 1 x10 00000001\n\
-            mem 00000020 00000003\n",
-        "load 0 3 00000020 00000000\n\
-            load 1 3 00000020 00000001\n"
+        concat!(
+            "core 0 exit retired 4 pc 00000010\ncore 0 x5 00000001\ncore 0 x7 00000020\n",
+            "core 1 exit retired 4 pc 00000010\ncore 1 x5 00000002\ncore 1 x6 00000001\ncore 1 x7 00000020\n",
+            "core 1 x10 00000001\n",
+            "mem 00000020 00000003\n",
+        ),
+        "load 0 3 00000020 00000000\nload 1 3 00000020 00000001\n"
     ),
     // A read by the first writer between two writes. Core 1 loads (four choices); core 0 asks to write
     // (three), core 1 gives up its copy, and core 0 stores (four) and loads (one). Core 1's store comes after.
     run!(
         "run --cores 2 --words 32 --choices 010101010000000101010100 --loads",
         HANDED_OVER,
-        "core 0 exit retired 5 pc 00000014\n\
-            core 0 x5 00000007\n\
-            core 0 x6 00000007\n\
-            core 1 exit retired 4 pc 00000020\n\
-            core 1 x10 00000001\n\
-            mem 00000040 00000001\n",
-        "load 0 4 00000040 00000007\n\
-            load 1 2 00000040 00000000\n"
+        concat!(
+            "core 0 exit retired 5 pc 00000014\ncore 0 x5 00000007\ncore 0 x6 00000007\n",
+            "core 1 exit retired 4 pc 00000020\ncore 1 x10 00000001\n",
+            "mem 00000040 00000001\n",
+        ),
+        "load 0 4 00000040 00000007\nload 1 2 00000040 00000000\n"
     ),
     // PutS is stalled. Core 1 loads the word (five choices), core 0 asks to write (three), and core 1's next
     // load sends PutS. The home takes core 0's request first, so Inv meets the copy on its way back (three
@@ -411,14 +247,12 @@ pub static RUNS: [Run; 19] = [
     run!(
         "run --cores 2 --words 96 --choices 01010101010000000000000000 --loads",
         READER_EVICTS,
-        "core 0 exit retired 4 pc 00000010\n\
-            core 0 x5 00000009\n\
-            core 1 exit retired 5 pc 0000001c\n\
-            core 1 x5 0000000a\n\
-            core 1 x10 00000001\n\
-            mem 00000040 00000009\n",
-        "load 1 3 00000040 00000000\n\
-            load 1 4 00000140 00000000\n"
+        concat!(
+            "core 0 exit retired 4 pc 00000010\ncore 0 x5 00000009\n",
+            "core 1 exit retired 5 pc 0000001c\ncore 1 x5 0000000a\ncore 1 x10 00000001\n",
+            "mem 00000040 00000009\n",
+        ),
+        "load 1 3 00000040 00000000\nload 1 4 00000140 00000000\n"
     ),
     // PutM is stalled. Core 0 stores 9 (five choices), core 1 asks to read (three), and core 0's load sends
     // PutM. The home takes core 1's request first, so the forward meets the copy on its way back, and core 1
@@ -426,27 +260,23 @@ pub static RUNS: [Run; 19] = [
     run!(
         "run --cores 2 --words 96 --choices 00000001010101010001000000 --loads",
         WRITER_EVICTS,
-        "core 0 exit retired 5 pc 00000014\n\
-            core 0 x5 00000009\n\
-            core 1 exit retired 4 pc 0000001c\n\
-            core 1 x5 0000000a\n\
-            core 1 x6 00000009\n\
-            core 1 x10 00000001\n\
-            mem 00000040 00000009\n",
-        "load 0 4 00000140 00000000\n\
-            load 1 3 00000040 00000009\n"
+        concat!(
+            "core 0 exit retired 5 pc 00000014\ncore 0 x5 00000009\n",
+            "core 1 exit retired 4 pc 0000001c\ncore 1 x5 0000000a\ncore 1 x6 00000009\ncore 1 x10 00000001\n",
+            "mem 00000040 00000009\n",
+        ),
+        "load 0 4 00000140 00000000\nload 1 3 00000040 00000009\n"
     ),
     // The same, but that core 1 asks to write: its 10 is stored after the 9, and the PutM that arrives last is
     // dropped.
     run!(
         "run --cores 2 --words 96 --choices 00000001010101010001000000",
         WRITERS_EVICT,
-        "core 0 exit retired 5 pc 00000014\n\
-            core 0 x5 00000009\n\
-            core 1 exit retired 4 pc 0000001c\n\
-            core 1 x5 0000000a\n\
-            core 1 x10 00000001\n\
-            mem 00000040 0000000a\n",
+        concat!(
+            "core 0 exit retired 5 pc 00000014\ncore 0 x5 00000009\n",
+            "core 1 exit retired 4 pc 0000001c\ncore 1 x5 0000000a\ncore 1 x10 00000001\n",
+            "mem 00000040 0000000a\n",
+        ),
         ""
     ),
     // A limit. No core stores anything, so no schedule changes anything.
@@ -493,9 +323,7 @@ pub static RUNS: [Run; 19] = [
     run!(
         "run --words 262144",
         LAST_WORD,
-        "core 0 exit retired 3 pc 0000000c\n\
-            core 0 x5 00100000\n\
-            mem 000ffffc 00100000\n",
+        "core 0 exit retired 3 pc 0000000c\ncore 0 x5 00100000\nmem 000ffffc 00100000\n",
         ""
     ),
     // Every block of the largest memory, 8192 by each core: three instructions before the loop, three for each

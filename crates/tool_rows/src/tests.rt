@@ -1,15 +1,16 @@
 use crate::buffer_tables::BUFFERS;
-use crate::calls::{ask, asks, bytes, input_of, output_of, recording_of};
+use crate::calls::{ask, asks, gives, in_pieces, input_of, output_of, recording_of};
 use crate::certificate_tables::CERTIFICATES;
 use crate::cut_tables::STATES;
 use crate::generated_tables::{ELF_FILES, GENERATED};
 use crate::lesson_tables::{EXAMPLES, LESSON};
-use crate::record_tables::{READ_IN_TURN, RECORDINGS, Recorded};
+use crate::record_tables::{RECORDINGS, Recorded};
 use crate::replay_tables::{REPLAYS, Replayed};
-use crate::run_tables::{FAULTY, RUNS, Run};
+use crate::run_tables::{FAULTY, RUNS};
 use crate::tables::{CUTS, ROWS, Row};
-use crate::thin_tables::{ENDLESS_JUMPS, FEWER, LONG_VECTORS, MORE, NEW, OLD, THINNED, Thinned};
+use crate::thin_tables::{ENDLESS_JUMPS, FEWER, LONG_VECTORS, MORE, THINNED};
 use log_codec::{fits_old, read, spell_v1};
+use row_texts::bytes;
 use std::alloc::{AllocError, Global};
 use std::process::Abort;
 use std::sync::Wait;
@@ -60,15 +61,14 @@ fn each_recording_of_buffered_cores_is_replayed_or_refused(rt: HostRuntime) -> R
 }
 
 #[test]
-fn each_example_and_each_step_of_the_lesson_is_answered(rt: HostRuntime) -> Result<(), Fail> {
-    are_answered(&rt, rt.alloc(), &EXAMPLES)?;
-    are_answered(&rt, rt.alloc(), &LESSON)
+fn each_run_leaves_its_text(rt: HostRuntime) -> Result<(), Fail> {
+    are_answered(&rt, rt.alloc(), &RUNS)
 }
 
 #[test]
-fn each_generated_image_and_each_elf_file_is_answered(rt: HostRuntime) -> Result<(), Fail> {
-    are_answered(&rt, rt.alloc(), &GENERATED)?;
-    are_answered(&rt, rt.alloc(), &ELF_FILES)
+fn each_example_and_each_step_of_the_lesson_is_answered(rt: HostRuntime) -> Result<(), Fail> {
+    are_answered(&rt, rt.alloc(), &EXAMPLES)?;
+    are_answered(&rt, rt.alloc(), &LESSON)
 }
 
 /// The options of a run of the lock by two cores.
@@ -94,7 +94,7 @@ fn a_lock_keeps_every_addition(rt: HostRuntime) -> Result<(), Fail> {
     assert!(rt; run.ends_with(b"mem 00000130 000003e8\n".as_slice()));
     for words in ["replay", "replay --log regulated"] {
         let made = of_the_lock(&rt, alloc, "record", "")?;
-        asks(&rt, alloc, words, made, 0, run.as_slice(), "")?;
+        gives(&rt, alloc, words, made, run.as_slice())?;
     }
     Ok(())
 }
@@ -106,7 +106,7 @@ fn a_lock_is_replayed_with_its_loads(rt: HostRuntime) -> Result<(), Fail> {
     let words = "replay --log regulated --loads";
     let run = of_the_lock(&rt, alloc, "run", " --loads")?;
     let made = of_the_lock(&rt, alloc, "record", "")?;
-    Ok(asks(&rt, alloc, words, made, 0, run.as_slice(), "")?)
+    Ok(gives(&rt, alloc, words, made, run.as_slice())?)
 }
 
 // A mix of four cores, each of which retires as many instructions as the program has: the soak of it comes to the
@@ -118,7 +118,7 @@ fn a_soak_of_the_mix_is_the_same_each_time(rt: HostRuntime) -> Result<(), Fail> 
     let first = ask(&rt, alloc, words, Vec::new(alloc))?.output;
     let wanted = b"shape mix number 3 cores 4\nretired 103208\n".as_slice();
     assert!(rt; first.starts_with(wanted));
-    Ok(asks(&rt, alloc, words, Vec::new(alloc), 0, first.as_slice(), "")?)
+    Ok(gives(&rt, alloc, words, Vec::new(alloc), first.as_slice())?)
 }
 
 /// Prints the first bytes of a recording, so many of them, and compares the part that is named.
@@ -148,48 +148,19 @@ fn a_cut_names_the_part_that_it_cuts(rt: HostRuntime) -> Result<(), Fail> {
     Ok(())
 }
 
-/// Runs the row's image, and compares the text.
-fn leaves_its_text(
-    rt: &(impl Abort + Threads + Wait + Sync),
-    alloc: Global,
-    run: &Run,
-) -> Result<(), AllocError> {
-    let mut text = String::from_str(alloc, run.state)?;
-    text.push_str(run.loads)?;
-    asks(
-        rt,
-        alloc,
-        run.words,
-        bytes(alloc, run.image)?,
-        0,
-        text.as_bytes(),
-        "",
-    )
-}
-
-#[test]
-fn each_run_leaves_its_text(rt: HostRuntime) -> Result<(), Fail> {
-    for run in &RUNS {
-        leaves_its_text(&rt, rt.alloc(), run)?;
-    }
-    Ok(())
-}
-
 #[test]
 fn each_run_is_recorded_and_printed(rt: HostRuntime) -> Result<(), Fail> {
     let alloc = rt.alloc();
     for row in &RECORDINGS {
         let wanted = recording_of(alloc, row)?;
-        asks(
+        gives(
             &rt,
             alloc,
             row.words,
-            bytes(alloc, row.image)?,
-            0,
+            bytes(alloc, row.recording.image)?,
             wanted.as_slice(),
-            "",
         )?;
-        asks(&rt, alloc, "print", wanted, 0, row.text.as_bytes(), "")?;
+        gives(&rt, alloc, "print", wanted, row.text.as_bytes())?;
     }
     Ok(())
 }
@@ -212,16 +183,8 @@ fn both_versions_of_each_recording_say_the_same(rt: HostRuntime) -> Result<(), F
     for row in &RECORDINGS {
         let newest = recording_of(alloc, row)?;
         if let Some(oldest) = oldest_of(alloc, newest.as_slice())? {
-            asks(
-                &rt,
-                alloc,
-                "print",
-                oldest.clone()?,
-                0,
-                row.text.as_bytes(),
-                "",
-            )?;
-            asks(&rt, alloc, "migrate", oldest, 0, newest.as_slice(), "")?;
+            gives(&rt, alloc, "print", oldest.clone()?, row.text.as_bytes())?;
+            gives(&rt, alloc, "migrate", oldest, newest.as_slice())?;
         }
     }
     Ok(())
@@ -235,16 +198,14 @@ fn replays_its_run(
 ) -> Result<(), AllocError> {
     let options = row.words.strip_prefix("record").unwrap_or("");
     let words = format!(in alloc; "run{options} --loads")?;
-    let run = ask(rt, alloc, &words, bytes(alloc, row.image)?)?.output;
+    let run = ask(rt, alloc, &words, bytes(alloc, row.recording.image)?)?.output;
     for replays in ["replay --loads", "replay --log regulated --loads"] {
-        asks(
+        gives(
             rt,
             alloc,
             replays,
             recording_of(alloc, row)?,
-            0,
             run.as_slice(),
-            "",
         )?;
     }
     Ok(())
@@ -282,16 +243,6 @@ fn each_recording_is_certified(rt: HostRuntime) -> Result<(), Fail> {
     Ok(())
 }
 
-/// The recording that a row replays.
-fn replayed(alloc: Global, row: &Replayed) -> Result<Vec<u8>, AllocError> {
-    let mut recording = bytes(alloc, row.header)?;
-    for piece in [row.image, row.logs] {
-        let piece = bytes(alloc, piece)?;
-        recording.extend_from_slice(piece.as_slice())?;
-    }
-    Ok(recording)
-}
-
 /// Asks what each row asks of its recording, with these words more, and compares the answer.
 fn are_replayed(
     rt: &(impl Abort + Threads + Wait + Sync),
@@ -306,7 +257,7 @@ fn are_replayed(
             rt,
             alloc,
             &words,
-            replayed(alloc, row)?,
+            in_pieces(alloc, &row.recording)?,
             row.status,
             row.text.as_bytes(),
             row.report,
@@ -342,44 +293,9 @@ fn words_that_mean_nothing_are_refused(rt: HostRuntime) -> Result<(), Fail> {
     Ok(())
 }
 
-/// The bytes of a recording of `READ_IN_TURN`: the pieces before and after the image; none where none stands before it.
-fn read_in_turn(alloc: Global, header: &str, logs: &str) -> Result<Vec<u8>, AllocError> {
-    let mut recording = bytes(alloc, header)?;
-    if !recording.is_empty() {
-        for piece in [READ_IN_TURN, logs] {
-            let piece = bytes(alloc, piece)?;
-            recording.extend_from_slice(piece.as_slice())?;
-        }
-    }
-    Ok(recording)
-}
-
-/// Asks what the row asks, and compares the answer.
-fn is_thinned(
-    rt: &(impl Abort + Threads + Wait + Sync),
-    alloc: Global,
-    row: &Thinned,
-) -> Result<(), AllocError> {
-    let mut wanted = read_in_turn(alloc, row.gives, row.left)?;
-    wanted.extend_from_slice(row.text.as_bytes())?;
-    let input = read_in_turn(alloc, row.header, row.logs)?;
-    asks(
-        rt,
-        alloc,
-        row.words,
-        input,
-        row.status,
-        wanted.as_slice(),
-        row.report,
-    )
-}
-
 #[test]
 fn each_log_is_thinned_or_refused(rt: HostRuntime) -> Result<(), Fail> {
-    for row in &THINNED {
-        is_thinned(&rt, rt.alloc(), row)?;
-    }
-    Ok(())
+    are_answered(&rt, rt.alloc(), &THINNED)
 }
 
 // A replay by the thinned log says what one by the log before says.
@@ -387,9 +303,9 @@ fn each_log_is_thinned_or_refused(rt: HostRuntime) -> Result<(), Fail> {
 fn a_thinned_log_replays_the_same(rt: HostRuntime) -> Result<(), Fail> {
     let alloc = rt.alloc();
     let words = "replay --log regulated --loads";
-    let before = ask(&rt, alloc, words, read_in_turn(alloc, OLD, MORE)?)?.output;
-    let thinned = read_in_turn(alloc, NEW, FEWER)?;
-    Ok(asks(&rt, alloc, words, thinned, 0, before.as_slice(), "")?)
+    let before = ask(&rt, alloc, words, bytes(alloc, MORE)?)?.output;
+    let thinned = bytes(alloc, FEWER)?;
+    Ok(gives(&rt, alloc, words, thinned, before.as_slice())?)
 }
 
 /// Thins the row's recording, and compares a replay by what is left with one by the reduced log.
@@ -400,14 +316,12 @@ fn thins_and_replays(
 ) -> Result<(), AllocError> {
     let run = ask(rt, alloc, "replay --loads", recording_of(alloc, row)?)?.output;
     let thinned = ask(rt, alloc, "thin", recording_of(alloc, row)?)?.output;
-    asks(
+    gives(
         rt,
         alloc,
         "replay --log regulated --loads",
         thinned,
-        0,
         run.as_slice(),
-        "",
     )
 }
 
@@ -419,6 +333,11 @@ fn each_recording_is_thinned(rt: HostRuntime) -> Result<(), Fail> {
         is_accepted(&rt, rt.alloc(), row, "thin --certify", "checkthin")?;
     }
     Ok(())
+}
+
+#[test]
+fn a_vector_of_65536_edges_is_tried_and_of_one_more_not(rt: HostRuntime) -> Result<(), Fail> {
+    are_answered(&rt, rt.alloc(), &LONG_VECTORS)
 }
 
 /// A recording of so many vectors of one edge each, from an instruction of core 0 to the one of core 1 with its count:
@@ -440,7 +359,7 @@ fn each_of_4096_vectors_is_tried(rt: HostRuntime) -> Result<(), Fail> {
     let alloc = rt.alloc();
     let wanted = many_vectors(alloc, 4_096)?;
     let input = many_vectors(alloc, 4_096)?;
-    Ok(asks(&rt, alloc, "thin", input, 0, wanted.as_slice(), "")?)
+    Ok(gives(&rt, alloc, "thin", input, wanted.as_slice())?)
 }
 
 #[test]
@@ -452,6 +371,7 @@ fn one_vector_more_is_too_many(rt: HostRuntime) -> Result<(), Fail> {
 }
 
 #[test]
-fn a_vector_of_65536_edges_is_tried_and_of_one_more_not(rt: HostRuntime) -> Result<(), Fail> {
-    are_answered(&rt, rt.alloc(), &LONG_VECTORS)
+fn each_generated_image_and_each_elf_file_is_answered(rt: HostRuntime) -> Result<(), Fail> {
+    are_answered(&rt, rt.alloc(), &GENERATED)?;
+    are_answered(&rt, rt.alloc(), &ELF_FILES)
 }

@@ -1,11 +1,12 @@
 //! Replays on several threads, and a gate that sees whether two cores were worked at once.
 
 use crate::all_pairs::EACH_READS_ALL;
-use crate::calls::{ask, ask_at, bytes, recording_of};
+use crate::calls::{ask, ask_at, recording_of, spelled};
 use crate::record_tables::RECORDINGS;
 use crate::run_tables::SUM;
 use log_codec::read;
 use replay_threads::Gate;
+use row_texts::bytes;
 use rtr_types::Instr;
 use std::alloc::Global;
 use std::sync::Wait;
@@ -117,7 +118,7 @@ fn no_worker_starts_where_the_log_goes_round(rt: HostRuntime) -> Result<(), Fail
     let alloc = rt.alloc();
     let header = "52545201 02 904e 10 0c 93025500 23205002 73000000";
     let rest = "0303 010202 010202 00 00";
-    let recording = bytes(alloc, &format!(in alloc; "{header} {rest}")?)?;
+    let recording = spelled(alloc, &[header, rest])?;
     let gate = Meeting::new();
     let answer = ask_at(&rt, alloc, "replay --threads 2", recording, &gate)?;
     assert_eq!(rt; answer.status, 4);

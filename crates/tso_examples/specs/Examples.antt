@@ -1,56 +1,23 @@
 -- Runs of two cores with store buffers, as a plain program computed them.
-use Rattle.std.specs.Prelude.{◌≡◌, ℕ, ◌+◌, ◌-◌, ◌==◌, true, false, List, [], ◌∷◌, length, map, if◌then◌else◌}
-use Rattle.std.specs.Prelude.{slice_index}
+use Rattle.std.specs.Prelude.{◌≡◌, ℕ, ◌-◌, true, false, List, [], ◌∷◌, length, map}
 use Rattle.access_times.specs.Riding.{none_riding, none_carrying}
-use Rattle.image_mem.specs.Contents.{Contents, opening_words}
+use Rattle.image_mem.specs.Contents.{Contents}
 use Rattle.rtr_types.specs.declared.params.Params.{Params}
-use Rattle.rv_core.specs.declared.core_state.Stop.{Stop}
 use Rattle.rv_core.specs.declared.core_state.Stop.TheVariants.{Exit}
 use Rattle.rv_core.specs.declared.outcome.LoadNote.{LoadNote}
-use Rattle.rv_core.specs.Steps.{need, stop_of}
 use Rattle.tso_state.specs.States.{PlainState, all_done}
 use Rattle.tso_state.specs.FinalMemory.{final_memory}
 use Rattle.tso_state.specs.Runs.{accesses, outcome_at, run, totals, values_at}
+use Rattle.msi_examples.specs.Followed.{Seen, seen_in, then_zeros}
 use Rattle.tso_examples.specs.Images.{bytes_of_a_word, handed_over, mixed, store_buffering, sum}
-
--- these choices, and after the last of them 0 for ever
-abbrev pub then_zeros : List ℕ → ℕ → ℕ
-then_zeros choices t = slice_index choices t
 
 -- two cores, with a limit that none of the runs reaches
 abbrev pub two_cores : Contents → Params
 two_cores image = record { cores = 2; limit = 10000; words = image.words }
 
--- the values of a list that differ from those of a second list, each behind its place, from this place on
-abbrev pub changed : (place : ℕ) → List ℕ → List ℕ → List (ℕ × ℕ)
-changed place [] others = []
-changed place (x ∷ xs) [] = (place, x) ∷ changed (place + 1) xs []
-changed place (x ∷ xs) (y ∷ ys) =
-    if x == y then changed (place + 1) xs ys else (place, x) ∷ changed (place + 1) xs ys
-
--- the values of a list that aren't 0, each behind its place, from this place on
-abbrev pub nonzero : (place : ℕ) → List ℕ → List (ℕ × ℕ)
-nonzero place [] = []
-nonzero place (x ∷ xs) = if x == 0 then nonzero (place + 1) xs else (place, x) ∷ nonzero (place + 1) xs
-
--- what a state is to a reader: by core why it stopped, how many instructions it executed, its pc and those of its
--- registers that aren't 0; and the words of memory that aren't the image's
-pub record Seen : Type 0 where
-  pub stops : List Stop
-  pub executed : List ℕ
-  pub pcs : List ℕ
-  pub registers : List (List (ℕ × ℕ))
-  pub memory : List (ℕ × ℕ)
-
 abbrev pub seen : PlainState → Seen
 seen s =
-    record {
-      stops = map (λ t. stop_of (need s.image t.core)) s.cores;
-      executed = totals s;
-      pcs = map (λ t. t.core.pc) s.cores;
-      registers = map (λ t. nonzero 0 t.core.registers) s.cores;
-      memory = changed 0 (final_memory none_riding none_carrying s) (opening_words s.image);
-    }
+    seen_in s.image (map (λ t. t.core) s.cores) (totals s) (final_memory none_riding none_carrying s)
 
 abbrev pub load : (count word value : ℕ) → LoadNote
 load count word value = record { count = count; word = word; value = value }
