@@ -12,7 +12,7 @@ ghost use Rattle.certificate_codec.specs.declared.certificate.Certificate.{Certi
 use crate::certificate::{CLOCKS, Certificate, END};
 use crate::core_entries::CoreEntries;
 use crate::edge_ends::EdgeEnds;
-use log_codec::{CodecFault, counts_into, number, read_front};
+use log_codec::{CodecFault, Reading, counts_into, number, read_all, read_front};
 use race_log::Recording;
 use rtr_types::Items;
 use std::alloc::Global;
@@ -23,7 +23,7 @@ fn entries_from<'a>(
     totals: &[u32],
     number: usize,
     bytes: &'a [u8],
-) -> Result<(CoreEntries, &'a [u8]), CodecFault>
+) -> Reading<'a, CoreEntries>
     ensures { Gives (λ x. (x.0, x.1.now)) result (read_in_turn (entry_at totals.now) stay number tt bytes.now) }
 {
     let room = number.saturating_mul(totals.len());
@@ -42,7 +42,7 @@ fn entries<'a>(
     ends: &EdgeEnds,
     core: u8,
     bytes: &'a [u8],
-) -> Result<(CoreEntries, &'a [u8]), CodecFault>
+) -> Reading<'a, CoreEntries>
     requires { core < ends.now.params.cores }
     ensures { Gives (λ x. (x.0, x.1.now)) result (entries_at ends.now core bytes.now) }
 {
@@ -58,7 +58,7 @@ fn clocks<'a>(
     alloc: Global,
     recording: &Recording,
     bytes: &'a [u8],
-) -> Result<(Items<CoreEntries>, &'a [u8]), CodecFault>
+) -> Reading<'a, Items<CoreEntries>>
     requires { Valid recording.now }
     ensures { Gives (λ x. (x.0, x.1.now)) result (clocks_at recording.now bytes.now) }
 {
@@ -75,24 +75,12 @@ fn clocks<'a>(
 
 /// The parts but for the end, and the bytes after them.
 #[tactic(auto, unfolding(crate::specs::Reading::parts_at))]
-fn parts(alloc: Global, bytes: &[u8]) -> Result<(Certificate, &[u8]), CodecFault>
+fn parts(alloc: Global, bytes: &[u8]) -> Reading<Certificate>
     ensures { Gives (λ x. (x.0, x.1.now)) result (parts_at bytes.now) }
 {
     let (recording, len) = read_front(alloc, bytes)?;
     let (clocks, rest) = clocks(alloc, &recording, &bytes[len..])?;
     Ok((Certificate { recording, clocks }, rest))
-}
-
-/// All parts.
-#[tactic(auto, unfolding(crate::specs::Reading::certificate_at))]
-fn whole(alloc: Global, bytes: &[u8]) -> Result<Certificate, CodecFault>
-    ensures { Gives (λ x. x) result (certificate_at bytes.now) }
-{
-    let (certificate, rest) = parts(alloc, bytes)?;
-    if !rest.is_empty() {
-        return Err(CodecFault::Bad { part: END });
-    }
-    Ok(certificate)
 }
 
 /// The certificate that the bytes spell, all of the bytes. Each certificate that is read is valid by its
@@ -105,5 +93,5 @@ pub fn read_certificate(alloc: Global, bytes: &[u8]) -> Result<Certificate, Code
     // Which part it is that has no reading.
     ensures exact { Gives (λ x. x) result (certificate_at bytes.now) }
 {
-    whole(alloc, bytes)
+    read_all(parts(alloc, bytes), END)
 }

@@ -136,6 +136,33 @@ read-regulated totals bytes regulated rest are e =
       spelled = t.0.parts;
     }
 
+-- ---- a part whose reading fails isn't there
+
+pub no-image : (len : ℕ) (bytes : List ℕ) (k : ℕ) → image_at len bytes ≡ Err k →
+    (IMAGE ≡ k) × ((image after : List ℕ) → IsImage len bytes image after → ⊥)
+no-image len bytes k bad = (
+  sym (image-names len bytes k bad),
+  λ image after is. never-both k (image_at len bytes) (image, after) bad (image-read len bytes image after is),
+)
+
+pub no-totals : (v : Version) (p : Params) (bytes : List ℕ) (k : ℕ) → FitsIn v p →
+    totals_at p.limit p.cores bytes ≡ Err k →
+    (TOTALS ≡ k) × ((totals after : List ℕ) → IsTotals p bytes totals after → ⊥)
+no-totals v p bytes k fits bad = (
+  sym (totals-name p.limit p.cores bytes k bad),
+  λ totals after is. never-both k (totals_at p.limit p.cores bytes) (totals, after) bad
+      (totals-read v p bytes totals after fits is),
+)
+
+pub no-reduced : (v : Version) (p : Params) (before totals bytes : List ℕ) (k : ℕ) → FitsIn v p →
+    IsTotals p before totals bytes → reduced_at v totals bytes ≡ Err k →
+    (REDUCED ≡ k) × ((reduced : List (List (ℕ × ℕ))) (after : List ℕ) → IsReduced v totals bytes reduced after → ⊥)
+no-reduced v p before totals bytes k fits t bad = (
+  sym (reduced-names v totals bytes k bad),
+  λ reduced after is. never-both k (reduced_at v totals bytes) (reduced, after) bad
+      (reduced-read v p before totals bytes reduced after fits t is),
+)
+
 -- ---- the reading after valid parts
 
 after-1 : (bytes rest : List ℕ) (u : UpToHeader bytes rest) →
@@ -199,6 +226,28 @@ reduced-bytes : (bytes rest : List ℕ) → IsBytes bytes → UpToReduced bytes 
 reduced-bytes bytes rest are u =
     rest-bytes u.before (reduced_text u.three.two.first.version (length u.three.totals) u.reduced) rest
     (totals-bytes bytes u.before are u.three) u.fourth.spelled
+
+-- ---- one valid part more
+
+abbrev with-image : (bytes rest : List ℕ) → IsBytes bytes → (u : UpToHeader bytes rest) → (image after : List ℕ) →
+    image_at u.len rest ≡ Ok (image, after) → UpToImage bytes after
+with-image bytes rest are u image after e =
+    let here = header-bytes bytes rest are u in
+    record { before = rest; first = u; image = image; second = read-image u.len rest image after here e }
+
+abbrev with-totals : (bytes rest : List ℕ) → IsBytes bytes → (u : UpToImage bytes rest) → (totals after : List ℕ) →
+    totals_at u.first.params.limit u.first.params.cores rest ≡ Ok (totals, after) → UpToTotals bytes after
+with-totals bytes rest are u totals after e =
+    let here = image-bytes bytes rest are u in
+    record { before = rest; two = u; totals = totals; third = read-totals u.first.params rest totals after here e }
+
+abbrev with-reduced : (bytes rest : List ℕ) → IsBytes bytes → (u : UpToTotals bytes rest) →
+    (reduced : List (List (ℕ × ℕ))) (after : List ℕ) →
+    reduced_at u.two.first.version u.totals rest ≡ Ok (reduced, after) → UpToReduced bytes after
+with-reduced bytes rest are u reduced after e =
+    let here = totals-bytes bytes rest are u in
+    let fourth = read-reduced u.two.first.version u.totals rest reduced after here e in
+    record { before = rest; three = u; reduced = reduced; fourth = fourth }
 
 -- ---- no valid part, then its name
 
@@ -278,20 +327,9 @@ ends-after-3 bytes rest p are u e =
     (after_reduced u.two.first.params u.two.image u.totals) p e) [
       | inl bad ↦
           let f = u.two.first in
-          subst (Ends bytes) (sym (reduced-names f.version u.totals rest p bad)) (
-            rest,
-            u,
-            λ reduced after is. never-both p (reduced_at f.version u.totals rest) (reduced, after) bad
-                (reduced-read f.version f.params u.before u.totals rest reduced after f.header.limits u.third is),
-          )
-      | inr more ↦ ends-after-4 bytes more.0.1 p
-          (record {
-            before = rest;
-            three = u;
-            reduced = more.0.0;
-            fourth = read-reduced u.two.first.version u.totals rest more.0.0 more.0.1 (totals-bytes bytes rest are u)
-                more.1;
-          }) more.2
+          let no = no-reduced f.version f.params u.before u.totals rest p f.header.limits u.third bad in
+          subst (Ends bytes) no.0 (rest, u, no.1)
+      | inr more ↦ ends-after-4 bytes more.0.1 p (with-reduced bytes rest are u more.0.0 more.0.1 more.1) more.2
     ]
 
 ends-after-2 : (bytes rest : List ℕ) (p : ℕ) → IsBytes bytes → (u : UpToImage bytes rest) →
@@ -301,40 +339,17 @@ ends-after-2 bytes rest p are u e =
     elim (bind-err (totals_at u.first.params.limit u.first.params.cores rest)
     (after_totals u.first.version u.first.params u.image) p e) [
       | inl bad ↦
-          let f = u.first in
-          subst (Ends bytes) (sym (totals-name f.params.limit f.params.cores rest p bad)) (
-            rest,
-            u,
-            λ totals after is. never-both p (totals_at f.params.limit f.params.cores rest) (totals, after) bad
-                (totals-read f.version f.params rest totals after f.header.limits is),
-          )
-      | inr more ↦ ends-after-3 bytes more.0.1 p are
-          (record {
-            before = rest;
-            two = u;
-            totals = more.0.0;
-            third = read-totals u.first.params rest more.0.0 more.0.1 (image-bytes bytes rest are u) more.1;
-          })
-          more.2
+          let no = no-totals u.first.version u.first.params rest p u.first.header.limits bad in
+          subst (Ends bytes) no.0 (rest, u, no.1)
+      | inr more ↦ ends-after-3 bytes more.0.1 p are (with-totals bytes rest are u more.0.0 more.0.1 more.1) more.2
     ]
 
 ends-after-1 : (bytes rest : List ℕ) (p : ℕ) → IsBytes bytes → (u : UpToHeader bytes rest) →
     after_header (u.version, u.params, u.len, rest) ≡ Err p →
     Ends bytes p
 ends-after-1 bytes rest p are u e = elim (bind-err (image_at u.len rest) (after_image u.version u.params) p e) [
-  | inl bad ↦ subst (Ends bytes) (sym (image-names u.len rest p bad)) (
-    rest,
-    u,
-    λ image after is. never-both p (image_at u.len rest) (image, after) bad (image-read u.len rest image after is),
-  )
-  | inr more ↦ ends-after-2 bytes more.0.1 p are
-      (record {
-        before = rest;
-        first = u;
-        image = more.0.0;
-        second =
-            read-image u.len rest more.0.0 more.0.1 (header-bytes bytes rest are u) more.1;
-      }) more.2
+  | inl bad ↦ let no = no-image u.len rest p bad in subst (Ends bytes) no.0 (rest, u, no.1)
+  | inr more ↦ ends-after-2 bytes more.0.1 p are (with-image bytes rest are u more.0.0 more.0.1 more.1) more.2
 ]
 
 front-ends : (bytes : List ℕ) (p : ℕ) → IsBytes bytes → front_at bytes ≡ Err p → Ends bytes p
@@ -383,13 +398,9 @@ read-all bytes r rest are e =
     (r, rest) d.2 in
     let one : UpToHeader bytes h.0.3 =
     record { version = v; params = p; len = h.0.2; header = read-header bytes v p h.0.2 h.0.3 are h.1 } in
-    let image = read-image h.0.2 h.0.3 i.0.0 i.0.1 (header-bytes bytes h.0.3 are one) i.1 in
-    let two : UpToImage bytes i.0.1 = record { before = h.0.3; first = one; image = i.0.0; second = image } in
-    let totals = read-totals p i.0.1 t.0.0 t.0.1 (image-bytes bytes i.0.1 are two) t.1 in
-    let three : UpToTotals bytes t.0.1 = record { before = i.0.1; two = two; totals = t.0.0; third = totals } in
-    let reduced = read-reduced v t.0.0 t.0.1 d.0.0 d.0.1 (totals-bytes bytes t.0.1 are three) d.1 in
-    let four : UpToReduced bytes d.0.1 =
-    record { before = t.0.1; three = three; reduced = d.0.0; fourth = reduced } in
+    let two = with-image bytes h.0.3 are one i.0.0 i.0.1 i.1 in
+    let three = with-totals bytes i.0.1 are two t.0.0 t.0.1 t.1 in
+    let four = with-reduced bytes t.0.1 are three d.0.0 d.0.1 d.1 in
     let regulated = read-regulated t.0.0 d.0.1 g.0.0 g.0.1 (reduced-bytes bytes d.0.1 are four) g.1 in
     let five : UpToRegulated bytes g.0.1 =
     record { before = d.0.1; four = four; regulated = g.0.0; fifth = regulated } in

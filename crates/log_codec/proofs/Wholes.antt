@@ -1,12 +1,13 @@
 -- Readings of all bytes, by readings of a front of them: what is read is spelled so, and what is spelled is read.
-use Rattle.std.proofs.Common.{◌≡◌, ℕ, List, [], ◌++◌, length, eqb, cond, Result, Ok, Err, refl, sym, ap, subst, ◌∙◌}
+use Rattle.std.proofs.Common.{◌≡◌, ◌<◌, ℕ, List, [], ◌++◌, length, get_or, eqb, cond, Result, Ok, Err, refl, sym, ap}
+use Rattle.std.proofs.Common.{subst, ◌∙◌}
 use Rattle.std.specs.Prelude.{IfOk}
 use Rattle.std.proofs.lemmas.Bool.{eqb-true}
 use Rattle.std.proofs.lemmas.List.{append-nil, nil_from_length}
 use Rattle.log_codec.specs.declared.codec_fault.CodecFault.{CodecFault}
 use Rattle.log_codec.specs.Faults.{Gives, read_all}
 use Rattle.log_codec.specs.Laws.{IsBytes}
-use Rattle.log_codec.proofs.Steps.{bind_ok, guard_ok, ok_is, Takes}
+use Rattle.log_codec.proofs.Steps.{bind_ok, bytes-from_index, guard_ok, ok_is, Takes}
 
 -- ---- a front and all bytes
 
@@ -61,14 +62,22 @@ spelling_laws front last InForm text takes again = record {
       (again b y other) e;
 }
 
--- ---- what a reader answers
+-- ---- what a reader of all bytes answers
 
-pub found_if : {A : Type 0} (P : A → Type 0) (read : Result A ℕ) (result : Result A CodecFault) →
-    ((a : A) → read ≡ Ok a → P a) → Gives (λ x. x) result read → IfOk result P
-found_if P read (Ok a) f given = f a given
-found_if P read (Err e) f given = tt
+-- what it read is in form and has these bytes, and what is in form and has them is read, unless memory ran out
+pub record Reads {A : Type 0} (InForm Spells : A → Type 0) (result : Result A CodecFault) : Type 0 where
+  pub found : IfOk result (λ a. InForm a × Spells a)
+  pub only : (a : A) → InForm a → Spells a → Gives (λ x. x) result (Ok a)
 
--- it answers the reading, whatever that is said to be
-pub answered : {A : Type 0} (result : Result A CodecFault) (read other : Result A ℕ) → read ≡ other →
-    Gives (λ x. x) result read → Gives (λ x. x) result other
-answered {A} result read other is given = subst (λ (f : Result A ℕ). Gives (λ x. x) result f) is given
+pub reads : {A : Type 0} (InForm Spells : A → Type 0) (bytes : List ℕ) (read : Result A ℕ)
+    (result : Result A CodecFault) → ((i : ℕ) → get_or bytes i 0 < 256) →
+    ((a : A) → IsBytes bytes → read ≡ Ok a → InForm a × Spells a) →
+    ((a : A) → InForm a → Spells a → read ≡ Ok a) → Gives (λ x. x) result read → Reads InForm Spells result
+reads {A} InForm Spells bytes read result are is_spelled is_read given = record {
+  found = found result given;
+  only = λ a valid spells. subst (λ (f : Result A ℕ). Gives (λ x. x) result f) (is_read a valid spells) given;
+}
+  where
+    found : (result : Result A CodecFault) → Gives (λ x. x) result read → IfOk result (λ a. InForm a × Spells a)
+    found (Ok a) given = is_spelled a (bytes-from_index bytes are) given
+    found (Err e) given = tt

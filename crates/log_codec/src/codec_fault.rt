@@ -2,6 +2,7 @@
 ghost use Rattle.std.specs.Prelude.{◌≡◌};
 ghost use Rattle.log_codec.specs.declared.codec_fault.CodecFault.TheVariants.{OutOfMemory};
 
+use rtr_types::Items;
 use std::alloc::{AllocError, AllocFailed};
 
 /// The first part: four bytes that name the format, the parameters and the length of the image.
@@ -30,6 +31,12 @@ pub enum CodecFault {
     /// Memory ran out.
     OutOfMemory,
 }
+
+/// What was read at the front of bytes, and the bytes after it.
+pub type Reading<'a, T> = Result<(T, &'a [u8]), CodecFault>;
+
+/// The edges of each pair of cores, in the order of `pair_at`.
+pub type PairEdges = Items<Items<(u32, u32)>>;
 
 impl From<AllocError> for CodecFault {
     ghost from_gives = { λ _ e. e ≡ OutOfMemory };

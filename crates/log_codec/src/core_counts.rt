@@ -3,7 +3,7 @@ ghost use Rattle.std.specs.Prelude.{◌≡◌, ◌+◌, ◌++◌, ◌<◌, drop,
 ghost use Rattle.log_codec.specs.CoreCounts.{count_at, counts_at, counts_text};
 ghost use Rattle.log_codec.specs.Faults.{Gives};
 
-use crate::codec_fault::CodecFault;
+use crate::codec_fault::{CodecFault, Reading};
 use crate::fields::number;
 use rtr_types::Items;
 use std::alloc::{AllocError, Global};
@@ -11,12 +11,7 @@ use varint_core::put_u32;
 
 /// A count of a core, at most its total, and the bytes after it.
 #[tactic(auto, unfolding(crate::specs::CoreCounts::count_at))]
-fn count<'a>(
-    part: u8,
-    totals: &[u32],
-    core: usize,
-    bytes: &'a [u8],
-) -> Result<(u32, &'a [u8]), CodecFault>
+fn count<'a>(part: u8, totals: &[u32], core: usize, bytes: &'a [u8]) -> Reading<'a, u32>
     requires { core < length totals.now }
     ensures { Gives (λ x. (x.0, x.1.now)) result (count_at part totals.now core bytes.now) }
 {
@@ -33,7 +28,7 @@ pub fn counts<'a>(
     part: u8,
     totals: &[u32],
     bytes: &'a [u8],
-) -> Result<(Items<u32>, &'a [u8]), CodecFault>
+) -> Reading<'a, Items<u32>>
     ensures { Gives (λ x. (x.0, x.1.now)) result (counts_at part totals.now bytes.now) }
 {
     let mut found = Items::from_vec(Vec::with_capacity(alloc, totals.len())?);

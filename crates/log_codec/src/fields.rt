@@ -4,7 +4,7 @@ ghost use Rattle.log_codec.specs.Faults.{Gives};
 ghost use Rattle.log_codec.specs.Reading.{number_at, version_at, params_of, header_at, image_at, sizes_at, total_at};
 ghost use Rattle.log_codec.specs.Reading.{totals_at};
 
-use crate::codec_fault::{CodecFault, HEADER, IMAGE, TOTALS};
+use crate::codec_fault::{CodecFault, HEADER, IMAGE, Reading, TOTALS};
 use crate::version::Version;
 use rtr_types::{CORES_MAX, Items, Params};
 use std::alloc::Global;
@@ -12,7 +12,7 @@ use varint_core::take_u32;
 
 /// The number that the bytes begin with, and the bytes after it.
 #[tactic(auto, unfolding(crate::specs::Reading::number_at))]
-pub fn number(part: u8, bytes: &[u8]) -> Result<(u32, &[u8]), CodecFault>
+pub fn number(part: u8, bytes: &[u8]) -> Reading<u32>
     ensures { Gives (λ x. (x.0, x.1.now)) result (number_at part bytes.now) }
 {
     match take_u32(bytes) {
@@ -23,7 +23,7 @@ pub fn number(part: u8, bytes: &[u8]) -> Result<(u32, &[u8]), CodecFault>
 
 /// The version that the bytes name, and the bytes after its name.
 #[tactic(auto, unfolding(crate::specs::Reading::version_at))]
-fn version(bytes: &[u8]) -> Result<(Version, &[u8]), CodecFault>
+fn version(bytes: &[u8]) -> Reading<Version>
     ensures { Gives (λ x. (x.0, x.1.now)) result (version_at bytes.now) }
 {
     if bytes.starts_with(&Version::One.magic()) {
@@ -90,7 +90,7 @@ pub(crate) fn header(bytes: &[u8]) -> Result<(Version, Params, u32, &[u8]), Code
 
 /// The image, which has the length that the header says.
 #[tactic(auto, unfolding(crate::specs::Reading::image_at))]
-pub fn image(alloc: Global, len: u32, bytes: &[u8]) -> Result<(Items<u8>, &[u8]), CodecFault>
+pub fn image(alloc: Global, len: u32, bytes: &[u8]) -> Reading<Items<u8>>
     ensures { Gives (λ x. (x.0, x.1.now)) result (image_at len bytes.now) }
 {
     let len = len as usize;
@@ -103,7 +103,7 @@ pub fn image(alloc: Global, len: u32, bytes: &[u8]) -> Result<(Items<u8>, &[u8])
 
 /// The total of one core.
 #[tactic(auto, unfolding(crate::specs::Reading::total_at))]
-fn total(limit: u32, bytes: &[u8]) -> Result<(u32, &[u8]), CodecFault>
+fn total(limit: u32, bytes: &[u8]) -> Reading<u32>
     ensures { Gives (λ x. (x.0, x.1.now)) result (total_at limit bytes.now) }
 {
     let (total, rest) = number(TOTALS, bytes)?;
@@ -114,12 +114,7 @@ fn total(limit: u32, bytes: &[u8]) -> Result<(u32, &[u8]), CodecFault>
 }
 
 /// The totals of all cores.
-pub fn totals(
-    alloc: Global,
-    limit: u32,
-    cores: u8,
-    bytes: &[u8],
-) -> Result<(Items<u32>, &[u8]), CodecFault>
+pub fn totals(alloc: Global, limit: u32, cores: u8, bytes: &[u8]) -> Reading<Items<u32>>
     ensures read { Gives (λ x. (x.0, x.1.now)) result (totals_at limit cores bytes.now) }
     ensures each { IfOk result (λ x. length x.0 ≡ cores) }
 {

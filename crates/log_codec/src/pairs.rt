@@ -7,7 +7,7 @@ ghost use Rattle.log_codec.specs.Turns.{read_in_turn};
 ghost use Rattle.race_log.specs.Validity.{bound_at};
 ghost use Rattle.log_codec.specs.Reading.{edge_at, edges_at, pairs_at};
 
-use crate::codec_fault::{CodecFault, REDUCED};
+use crate::codec_fault::{CodecFault, PairEdges, REDUCED, Reading};
 use crate::fields::number;
 use rtr_types::{CORES_MAX, Items, pair_count, pair_of};
 use std::alloc::Global;
@@ -24,7 +24,7 @@ pub fn bound(totals: &[u32], place: usize) -> (u32, u32)
 
 /// The next edge after the last one. Both counts rise, to at most the totals.
 #[tactic(auto, unfolding(crate::specs::Reading::edge_at))]
-fn edge(most: (u32, u32), last: (u32, u32), bytes: &[u8]) -> Result<((u32, u32), &[u8]), CodecFault>
+fn edge(most: (u32, u32), last: (u32, u32), bytes: &[u8]) -> Reading<(u32, u32)>
     requires source { last.0 ≤ most.0 }
     requires target { last.1 ≤ most.1 }
     ensures read { Gives (λ x. (x.0, x.1.now)) result (edge_at most last bytes.now) }
@@ -46,7 +46,7 @@ fn edges_from(
     most: (u32, u32),
     count: u32,
     bytes: &[u8],
-) -> Result<(Items<(u32, u32)>, &[u8]), CodecFault>
+) -> Reading<Items<(u32, u32)>>
     ensures { Gives (λ x. (x.0, x.1.now)) result (read_in_turn (edge_at most) follow count (0, 0) bytes.now) }
 {
     let mut found = Items::new(alloc);
@@ -63,11 +63,7 @@ fn edges_from(
 
 /// The edges of a pair.
 #[tactic(auto, unfolding(crate::specs::Reading::edges_at))]
-fn edges(
-    alloc: Global,
-    most: (u32, u32),
-    bytes: &[u8],
-) -> Result<(Items<(u32, u32)>, &[u8]), CodecFault>
+fn edges(alloc: Global, most: (u32, u32), bytes: &[u8]) -> Reading<Items<(u32, u32)>>
     ensures { Gives (λ x. (x.0, x.1.now)) result (edges_at most bytes.now) }
 {
     let (count, rest) = number(REDUCED, bytes)?;
@@ -76,11 +72,7 @@ fn edges(
 
 /// The edges of all pairs.
 #[tactic(auto, using(crate::proofs::InTurn::reading))]
-pub fn by_pairs<'a>(
-    alloc: Global,
-    totals: &[u32],
-    bytes: &'a [u8],
-) -> Result<(Items<Items<(u32, u32)>>, &'a [u8]), CodecFault>
+pub fn by_pairs<'a>(alloc: Global, totals: &[u32], bytes: &'a [u8]) -> Reading<'a, PairEdges>
     requires { length totals.now ≤ CORES_MAX }
     ensures { Gives (λ x. (x.0, x.1.now)) result (pairs_at totals.now bytes.now) }
 {

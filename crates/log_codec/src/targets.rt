@@ -9,7 +9,7 @@ ghost use Rattle.log_codec.specs.Reading.{incoming_at, into_at, put_into_lists, 
 ghost use Rattle.log_codec.specs.Turns.{read_in_turn};
 ghost use Rattle.log_codec.specs.declared.incoming.Incoming.{Incoming};
 
-use crate::codec_fault::{CodecFault, REDUCED};
+use crate::codec_fault::{CodecFault, PairEdges, REDUCED, Reading};
 use crate::fields::number;
 use crate::incoming::{Incoming, PLACES, target_of};
 use rtr_types::{CORES_MAX, Items, pair_at, pair_count};
@@ -68,7 +68,7 @@ fn edge<'a>(
     last: Option<Incoming>,
     counts: &[u32; PLACES],
     bytes: &'a [u8],
-) -> Result<(Incoming, &'a [u8]), CodecFault>
+) -> Reading<'a, Incoming>
     requires few { length totals.now ≤ CORES_MAX }
     requires target { target < length totals.now }
     ensures read { (before : List Incoming) → Keeps last counts.now before →
@@ -146,11 +146,7 @@ pub(crate) fn target_count(cores: u8) -> u8
 }
 
 /// The edges into each core, as those of each pair.
-pub fn by_targets<'a>(
-    alloc: Global,
-    totals: &[u32],
-    bytes: &'a [u8],
-) -> Result<(Items<Items<(u32, u32)>>, &'a [u8]), CodecFault>
+pub fn by_targets<'a>(alloc: Global, totals: &[u32], bytes: &'a [u8]) -> Reading<'a, PairEdges>
     requires { length totals.now ≤ CORES_MAX }
     ensures { Gives (λ x. (x.0, x.1.now)) result (targets_at totals.now bytes.now) }
 {

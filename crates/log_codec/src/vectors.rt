@@ -6,7 +6,7 @@ ghost use Rattle.log_codec.specs.Turns.{read_in_turn};
 ghost use Rattle.race_log.specs.Validity.{end_of, strides_stand, vector_stands};
 ghost use Rattle.log_codec.specs.Reading.{strides_at, vector_at, vectors_at, regulated_at};
 
-use crate::codec_fault::{CodecFault, REGULATED};
+use crate::codec_fault::{CodecFault, REGULATED, Reading};
 use crate::fields::number;
 use crate::pairs::bound;
 use rtr_types::{CORES_MAX, Items, pair_count};
@@ -60,11 +60,7 @@ fn stands(most: (u32, u32), last: (u32, u32), v: &StrideVector) -> bool
 
 /// The next vector after the last position.
 #[tactic(auto, unfolding(crate::specs::Reading::vector_at))]
-fn vector(
-    most: (u32, u32),
-    last: (u32, u32),
-    bytes: &[u8],
-) -> Result<(StrideVector, &[u8]), CodecFault>
+fn vector(most: (u32, u32), last: (u32, u32), bytes: &[u8]) -> Reading<StrideVector>
     ensures read { Gives (λ x. (x.0, x.1.now)) result (vector_at most last bytes.now) }
     ensures vector { IfOk result (λ x. IsVector x.0) }
 {
@@ -86,7 +82,7 @@ fn vectors_from(
     most: (u32, u32),
     count: u32,
     bytes: &[u8],
-) -> Result<(Items<StrideVector>, &[u8]), CodecFault>
+) -> Reading<Items<StrideVector>>
     ensures { Gives (λ x. (x.0, x.1.now)) result (read_in_turn (vector_at most) end_of count (0, 0) bytes.now) }
 {
     let mut found = Items::new(alloc);
@@ -103,11 +99,7 @@ fn vectors_from(
 
 /// The vectors of a pair.
 #[tactic(auto, unfolding(crate::specs::Reading::vectors_at))]
-fn vectors(
-    alloc: Global,
-    most: (u32, u32),
-    bytes: &[u8],
-) -> Result<(Items<StrideVector>, &[u8]), CodecFault>
+fn vectors(alloc: Global, most: (u32, u32), bytes: &[u8]) -> Reading<Items<StrideVector>>
     ensures { Gives (λ x. (x.0, x.1.now)) result (vectors_at most bytes.now) }
 {
     let (count, rest) = number(REGULATED, bytes)?;
@@ -120,7 +112,7 @@ pub fn regulated<'a>(
     alloc: Global,
     totals: &[u32],
     bytes: &'a [u8],
-) -> Result<(Items<Items<StrideVector>>, &'a [u8]), CodecFault>
+) -> Reading<'a, Items<Items<StrideVector>>>
     requires { length totals.now ≤ CORES_MAX }
     ensures { Gives (λ x. (x.0, x.1.now)) result (regulated_at totals.now bytes.now) }
 {

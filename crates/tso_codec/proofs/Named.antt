@@ -11,7 +11,7 @@ use Rattle.log_codec.specs.Laws.{IsBytes}
 use Rattle.log_codec.specs.Reading.{sizes_at, image_at, totals_at, targets_at}
 use Rattle.log_codec.specs.Spelling.{sizes_text, totals_text, targets_text}
 use Rattle.log_codec.proofs.BadPartLaws.{rest-bytes, image-read, read-image, totals-read, read-totals, reduced-read}
-use Rattle.log_codec.proofs.BadPartLaws.{read-reduced, no-reading, never-both}
+use Rattle.log_codec.proofs.BadPartLaws.{read-reduced, no-reading, never-both, no-image, no-reduced, no-totals}
 use Rattle.log_codec.proofs.BadPartLaws.{at_end, end-names, end-some, some-end}
 use Rattle.log_codec.proofs.FieldLaws.{sizes_take, sizes_again}
 use Rattle.log_codec.proofs.Named.{Missing, bind-err, bind-names, image-names, missing_within, reduced-names}
@@ -289,19 +289,13 @@ ends-after-3 bytes rest q are u e =
     let next = after_reduced f.params u.two.image u.totals in
     elim (bind-err (targets_at u.totals rest) (λ x. next x >>= at_end END) q
     (sym (regroup (targets_at u.totals rest) next (at_end END)) ∙ e)) [
-      | inl bad ↦ subst (Ends bytes) (sym (reduced-names Two u.totals rest q bad)) (
-        rest,
-        u,
-        λ reduced after is. never-both q (targets_at u.totals rest) (reduced, after) bad
-            (reduced-read Two f.params u.before u.totals rest reduced after f.header.limits u.third is),
-      )
-      | inr more ↦ ends-after-4 bytes more.0.1 q are
-          (record {
-            before = rest;
-            three = u;
-            reduced = more.0.0;
-            fourth = read-reduced Two u.totals rest more.0.0 more.0.1 (totals-bytes bytes rest are u) more.1;
-          }) more.2
+      | inl bad ↦
+          let no = no-reduced Two f.params u.before u.totals rest q f.header.limits u.third bad in
+          subst (Ends bytes) no.0 (rest, u, no.1)
+      | inr more ↦
+          let fourth = read-reduced Two u.totals rest more.0.0 more.0.1 (totals-bytes bytes rest are u) more.1 in
+          ends-after-4 bytes more.0.1 q are
+          (record { before = rest; three = u; reduced = more.0.0; fourth = fourth }) more.2
     ]
 
 ends-after-2 : (bytes rest : List ℕ) (q : ℕ) → IsBytes bytes → (u : UpToImage bytes rest) →
@@ -311,19 +305,12 @@ ends-after-2 bytes rest q are u e =
     let next = after_totals p u.image in
     elim (bind-err (totals_at p.limit p.cores rest) (λ x. next x >>= at_end END) q
     (sym (regroup (totals_at p.limit p.cores rest) next (at_end END)) ∙ e)) [
-      | inl bad ↦ subst (Ends bytes) (sym (totals-name p.limit p.cores rest q bad)) (
-        rest,
-        u,
-        λ totals after is. never-both q (totals_at p.limit p.cores rest) (totals, after) bad
-            (totals-read Two p rest totals after u.first.header.limits is),
-      )
-      | inr more ↦ ends-after-3 bytes more.0.1 q are
-          (record {
-            before = rest;
-            two = u;
-            totals = more.0.0;
-            third = read-totals p rest more.0.0 more.0.1 (image-bytes bytes rest are u) more.1;
-          }) more.2
+      | inl bad ↦
+          let no = no-totals Two p rest q u.first.header.limits bad in
+          subst (Ends bytes) no.0 (rest, u, no.1)
+      | inr more ↦
+          let third = read-totals p rest more.0.0 more.0.1 (image-bytes bytes rest are u) more.1 in
+          ends-after-3 bytes more.0.1 q are (record { before = rest; two = u; totals = more.0.0; third = third }) more.2
     ]
 
 ends-after-1 : (bytes rest : List ℕ) (q : ℕ) → IsBytes bytes → (u : UpToHeader bytes rest) →
@@ -332,19 +319,10 @@ ends-after-1 : (bytes rest : List ℕ) (q : ℕ) → IsBytes bytes → (u : UpTo
 ends-after-1 bytes rest q are u e =
     elim (bind-err (image_at u.len rest) (λ x. after_image u.params x >>= at_end END) q
     (sym (regroup (image_at u.len rest) (after_image u.params) (at_end END)) ∙ e)) [
-      | inl bad ↦ subst (Ends bytes) (sym (image-names u.len rest q bad)) (
-        rest,
-        u,
-        λ image after is. never-both q (image_at u.len rest) (image, after) bad (image-read u.len rest image after is),
-      )
-      | inr more ↦ ends-after-2 bytes more.0.1 q are
-          (record {
-            before = rest;
-            first = u;
-            image = more.0.0;
-            second =
-                read-image u.len rest more.0.0 more.0.1 (header-bytes bytes rest are u) more.1;
-          })
+      | inl bad ↦ let no = no-image u.len rest q bad in subst (Ends bytes) no.0 (rest, u, no.1)
+      | inr more ↦
+          let second = read-image u.len rest more.0.0 more.0.1 (header-bytes bytes rest are u) more.1 in
+          ends-after-2 bytes more.0.1 q are (record { before = rest; first = u; image = more.0.0; second = second })
           more.2
     ]
 

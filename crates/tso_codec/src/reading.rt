@@ -9,7 +9,9 @@ ghost use Rattle.tso_codec.specs.Validity.{IsTso, count_of};
 ghost use Rattle.tso_codec.specs.declared.recording.TsoRecording.{TsoRecording as SomeRecording};
 
 use crate::recording::{END, TsoRecording, VALUES};
-use log_codec::{CodecFault, HEADER, Version, by_targets, image, number, sizes, totals};
+use log_codec::{
+    CodecFault, HEADER, Reading, Version, by_targets, image, number, read_all, sizes, totals,
+};
 use rtr_types::Items;
 use std::alloc::Global;
 
@@ -35,7 +37,7 @@ fn magic(bytes: &[u8]) -> Result<&[u8], CodecFault>
 /// The next logged load after the one with the last count: its own count is above that one, and at most the
 /// total. The bytes have the rise of the count, and the word.
 #[tactic(auto, unfolding(crate::specs::Reading::value_at))]
-fn value(total: u32, last: u32, bytes: &[u8]) -> Result<((u32, u32), &[u8]), CodecFault>
+fn value(total: u32, last: u32, bytes: &[u8]) -> Reading<(u32, u32)>
     requires { last ≤ total }
     ensures read { Gives (λ x. (x.0, x.1.now)) result (value_at total last bytes.now) }
     ensures most { IfOk result (λ x. x.0.0 ≤ total) }
@@ -49,12 +51,7 @@ fn value(total: u32, last: u32, bytes: &[u8]) -> Result<((u32, u32), &[u8]), Cod
 }
 
 /// As many logged loads as the count says.
-fn values_from(
-    alloc: Global,
-    total: u32,
-    count: u32,
-    bytes: &[u8],
-) -> Result<(Items<(u32, u32)>, &[u8]), CodecFault>
+fn values_from(alloc: Global, total: u32, count: u32, bytes: &[u8]) -> Reading<Items<(u32, u32)>>
     ensures { Gives (λ x. (x.0, x.1.now)) result (read_in_turn (value_at total) count_of count 0 bytes.now) }
 {
     let mut found = Items::new(alloc);
@@ -71,7 +68,7 @@ fn values_from(
 
 /// The logged loads of a core.
 #[tactic(auto, unfolding(crate::specs::Reading::values_at))]
-fn values(alloc: Global, total: u32, bytes: &[u8]) -> Result<(Items<(u32, u32)>, &[u8]), CodecFault>
+fn values(alloc: Global, total: u32, bytes: &[u8]) -> Reading<Items<(u32, u32)>>
     ensures { Gives (λ x. (x.0, x.1.now)) result (values_at total bytes.now) }
 {
     let (count, rest) = number(VALUES, bytes)?;
@@ -84,7 +81,7 @@ fn all_values<'a>(
     cores: u8,
     totals: &[u32],
     bytes: &'a [u8],
-) -> Result<(Items<Items<(u32, u32)>>, &'a [u8]), CodecFault>
+) -> Reading<'a, Items<Items<(u32, u32)>>>
     requires { cores ≤ length totals.now }
     ensures { Gives (λ x. (x.0, x.1.now)) result (all_values_at cores totals.now bytes.now) }
 {
@@ -100,7 +97,7 @@ fn all_values<'a>(
 
 /// The parts but for the end, and the bytes after them.
 #[tactic(auto, unfolding(crate::specs::Reading::parts_at))]
-fn parts(alloc: Global, bytes: &[u8]) -> Result<(TsoRecording, &[u8]), CodecFault>
+fn parts(alloc: Global, bytes: &[u8]) -> Reading<TsoRecording>
     ensures { Gives (λ x. (x.0, x.1.now)) result (parts_at bytes.now) }
 {
     let rest = magic(bytes)?;
@@ -119,18 +116,6 @@ fn parts(alloc: Global, bytes: &[u8]) -> Result<(TsoRecording, &[u8]), CodecFaul
     Ok((recording, rest))
 }
 
-/// All parts.
-#[tactic(auto, unfolding(crate::specs::Reading::tso_at))]
-fn whole(alloc: Global, bytes: &[u8]) -> Result<TsoRecording, CodecFault>
-    ensures { Gives (λ x. x) result (tso_at bytes.now) }
-{
-    let (recording, rest) = parts(alloc, bytes)?;
-    if !rest.is_empty() {
-        return Err(CodecFault::Bad { part: END });
-    }
-    Ok(recording)
-}
-
 /// The recording of a run with store buffers that the bytes spell, all of the bytes. A fault names the first
 /// part that has no reading: 1 for the header and the parameters, 2 for the image, 3 for the totals, 4 for the
 /// reduced log, `VALUES` for the logged loads, and `END` where bytes are left. Or memory ran out.
@@ -142,5 +127,5 @@ pub fn tso_read(alloc: Global, bytes: &[u8]) -> Result<TsoRecording, CodecFault>
     // Which part it is that has no reading.
     ensures exact { Gives (λ x. x) result (tso_at bytes.now) }
 {
-    whole(alloc, bytes)
+    read_all(parts(alloc, bytes), END)
 }

@@ -1,6 +1,6 @@
 -- What thinning gives.
-use Rattle.std.proofs.Common.{◌≡◌, ℕ, suc, ◌+◌, ◌<◌, ◌≤◌, inl, inr, List, [], ◌∷◌, length, get_or, refl, sym, ap, subst}
-use Rattle.std.proofs.Common.{◌∙◌, arith}
+use Rattle.std.proofs.Common.{◌≡◌, ℕ, suc, ◌+◌, ◌<◌, ◌≤◌, ◌⊎◌, inl, inr, List, [], ◌∷◌, length, get_or, refl, sym, ap}
+use Rattle.std.proofs.Common.{subst, ◌∙◌, arith}
 use Rattle.std.specs.Prelude.{Bool, slice_index, slice_index_or, sum_by}
 use Rattle.std.proofs.lemmas.Bool.{cases_lt}
 use Rattle.std.proofs.lemmas.List.{get_or-take, get_or_past, length-take-le}
@@ -198,20 +198,15 @@ refused_is r fault h = subst (λ (f : ThinFault). ThinRefuses r f) (sym h.1)
 
 -- ---- the counts
 
-pub too_many_vectors : (r : Recording) (vectors edges : ℕ) → Valid r →
+pub too_many : (r : Recording) (vectors edges : ℕ) → Valid r →
     vectors ≡ sum_by (λ (l : List StrideVector). length l) r.regulated →
-    edges ≡ length (regulated_edges r) → VECTORS_MAX < vectors → IsRefusedFor r (TooMany vectors edges)
-too_many_vectors r vectors edges valid v e more = let same = v ∙ sym (vectors_counted r valid) in (
-  inl (omega (arith, more, same)),
-  ap (λ (n : ℕ). TooMany n edges) same
-      ∙ ap (λ (n : ℕ). TooMany (length (vectors_of r)) n) e,
-)
-
-pub too_many_positions : (r : Recording) (vectors edges : ℕ) → Valid r →
-    vectors ≡ sum_by (λ (l : List StrideVector). length l) r.regulated →
-    edges ≡ length (regulated_edges r) → POSITIONS_MAX < edges → IsRefusedFor r (TooMany vectors edges)
-too_many_positions r vectors edges valid v e more = let same = v ∙ sym (vectors_counted r valid) in (
-  inr (omega (arith, more, e)),
+    edges ≡ length (regulated_edges r) → (VECTORS_MAX < vectors) ⊎ (POSITIONS_MAX < edges) →
+    IsRefusedFor r (TooMany vectors edges)
+too_many r vectors edges valid v e more = let same = v ∙ sym (vectors_counted r valid) in (
+  elim more [
+    | inl h ↦ inl (omega (arith, h, same))
+    | inr h ↦ inr (omega (arith, h, e))
+  ],
   ap (λ (n : ℕ). TooMany n edges) same
       ∙ ap (λ (n : ℕ). TooMany (length (vectors_of r)) n) e,
 )

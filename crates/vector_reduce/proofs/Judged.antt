@@ -1,5 +1,5 @@
 -- What a check answers.
-use Rattle.std.proofs.Common.{◌≡◌, ℕ, ◌+◌, ◌-◌, ◌^◌, ◌<◌, List, length, None, Some, refl, subst, arith}
+use Rattle.std.proofs.Common.{◌≡◌, ◌∙◌, ℕ, ◌+◌, ◌-◌, ◌^◌, ◌<◌, List, length, None, Some, refl, subst, arith}
 use Rattle.rtr_types.specs.declared.pairs.Which.TheVariants.{Regulated}
 use Rattle.race_log.specs.declared.recording.Recording.{Recording}
 use Rattle.replay_audit.specs.declared.audit_fault.AuditFault.{AuditFault}
@@ -25,20 +25,29 @@ audit_refuses t (audits.Short core count) h = record { refused = h; not_memory =
 audit_refuses t (audits.Undetermined first second) h = record { refused = h; not_memory = λ e. absurd cc }
 audit_refuses t audits.OutOfMemory h = tt
 
-pub audit_complete : (r : Recording) (fault : AuditFault) → IsDeterminate Regulated r → AuditRefuses Regulated r fault →
-    fault_of_audit fault ≡ checks.OutOfMemory
-audit_complete r (audits.Stuck cut) d h = absurd (refused_law Regulated r (audits.Stuck cut) h (λ e. absurd cc) d)
-audit_complete r (audits.Short core count) d h =
-    absurd (refused_law Regulated r (audits.Short core count) h (λ e. absurd cc) d)
-audit_complete r (audits.Undetermined first second) d h =
-    absurd (refused_law Regulated r (audits.Undetermined first second) h (λ e. absurd cc) d)
-audit_complete r audits.OutOfMemory d h = refl
+-- the audit of a copy of a determinate recording is refused for want of memory alone
+pub audit_complete : (r copy : Recording) (fault : AuditFault) → copy ≡ r → IsDeterminate Regulated r →
+    AuditRefuses Regulated copy fault → fault_of_audit fault ≡ checks.OutOfMemory
+audit_complete r copy fault same d h =
+    refused_is_memory r fault d (subst (λ (q : Recording). AuditRefuses Regulated q fault) same h)
+  where
+    refused_is_memory : (r : Recording) (fault : AuditFault) → IsDeterminate Regulated r →
+        AuditRefuses Regulated r fault → fault_of_audit fault ≡ checks.OutOfMemory
+    refused_is_memory r (audits.Stuck cut) d h =
+        absurd (refused_law Regulated r (audits.Stuck cut) h (λ e. absurd cc) d)
+    refused_is_memory r (audits.Short core count) d h =
+        absurd (refused_law Regulated r (audits.Short core count) h (λ e. absurd cc) d)
+    refused_is_memory r (audits.Undetermined first second) d h =
+        absurd (refused_law Regulated r (audits.Undetermined first second) h (λ e. absurd cc) d)
+    refused_is_memory r audits.OutOfMemory d h = refl
 
-pub audited_is : (r : Recording) (a : Findings) → IsAuditOf Regulated r a → IsDeterminate Regulated r
-audited_is r a h =
+-- of a copy of the recording
+pub audited_is : (r copy : Recording) (a : Findings) → copy ≡ r → IsAuditOf Regulated copy a →
+    IsDeterminate Regulated r
+audited_is r copy a same h =
     let p : Passed Regulated a.recording a.outcome a.accesses =
     subst (λ (w : Which). Passed w a.recording a.outcome a.accesses) h.which_is h.passed in
-    subst (λ (q : Recording). IsDeterminate Regulated q) h.recording_is p.determinate
+    subst (λ (q : Recording). IsDeterminate Regulated q) (h.recording_is ∙ same) p.determinate
 
 pub accepted : (t : Thinned) → IsDeterminate Regulated t.recording →
     FirstNotShown (vectors_of t.recording) t.shown None → IsAccepted t

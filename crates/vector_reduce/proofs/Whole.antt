@@ -2,16 +2,14 @@
 use Rattle.std.proofs.Common.{◌≡◌, ℕ, cond, true, false, Bool, List, [], ◌++◌, length, Result, Ok, Err, refl, sym, ap}
 use Rattle.std.proofs.Common.{subst, ◌∙◌, append_assoc, append-nil}
 use Rattle.std.proofs.Common.{eqb, nat_eq}
-use Rattle.std.specs.Prelude.{IfOk}
 use Rattle.std.specs.List.{starts_with}
 use Rattle.std.proofs.lemmas.Bool.{eqb-true}
 use Rattle.std.proofs.lemmas.List.{nil_from_length}
-use Rattle.log_codec.specs.declared.codec_fault.CodecFault.{CodecFault}
 use Rattle.log_codec.specs.declared.codec_fault.TheConstants.{HEADER}
 use Rattle.race_log.specs.declared.recording.Recording.{Recording}
 use Rattle.log_codec.specs.declared.version.Version.{Version}
 use Rattle.log_codec.specs.declared.version.Version.TheVariants.{One, Two}
-use Rattle.log_codec.specs.Faults.{◌>>=◌, Gives}
+use Rattle.log_codec.specs.Faults.{◌>>=◌}
 use Rattle.log_codec.specs.Laws.{IsBytes}
 use Rattle.log_codec.specs.Reading.{front_at}
 use Rattle.log_codec.specs.Spelling as recordings
@@ -119,10 +117,3 @@ prefix_free t u x y vt vu e =
     let both : Ok (t, x) ≡ Ok (u, y) = sym (parts_again t x vt) ∙ ap parts_at e ∙ parts_again u y vu in
     let same = ok_is (t, x) (u, y) both in
     (ap (λ (p : Thinned × List ℕ). p.0) same, ap (λ (p : Thinned × List ℕ). p.1) same)
-
--- what a reader answered
-pub is_found : (bytes : List ℕ) (result : Result Thinned CodecFault) → IsBytes bytes →
-    Gives (λ x. x) result (thinned_at bytes) →
-    IfOk result (λ t. IsThin t × Spells bytes t)
-is_found bytes (Ok t) are e = read_is_spelled bytes t are e
-is_found bytes (Err f) are e = tt

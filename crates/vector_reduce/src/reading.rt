@@ -12,7 +12,7 @@ ghost use Rattle.vector_reduce.specs.declared.thinned.Thinned.{Thinned as SomeTh
 
 use crate::pair_vector::vectors_of;
 use crate::thinned::{END, SHOWN, Shown, Thinned};
-use log_codec::{CodecFault, HEADER, counts, number, read_front};
+use log_codec::{CodecFault, HEADER, Reading, counts, number, read_all, read_front};
 use race_log::Recording;
 use rtr_types::{CORES_MAX, Cut, Items};
 use std::alloc::Global;
@@ -40,7 +40,7 @@ fn cut_of(counts: &[u32]) -> Cut
 
 /// The number of an edge, and a cut.
 #[tactic(auto, unfolding(crate::specs::Reading::one_at))]
-fn one<'a>(alloc: Global, totals: &[u32], bytes: &'a [u8]) -> Result<(Shown, &'a [u8]), CodecFault>
+fn one<'a>(alloc: Global, totals: &[u32], bytes: &'a [u8]) -> Reading<'a, Shown>
     requires { length totals.now ≤ CORES_MAX }
     ensures { Gives (λ x. (x.0, x.1.now)) result (one_at totals.now tt bytes.now) }
 {
@@ -56,7 +56,7 @@ fn shown<'a>(
     totals: &[u32],
     vectors: usize,
     bytes: &'a [u8],
-) -> Result<(Items<Shown>, &'a [u8]), CodecFault>
+) -> Reading<'a, Items<Shown>>
     requires { length totals.now ≤ CORES_MAX }
     ensures { Gives (λ x. (x.0, x.1.now)) result (read_in_turn (one_at totals.now) stay vectors tt bytes.now) }
 {
@@ -72,7 +72,7 @@ fn shown<'a>(
 
 /// The first five parts, which are a recording's in version 2, and the bytes after them.
 #[tactic(auto, unfolding(crate::specs::Reading::front_two_at))]
-fn front(alloc: Global, bytes: &[u8]) -> Result<(Recording, &[u8]), CodecFault>
+fn front(alloc: Global, bytes: &[u8]) -> Reading<Recording>
     ensures read { Gives (λ x. (x.0, x.1.now)) result (front_two_at bytes.now) }
     ensures valid { IfOk result (λ x. Valid x.0) }
 {
@@ -85,25 +85,13 @@ fn front(alloc: Global, bytes: &[u8]) -> Result<(Recording, &[u8]), CodecFault>
 
 /// The parts but for the end, and the bytes after them.
 #[tactic(auto, unfolding(crate::specs::Reading::parts_at))]
-fn parts(alloc: Global, bytes: &[u8]) -> Result<(Thinned, &[u8]), CodecFault>
+fn parts(alloc: Global, bytes: &[u8]) -> Reading<Thinned>
     ensures { Gives (λ x. (x.0, x.1.now)) result (parts_at bytes.now) }
 {
     let (recording, rest) = front(alloc, bytes)?;
     let vectors = vectors_of(alloc, &recording)?.len();
     let (shown, rest) = shown(alloc, recording.totals.as_slice(), vectors, rest)?;
     Ok((Thinned { recording, shown }, rest))
-}
-
-/// All parts.
-#[tactic(auto, unfolding(crate::specs::Reading::thinned_at))]
-fn whole(alloc: Global, bytes: &[u8]) -> Result<Thinned, CodecFault>
-    ensures { Gives (λ x. x) result (thinned_at bytes.now) }
-{
-    let (thinned, rest) = parts(alloc, bytes)?;
-    if !rest.is_empty() {
-        return Err(CodecFault::Bad { part: END });
-    }
-    Ok(thinned)
 }
 
 /// The thinned recording that the bytes spell, all of the bytes. Its form is right; whether it shows what it
@@ -117,5 +105,5 @@ pub fn read_thin(alloc: Global, bytes: &[u8]) -> Result<Thinned, CodecFault>
     // Which part it is that has no reading.
     ensures exact { Gives (λ x. x) result (thinned_at bytes.now) }
 {
-    whole(alloc, bytes)
+    read_all(parts(alloc, bytes), END)
 }

@@ -38,10 +38,7 @@ fn refused(recording: &Recording) -> Option<ThinFault>
 {
     let vectors = vector_count(recording.regulated.as_slice());
     let edges = recording.edge_count(Which::Regulated);
-    if vectors > VECTORS_MAX {
-        return Some(ThinFault::TooMany { vectors, edges });
-    }
-    if edges > POSITIONS_MAX {
+    if vectors > VECTORS_MAX || edges > POSITIONS_MAX {
         return Some(ThinFault::TooMany { vectors, edges });
     }
     None

@@ -1,13 +1,17 @@
 use Rattle.std.proofs.Common.{arith}
-use Rattle.log_codec.proofs.Steps.{bytes-from_index}
-use Rattle.log_codec.proofs.Wholes.{answered, found_if}
+use Rattle.log_codec.proofs.Wholes.{reads}
+use Rattle.certificate_codec.specs.Reading.{certificate_at, parts_at}
+use Rattle.certificate_codec.specs.Spelling.{Spells}
+use Rattle.certificate_codec.specs.Validity.{IsCertificate}
 use Rattle.certificate_codec.proofs.Whole.{read_is_spelled, spelled_is_read}
 use Rattle.certificate_codec.proofs.reading.read_certificate.Goals as goal
 
-pub returns-clause-found : goal.returns-clause-found
-returns-clause-found c = found_if _ _ c.whole.result (λ x read. read_is_spelled c.args.bytes.now x
-    (bytes-from_index c.args.bytes.now (λ i. omega (arith, c.type_inv.bytes i))) read) c.whole.ensures
-
-pub returns-clause-only : goal.returns-clause-only
-returns-clause-only c = λ d valid spells. answered c.whole.result _ _
-    (spelled_is_read d c.args.bytes.now valid spells) c.whole.ensures
+pub returns : goal.returns
+unfolding certificate_at
+returns c =
+    let exact = c.read_all.ensures parts_at c.args.bytes.now c.parts.ensures in
+    let all = reads IsCertificate (Spells c.args.bytes.now) c.args.bytes.now _ c.read_all.result
+    (λ i. omega (arith, c.type_inv.bytes i))
+    (λ x are read. read_is_spelled c.args.bytes.now x are read)
+    (λ d valid spells. spelled_is_read d c.args.bytes.now valid spells) exact in
+    record { found = all.found; only = all.only; exact = exact }

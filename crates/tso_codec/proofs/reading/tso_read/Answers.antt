@@ -1,13 +1,16 @@
-use Rattle.std.proofs.Common.{ap, ◌∙◌, arith}
-use Rattle.log_codec.proofs.Steps.{bytes-from_index}
-use Rattle.log_codec.proofs.Wholes.{answered, found_if}
-use Rattle.tso_codec.specs.Reading.{tso_at}
+use Rattle.std.proofs.Common.{◌≡◌, ap, ◌∙◌, arith}
+use Rattle.log_codec.proofs.Wholes.{reads}
+use Rattle.tso_codec.specs.Reading.{parts_at, tso_at}
+use Rattle.tso_codec.specs.Spelling.{tso_spelling}
+use Rattle.tso_codec.specs.Validity.{IsTso}
 use Rattle.tso_codec.proofs.Whole.{laws}
 use Rattle.tso_codec.proofs.reading.tso_read.Goals as goal
 
-pub returns-clause-found : goal.returns-clause-found
-returns-clause-found c = found_if _ _ c.whole.result (λ x read. laws.read c.args.bytes.now x
-    (bytes-from_index c.args.bytes.now (λ i. omega (arith, c.type_inv.bytes i))) read) c.whole.ensures
-
-pub returns-clause-only : goal.returns-clause-only
-returns-clause-only c = λ r valid is. answered c.whole.result _ _ (ap tso_at is ∙ laws.spelled r valid) c.whole.ensures
+pub returns : goal.returns
+unfolding tso_at
+returns c =
+    let exact = c.read_all.ensures parts_at c.args.bytes.now c.parts.ensures in
+    let all = reads IsTso (λ r. c.args.bytes.now ≡ tso_spelling r) c.args.bytes.now _ c.read_all.result
+    (λ i. omega (arith, c.type_inv.bytes i))
+    (λ x are read. laws.read c.args.bytes.now x are read) (λ r valid is. ap tso_at is ∙ laws.spelled r valid) exact in
+    record { found = all.found; only = all.only; exact = exact }

@@ -1,9 +1,13 @@
-use Rattle.std.proofs.Common.{List, ap, length, ◌∙◌, arith}
+use Rattle.std.proofs.Common.{List, ap, inl, inr, length, ◌∙◌, arith}
 use Rattle.std.specs.Prelude.{sum_by}
 use Rattle.stride_vector.specs.declared.StrideVector.{StrideVector}
-use Rattle.vector_reduce.proofs.Assembled.{few_enough, too_many_positions, too_many_vectors}
+use Rattle.vector_reduce.proofs.Assembled.{few_enough, too_many}
 use Rattle.vector_reduce.proofs.Keeping.{vectors_fit}
 use Rattle.vector_reduce.proofs.thinning.refused.Goals as goal
+use Rattle.vector_reduce.proofs.thinning.refused.Goals.{
+  then-vectors-gt-VECTORS_MAX-via-then-vectors-gt-VECTORS_MAX,
+  then-vectors-gt-VECTORS_MAX-via-else-vectors-gt-VECTORS_MAX+then-edges-gt-POSITIONS_MAX,
+}
 
 pub vector_count-vectors-requires : goal.vector_count-vectors-requires
 vector_count-vectors-requires c = let fit = vectors_fit c.args.recording.now c.requires in
@@ -11,17 +15,14 @@ vector_count-vectors-requires c = let fit = vectors_fit c.args.recording.now c.r
 
 pub returns-then-vectors-gt-VECTORS_MAX : goal.returns-then-vectors-gt-VECTORS_MAX
 returns-then-vectors-gt-VECTORS_MAX c =
-    too_many_vectors c.args.recording.now c.vector_count-vectors.result c.edge_count-edges.result c.requires
+    too_many c.args.recording.now c.vector_count-vectors.result c.edge_count-edges.result c.requires
     (c.vector_count-vectors.ensures ∙ ap (sum_by (λ (l : List StrideVector). length l)) c.as_slice.ensures)
-    c.edge_count-edges.ensures.listed
-    (omega (arith, c.if-vectors-gt-VECTORS_MAX.true))
-
-pub returns-then-edges-gt-POSITIONS_MAX : goal.returns-then-edges-gt-POSITIONS_MAX
-returns-then-edges-gt-POSITIONS_MAX c =
-    too_many_positions c.args.recording.now c.vector_count-vectors.result c.edge_count-edges.result c.requires
-    (c.vector_count-vectors.ensures ∙ ap (sum_by (λ (l : List StrideVector). length l)) c.as_slice.ensures)
-    c.edge_count-edges.ensures.listed
-    (omega (arith, c.if-edges-gt-POSITIONS_MAX.true))
+    c.edge_count-edges.ensures.listed (elim c.then-vectors-gt-VECTORS_MAX.branch [
+      | then-vectors-gt-VECTORS_MAX-via-then-vectors-gt-VECTORS_MAX w ↦
+          inl (omega (arith, w.if-vectors-gt-VECTORS_MAX.true))
+      | then-vectors-gt-VECTORS_MAX-via-else-vectors-gt-VECTORS_MAX+then-edges-gt-POSITIONS_MAX w ↦
+          inr (omega (arith, w.if-edges-gt-POSITIONS_MAX.true))
+    ])
 
 pub returns : goal.returns
 returns c =
