@@ -2,7 +2,7 @@
 -- from here on, and at most as many instructions as the timeline has before.
 use Rattle.std.proofs.Common.{◌≡◌, inl, inr, ℕ, ◌+◌, ◌-◌, ◌<◌, ◌≤◌, ◌≢◌, true, List, length, take, get_or, suc, refl}
 use Rattle.std.proofs.Common.{sym, ap, subst, ◌∙◌, arith, length-set, get_or-set_same, get_or-set_other}
-use Rattle.std.specs.Prelude.{slice_index, slice_set, None}
+use Rattle.std.specs.Prelude.{slice_index, slice_set}
 use Rattle.std.proofs.lemmas.Bool.{cases_lt}
 use Rattle.std.proofs.lemmas.List.{take_all}
 use native.Mathlib.Decide.{ℕ_discrete}
@@ -10,48 +10,24 @@ use Rattle.rtr_types.specs.CoreSets.{has}
 use Rattle.rtr_types.specs.declared.TheConstants.{CORES_MAX}
 use Rattle.rtr_types.specs.declared.core_set.CoreSet.{CoreSet}
 use Rattle.rtr_types.specs.declared.cut.Cut.{Cut}
-use Rattle.rtr_types.specs.declared.pairs.Which.{Which}
 use Rattle.race_log.specs.declared.recording.Recording.{Recording}
 use Rattle.race_log.specs.Validity.{Valid}
 use Rattle.replay_core.specs.Orders.{Ready, bump, counts, nought}
 use Rattle.replay_core.specs.Tallies.{count_of}
 use Rattle.replay_core.proofs.Counts.{bump_here, bump_else}
-use Rattle.replay_audit.specs.Audits.{Findings, IsInstrOf}
+use Rattle.replay_audit.specs.Audits.{IsInstrOf}
 use Rattle.replay_audit.specs.Determinate.{IsDeterminate}
 use Rattle.cut_replay.specs.ClosedCuts.{count_in, IsContained}
-use Rattle.cut_moves.specs.Steps.{IsStepBack, IsWholeCut, last_in}
+use Rattle.cut_moves.specs.Steps.{IsWholeCut, last_in}
 use Rattle.cut_moves.proofs.Hulls.{in_whole}
 use Rattle.cut_moves.proofs.Rounds.{rounds_whole}
-use Rattle.debug_place.specs.Backs.{GoesBack}
 use Rattle.debug_place.specs.Places.{Placed, Stands, cut_at, plan_at}
-use Rattle.gdb_monitor.specs.Moves.{IsKept, IsOf}
-use Rattle.gdb_session.specs.Moves.{Follow, StepsBackFree, TakesTurnBack}
-use Rattle.gdb_session.specs.Stopping.{Stopping, stops_at}
+use Rattle.gdb_monitor.specs.Moves.{IsKept}
+use Rattle.gdb_session.specs.declared.direction.Direction.TheVariants.{Back}
+use Rattle.gdb_session.specs.Moves.{Follow, StepsFree, TakesTurn}
+use Rattle.gdb_session.specs.Stopping.{Stopping}
 use Rattle.gdb_session.specs.Turns.{AreGone, IsDone, IsTurnBack, timeline_at}
 use Rattle.gdb_session.proofs.TurnLemmas.{counted_more, ready_at, same_line}
-
--- ---- steps
-
--- a step back of the audited recording, said of the place
-pub stepped_back : (a : Findings) (place : Placed) → IsOf a place → (core : ℕ) (cut to : Cut) → cut ≡ cut_at place →
-    IsStepBack a.which a.recording cut (last_in cut core) to →
-    IsStepBack place.which place.recording (cut_at place) (last_in (cut_at place) core) to
-stepped_back a place run core cut to cut_is step =
-    subst (λ (w : Which). IsStepBack w place.recording (cut_at place) (last_in (cut_at place) core) to) run.which
-    (subst (λ (r : Recording). IsStepBack a.which r (cut_at place) (last_in (cut_at place) core) to) run.recording
-    (subst (λ (k : Cut). IsStepBack a.which a.recording k (last_in k core) to) cut_is step))
-
-pub free_back : (stopping : Stopping) (core : ℕ) (old new : Placed) (to : Cut) → IsKept old new →
-    IsStepBack old.which old.recording (cut_at old) (last_in (cut_at old) core) to →
-    GoesBack (stops_at stopping) old to new None → StepsBackFree stopping core old new
-free_back stopping core old new to kept step goes =
-    let there : to ≡ cut_at new = sym goes.ends.1 in
-    record {
-      kept = kept;
-      step = subst (λ (k : Cut). IsStepBack old.which old.recording (cut_at old) (last_in (cut_at old) core) k) there
-          step;
-      free = subst (λ (k : Cut). GoesBack (stops_at stopping) old k new None) there goes;
-    }
 
 -- ---- turns
 
@@ -66,7 +42,7 @@ pub record IsTurningBack (stopping : Stopping) (cores : CoreSet) (old : Placed) 
   pub reached : (c : ℕ) → has cores c ≡ true → count_in (cut_at now) c ≤ count_of at c
   pub gone : AreGone cores (cut_at now) (timeline_at old) number
   pub turns : ℕ
-  pub free : Follow (TakesTurnBack stopping cores) turns old now
+  pub free : Follow (TakesTurn Back stopping cores) turns old now
 
 pub turning_last : (stopping : Stopping) (cores : CoreSet) (place : Placed) (all : Cut) (line : List ℕ) →
     Valid place.recording → IsDeterminate place.which place.recording → Stands place →
@@ -150,7 +126,7 @@ module _ (stopping : Stopping) (cores : CoreSet) (old : Placed) (at : List ℕ) 
       (later : Placed) (kept : IsKept now later) (within : IsContained (cut_at later) (cut_at now))
       (here : has cores (get_or line i 0) ≡ true →
       count_in (cut_at later) (get_or line i 0) ≤ count_of at (get_or line i 0) - 1) (turns : ℕ)
-      (free : Follow (TakesTurnBack stopping cores) turns old later) where
+      (free : Follow (TakesTurn Back stopping cores) turns old later) where
     one_less : count_of new (get_or line i 0) ≡ count_of at (get_or line i 0) - 1
     one_less =
         ap (λ (l : List ℕ). count_of l core) new_is
@@ -217,7 +193,7 @@ module _ (stopping : Stopping) (cores : CoreSet) (old : Placed) (at : List ℕ) 
     -- its core took its turn
     pub back_taken : (later : Placed) → has cores (get_or line i 0) ≡ true →
         count_of at (get_or line i 0) - 1 < count_in (cut_at now) (get_or line i 0) →
-        StepsBackFree stopping (get_or line i 0) now later → IsTurningBack stopping cores old new i later
+        StepsFree Back stopping (get_or line i 0) now later → IsTurningBack stopping cores old new i later
     back_taken later one more steps =
         turning_back_on new new_is later steps.kept steps.step.contained
         (λ has_one. let was = so_far.reached core one in not_held (cut_at later) (cut_at now) core _ was

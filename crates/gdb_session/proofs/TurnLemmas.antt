@@ -2,7 +2,7 @@
 -- as many instructions as the timeline has come to.
 use Rattle.std.proofs.Common.{◌≡◌, inl, inr, ℕ, ◌+◌, ◌<◌, ◌≤◌, true, List, ◌∷◌, ◌++◌, length, take, drop, get_or}
 use Rattle.std.proofs.Common.{replicate, suc, refl, sym, ap, subst, ◌∙◌, add-one, arith, length-set}
-use Rattle.std.specs.Prelude.{slice_index, slice_set, None}
+use Rattle.std.specs.Prelude.{slice_index, slice_set}
 use Rattle.std.proofs.Math.Path.{fun_ext}
 use Rattle.std.proofs.Math.Seq.{drop-cons}
 use Rattle.std.proofs.lemmas.Bool.{cases_lt}
@@ -12,50 +12,27 @@ use Rattle.rtr_types.proofs.Ranges.{zero_at}
 use Rattle.rtr_types.specs.CoreSets.{has}
 use Rattle.rtr_types.specs.declared.TheConstants.{CORES_MAX}
 use Rattle.rtr_types.specs.declared.core_set.CoreSet.{CoreSet}
-use Rattle.rtr_types.specs.declared.cut.Cut.{Cut}
 use Rattle.rtr_types.specs.declared.pairs.Which.{Which}
 use Rattle.replay_core.specs.Orders.{Ordered, Ready, bump, counts, nought}
 use Rattle.replay_core.specs.Plans.{Plan}
 use Rattle.replay_core.specs.Tallies.{count_of}
 use Rattle.replay_core.proofs.Counts.{bump_else, bump_same, counts_on}
 use Rattle.replay_core.proofs.Lists.{ordered_on}
-use Rattle.replay_audit.specs.Audits.{Findings, IsInstrOf}
+use Rattle.replay_audit.specs.Audits.{IsInstrOf}
 use Rattle.race_log.specs.declared.recording.Recording.{Recording}
 use Rattle.race_log.specs.Validity.{Valid}
 use Rattle.cut_replay.specs.ClosedCuts.{count_in, IsContained}
-use Rattle.cut_moves.specs.Steps.{IsStep, next_in}
+use Rattle.cut_moves.specs.Steps.{next_in}
 use Rattle.cut_moves.specs.Rounds.{rounds_of}
 use Rattle.cut_moves.proofs.Rounds.{rounds_ordered}
 use Rattle.cut_moves.proofs.Going.{total_small}
 use Rattle.cut_moves.proofs.Taking.{bumped}
 use Rattle.debug_place.specs.Places.{Placed, cut_at, plan_at}
-use Rattle.debug_place.specs.Stops.{GoesOn, NoneStops, way_to}
-use Rattle.gdb_monitor.specs.Moves.{IsKept, IsOf}
+use Rattle.gdb_monitor.specs.Moves.{IsKept}
+use Rattle.gdb_session.specs.declared.direction.Direction.TheVariants.{Forward}
 use Rattle.gdb_session.specs.Moves.{Follow, StepsFree, TakesTurn}
-use Rattle.gdb_session.specs.Stopping.{Stopping, stops_at}
+use Rattle.gdb_session.specs.Stopping.{Stopping}
 use Rattle.gdb_session.specs.Turns.{AreDone, IsDone, IsTurn, timeline_at}
-
--- ---- steps
-
--- a step of the audited recording, said of the place
-pub stepped : (a : Findings) (place : Placed) → IsOf a place → (core : ℕ) (cut to : Cut) → cut ≡ cut_at place →
-    IsStep a.which a.recording cut (next_in cut core) to →
-    IsStep place.which place.recording (cut_at place) (next_in (cut_at place) core) to
-stepped a place run core cut to cut_is step =
-    subst (λ (w : Which). IsStep w place.recording (cut_at place) (next_in (cut_at place) core) to) run.which
-    (subst (λ (r : Recording). IsStep a.which r (cut_at place) (next_in (cut_at place) core) to) run.recording
-    (subst (λ (k : Cut). IsStep a.which a.recording k (next_in k core) to) cut_is step))
-
-pub free_step : (stopping : Stopping) (core : ℕ) (old new : Placed) (to : Cut) → IsKept old new →
-    IsStep old.which old.recording (cut_at old) (next_in (cut_at old) core) to →
-    GoesOn (stops_at stopping) old to new None → StepsFree stopping core old new
-free_step stopping core old new to kept step goes = record {
-  kept = kept;
-  step = subst (λ (k : Cut). IsStep old.which old.recording (cut_at old) (next_in (cut_at old) core) k) (sym goes.1)
-      step;
-  free = subst (λ (k : Cut). NoneStops (stops_at stopping) (plan_at old) old.state (way_to old k)) (sym goes.1)
-      goes.0;
-}
 
 -- ---- the timeline
 
@@ -93,7 +70,7 @@ pub record IsTurning (stopping : Stopping) (cores : CoreSet) (old : Placed) (at 
   pub reached : (core : ℕ) → has cores core ≡ true → count_of at core ≤ count_in (cut_at now) core
   pub done : AreDone cores (cut_at now) (timeline_at old) number
   pub turns : ℕ
-  pub free : Follow (TakesTurn stopping cores) turns old now
+  pub free : Follow (TakesTurn Forward stopping cores) turns old now
 
 pub turning_first : (stopping : Stopping) (cores : CoreSet) (place : Placed) →
     IsTurning stopping cores place (replicate CORES_MAX 0) 0 place
@@ -176,7 +153,7 @@ module _ (stopping : Stopping) (cores : CoreSet) (old : Placed) (at : List ℕ) 
       (later : Placed) (kept : IsKept now later) (within : IsContained (cut_at now) (cut_at later))
       (here : has cores (get_or line i 0) ≡ true →
       count_of at (get_or line i 0) < count_in (cut_at later) (get_or line i 0)) (turns : ℕ)
-      (free : Follow (TakesTurn stopping cores) turns old later) where
+      (free : Follow (TakesTurn Forward stopping cores) turns old later) where
     on : count_of new ≡ bump (count_of at) (get_or line i 0)
     on = ap (λ (l : List ℕ). count_of l) new_is ∙ bumped at core turn_wide
 
@@ -240,7 +217,7 @@ module _ (stopping : Stopping) (cores : CoreSet) (old : Placed) (at : List ℕ) 
     -- its core took its turn
     pub turn_taken : (later : Placed) → has cores (get_or line i 0) ≡ true →
         count_in (cut_at now) (get_or line i 0) ≤ count_of at (get_or line i 0) →
-        StepsFree stopping (get_or line i 0) now later → IsTurning stopping cores old new (i + 1) later
+        StepsFree Forward stopping (get_or line i 0) now later → IsTurning stopping cores old new (i + 1) later
     turn_taken later one lacks steps =
         turning_on new new_is later steps.kept steps.step.contains
         (λ has_one. let was = so_far.reached core one in let more = steps.step.holds in omega arith)

@@ -8,6 +8,7 @@ pub mod Threads
 pub mod Parts
 pub mod Target
 pub mod Stopping
+pub mod Directions
 pub mod Orders
 pub mod Turns
 pub mod Moves

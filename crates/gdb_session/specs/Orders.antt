@@ -8,9 +8,10 @@ use Rattle.rtr_types.specs.declared.core_set.CoreSet.{CoreSet}
 use Rattle.gdb_packets.specs.declared.asks.Action.{Action}
 use Rattle.gdb_packets.specs.declared.asks.Thread.{Thread}
 use Rattle.gdb_packets.specs.declared.asks.Thread.TheVariants.{All, Any, Core}
+use Rattle.gdb_session.specs.declared.direction.Direction.{Direction}
+use Rattle.gdb_session.specs.declared.direction.Direction.TheVariants.{Forward, Back}
 use Rattle.gdb_session.specs.declared.orders.Order.{Order}
-use Rattle.gdb_session.specs.declared.orders.Order.TheVariants.{Rest, Step, Go, GoWith, StepBack, GoBack}
-use Rattle.gdb_session.specs.declared.orders.Order.TheVariants.{GoBackWith}
+use Rattle.gdb_session.specs.declared.orders.Order.TheVariants.{Rest, Step, Go, GoWith}
 use Rattle.gdb_session.specs.declared.wishes.Wishes.{Wishes}
 use Rattle.gdb_session.specs.Wishes.{core_of, is_there}
 
@@ -85,23 +86,23 @@ all_go actions cores = all_where (acts actions) cores
 abbrev pub only : (core : ℕ) → CoreSet
 only core = with_core no_cores core
 
--- all cores go on: by the one that leads alone, where one does
-abbrev pub all_on : (lead : Option ℕ) → (told : ℕ) → CoreSet → Order
-all_on None told heard = Go told heard
-all_on (Some lead) told heard = GoWith told (only lead) heard
+-- all cores go on in the direction: by the one that leads alone, where one does
+abbrev pub all_on : Direction → (lead : Option ℕ) → (told : ℕ) → CoreSet → Order
+all_on direction None told heard = Go direction told heard
+all_on direction (Some lead) told heard = GoWith direction told (only lead) heard
 
 -- only these cores go on; at the end the one that is looked at is told if it's one of them, or else the lowest
 abbrev pub some_order : Wishes → CoreSet → (lowest : Option ℕ) → Option Order
 some_order wishes heard None = None
 some_order wishes heard (Some lowest) =
-    Some (GoWith (if has heard wishes.looked then wishes.looked else lowest) heard heard)
+    Some (GoWith Forward (if has heard wishes.looked then wishes.looked else lowest) heard heard)
 
 -- a step of the lowest core that is to step; where none is, those that are to move go on
 abbrev pub go_order : Wishes → (cores : ℕ) → List Action → Option ℕ → Option Order
 go_order wishes cores actions None =
-    if all_go actions cores then Some (all_on wishes.lead wishes.looked (heard_of actions cores)) else
+    if all_go actions cores then Some (all_on Forward wishes.lead wishes.looked (heard_of actions cores)) else
     some_order wishes (heard_of actions cores) (lowest_where (acts actions) cores)
-go_order wishes cores actions (Some core) = Some (Step core (heard_of actions cores))
+go_order wishes cores actions (Some core) = Some (Step Forward core (heard_of actions cores))
 
 -- the move that actions order: none where they name a thread that isn't there, or no core is to move. After an
 -- interrupt nothing moves, and the first core that is named is told
@@ -122,17 +123,12 @@ movers_of (Some core) cores = only core
 
 abbrev pub step_back_order : Wishes → (cores : ℕ) → Order
 step_back_order wishes cores =
-    if wishes.interrupted then Rest (mover wishes) else StepBack (mover wishes) (movers_of wishes.moving cores)
-
--- all cores go back: by the one that leads alone, where one does
-abbrev pub all_back : (lead : Option ℕ) → (told cores : ℕ) → Order
-all_back None told cores = GoBack told
-all_back (Some lead) told cores = GoBackWith told (only lead) (every_core cores)
+    if wishes.interrupted then Rest (mover wishes) else Step Back (mover wishes) (movers_of wishes.moving cores)
 
 -- one core goes back, or all
 abbrev pub back_by : (moving : Option ℕ) → Wishes → (cores : ℕ) → Order
-back_by None wishes cores = all_back wishes.lead wishes.looked cores
-back_by (Some core) wishes cores = GoBackWith core (only core) (only core)
+back_by None wishes cores = all_on Back wishes.lead wishes.looked (every_core cores)
+back_by (Some core) wishes cores = GoWith Back core (only core) (only core)
 
 abbrev pub go_back_order : Wishes → (cores : ℕ) → Order
 go_back_order wishes cores =
@@ -141,9 +137,6 @@ go_back_order wishes cores =
 -- the core that an order names is there
 abbrev pub IsWithin : Order → (cores : ℕ) → Type 0
 IsWithin (Rest core) cores = core < cores
-IsWithin (Step core heard) cores = core < cores
-IsWithin (Go core heard) cores = core < cores
-IsWithin (GoWith core movers heard) cores = core < cores
-IsWithin (StepBack core heard) cores = core < cores
-IsWithin (GoBack core) cores = core < cores
-IsWithin (GoBackWith core movers heard) cores = core < cores
+IsWithin (Step direction core heard) cores = core < cores
+IsWithin (Go direction core heard) cores = core < cores
+IsWithin (GoWith direction core movers heard) cores = core < cores

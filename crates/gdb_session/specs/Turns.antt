@@ -7,6 +7,8 @@ use Rattle.replay_core.specs.Orders.{counts, nought}
 use Rattle.cut_replay.specs.ClosedCuts.{count_in}
 use Rattle.cut_moves.specs.Rounds.{rounds_of}
 use Rattle.debug_place.specs.Places.{Placed}
+use Rattle.gdb_session.specs.declared.direction.Direction.{Direction}
+use Rattle.gdb_session.specs.declared.direction.Direction.TheVariants.{Forward, Back}
 
 abbrev pub timeline_at : Placed → List ℕ
 timeline_at place = rounds_of place.which place.recording
@@ -55,3 +57,13 @@ pub record IsTurnBack (cores : CoreSet) (cut : Cut) (timeline : List ℕ) (core 
 -- they have done nothing
 abbrev pub NoTurnBack : CoreSet → Cut → List ℕ → Type 0
 NoTurnBack cores cut timeline = AreGone cores cut timeline 0
+
+-- ---- in a direction
+
+abbrev pub IsTurnIn : Direction → CoreSet → Cut → List ℕ → (core : ℕ) → Type 0
+IsTurnIn Forward cores cut timeline core = IsTurn cores cut timeline core
+IsTurnIn Back cores cut timeline core = IsTurnBack cores cut timeline core
+
+abbrev pub NoTurnIn : Direction → CoreSet → Cut → List ℕ → Type 0
+NoTurnIn Forward cores cut timeline = NoTurn cores cut timeline
+NoTurnIn Back cores cut timeline = NoTurnBack cores cut timeline

@@ -4,6 +4,7 @@
 
 mod answer;
 mod commanded;
+mod direction;
 mod ends;
 mod hearing;
 mod memory;

@@ -3,30 +3,27 @@ ghost use Rattle.std.specs.Prelude.{◌≡◌, ◌<◌, IfOk};
 ghost use Rattle.rtr_types.specs.declared.TheConstants.{CORES_MAX};
 ghost use Rattle.race_log.specs.Validity.{Valid};
 ghost use Rattle.replay_audit.specs.Audits.{IsInstrOf};
-ghost use Rattle.cut_replay.specs.ClosedCuts.{IsClosed, IsContained};
+ghost use Rattle.cut_replay.specs.ClosedCuts.{IsClosed};
 ghost use Rattle.cut_moves.specs.Steps.{next_in};
 ghost use Rattle.debug_place.specs.Places.{cut_at};
 ghost use Rattle.gdb_monitor.specs.Moves.{IsKept, IsOf};
-ghost use Rattle.gdb_session.specs.Moves.{Goes, GoesBackward, Halts, HaltsBack, Obeys, Steps, StepsBackward};
-ghost use Rattle.gdb_session.specs.Moves.{Walks, WalksBack, fault_stop, plain_stop, teller};
+ghost use Rattle.gdb_session.specs.Directions.{LiesAhead};
+ghost use Rattle.gdb_session.specs.Moves.{Goes, HaltsIn, Obeys, Steps, Walks, fault_stop, plain_stop, teller};
 ghost use Rattle.gdb_session.specs.Orders.{IsWithin};
 ghost use Rattle.gdb_session.specs.Seats.{Sees};
 ghost use Rattle.gdb_session.specs.Stopping.{stopping_of};
 
+use crate::direction::Direction;
 use crate::ends::{end_of, signal_of};
 use crate::hearing::Hearing;
-use crate::orders::{Order, every_core};
+use crate::orders::Order;
 use crate::points::{Point, touched, why_of};
-use cut_moves::{step, step_back, whole};
 use debug_place::Place;
 use gdb_packets::{Signal, Stop, Why};
 use image_mem::Image;
 use replay_audit::Audited;
 use rtr_types::{CORES_MAX, CoreSet, Cut};
 use std::alloc::{AllocError, Global};
-
-/// A place for each core, as the length of an array.
-const PLACES: usize = CORES_MAX as usize;
 
 /// What stopped a move. It is refused for want of memory alone.
 pub(crate) type Moved = Result<Stop, AllocError>;
@@ -66,178 +63,135 @@ pub(crate) fn obey(
             core,
             why: Why::Nothing,
         }),
-        Order::Step(core, heard) => {
-            let hearing = Hearing::new(audited, image, points, heard.without(core), heard);
-            hearing.step_core(alloc, place, core)
+        Order::Step(direction, core, heard) => {
+            let paused = direction.pausing(core, heard);
+            let hearing = Hearing::new(audited, image, points, paused, direction.faulting(heard));
+            hearing.step_core(alloc, place, direction, core)
         }
-        Order::Go(lead, heard) => {
-            let hearing = Hearing::new(audited, image, points, heard, heard);
-            hearing.go(alloc, place, lead)
+        Order::Go(direction, lead, heard) => {
+            let hearing = Hearing::new(audited, image, points, heard, direction.faulting(heard));
+            hearing.go(alloc, place, direction, lead)
         }
-        Order::GoWith(lead, cores, heard) => {
-            let hearing = Hearing::new(audited, image, points, heard, heard);
-            hearing.go_with(alloc, place, cores, lead)
-        }
-        Order::StepBack(core, heard) => {
-            let hearing = Hearing::new(audited, image, points, heard, CoreSet::empty());
-            hearing.step_back_core(alloc, place, core)
-        }
-        Order::GoBack(lead) => {
-            let every = every_core(place.cores());
-            let hearing = Hearing::new(audited, image, points, every, CoreSet::empty());
-            hearing.go_back(alloc, place, lead)
-        }
-        Order::GoBackWith(lead, cores, heard) => {
-            let hearing = Hearing::new(audited, image, points, heard, CoreSet::empty());
-            hearing.go_back_with(alloc, place, cores, lead)
+        Order::GoWith(direction, lead, cores, heard) => {
+            let hearing = Hearing::new(audited, image, points, heard, direction.faulting(heard));
+            match direction {
+                Direction::Forward => hearing.go_with(alloc, place, cores, lead),
+                Direction::Back => hearing.go_back_with(alloc, place, cores, lead),
+            }
         }
     }
 }
 
-// Forwards.
 impl Hearing<'_> {
     /// A step of a core.
-    fn step_core(&self, alloc: Global, place: &mut Place, core: u8) -> Moved
+    fn step_core(&self, alloc: Global, place: &mut Place, direction: Direction, core: u8) -> Moved
         requires run { IsOf self.now.audited.now place.old }
         requires core { core < place.old.recording.params.cores }
         ensures kept { IsKept place.old place.new }
-        ensures steps { IfOk result (Steps (stopping_of self.now) core place.old place.new) }
+        ensures steps { IfOk result (Steps direction (stopping_of self.now) core place.old place.new) }
         ensures core { IfOk result (λ stop. stop.core < place.old.recording.params.cores) }
     {
         // A valid recording has no more cores than there may be.
         let _ = self.audited.recording();
-        if !place.has_next(core) {
-            return Ok(plain_stop(core, Why::End));
+        if !direction.has_more(place, core) {
+            return Ok(plain_stop(core, direction.limit_why()));
         }
-        let to = step(self.audited, &place.cut(), core)?;
-        self.walk(alloc, place, core, &to, plain_stop(core, Why::Nothing))
+        let to = direction.step(self.audited, place, core)?;
+        self.walk(
+            alloc,
+            place,
+            direction,
+            core,
+            &to,
+            plain_stop(core, Why::Nothing),
+        )
     }
 
     /// All cores go on.
-    fn go(&self, alloc: Global, place: &mut Place, lead: u8) -> Moved
+    fn go(&self, alloc: Global, place: &mut Place, direction: Direction, lead: u8) -> Moved
         requires run { IsOf self.now.audited.now place.old }
         requires lead { lead < place.old.recording.params.cores }
         ensures kept { IsKept place.old place.new }
-        ensures goes { IfOk result (Goes (stopping_of self.now) lead place.old place.new) }
+        ensures goes { IfOk result (Goes direction (stopping_of self.now) lead place.old place.new) }
         ensures core { IfOk result (λ stop. stop.core < place.old.recording.params.cores) }
     {
-        // The place is at a closed cut, which the whole one contains.
+        // The place is at a closed cut, which lies between that with none and the whole one.
         let _ = place.cut();
         let _ = self.audited.recording();
-        let to = whole(self.audited);
-        self.walk(alloc, place, lead, &to, plain_stop(lead, Why::End))
+        let to = direction.limit(self.audited);
+        self.walk(
+            alloc,
+            place,
+            direction,
+            lead,
+            &to,
+            plain_stop(lead, direction.limit_why()),
+        )
     }
 
     /// Goes the way to a closed cut until something stops it.
-    fn walk(&self, alloc: Global, place: &mut Place, lead: u8, to: &Cut, done: Stop) -> Moved
+    fn walk(
+        &self,
+        alloc: Global,
+        place: &mut Place,
+        direction: Direction,
+        lead: u8,
+        to: &Cut,
+        done: Stop,
+    ) -> Moved
         requires valid { Valid place.old.recording }
         requires closed { IsClosed place.old.which place.old.recording to.now }
-        requires within { IsContained (cut_at place.old) to.now }
+        requires ahead { LiesAhead direction (cut_at place.old) to.now }
         requires lead { lead < place.old.recording.params.cores }
         requires told { done.core < place.old.recording.params.cores }
         ensures kept { IsKept place.old place.new }
         ensures walks { IfOk result (λ stop.
-            Walks (stopping_of self.now) lead place.old to.now place.new stop done) }
+            Walks direction (stopping_of self.now) lead place.old to.now place.new stop done) }
         ensures core { IfOk result (λ stop. stop.core < place.old.recording.params.cores) }
     {
-        // The place is at a closed cut, so each core of the way is ready where its place comes.
-        let _ = place.cut();
-        match place.go_to(alloc, self, to)? {
+        match self.go_to(alloc, place, direction, to)? {
             None => Ok(done),
-            Some(core) => self.halt(alloc, place, lead, core),
+            Some(core) => self.halt(alloc, place, direction, lead, core),
         }
     }
 
-    /// What stopped it before a core's next instruction. A fault is told behind that.
-    pub fn halt(&self, alloc: Global, place: &mut Place, lead: u8, core: u8) -> Moved
+    /// What stopped it at a core's instruction. Forwards that is before it, and a fault is told behind it; backwards it
+    /// is behind an access, or else before the instruction.
+    pub fn halt(
+        &self,
+        alloc: Global,
+        place: &mut Place,
+        direction: Direction,
+        lead: u8,
+        core: u8,
+    ) -> Moved
         requires valid { Valid place.old.recording }
         requires lead { lead < place.old.recording.params.cores }
         requires next { IsInstrOf place.old.recording (next_in (cut_at place.old) core) }
         ensures kept { IsKept place.old place.new }
-        ensures halts { IfOk result (Halts (stopping_of self.now) lead core place.old place.new) }
+        ensures halts { IfOk result (HaltsIn direction (stopping_of self.now) lead core place.old place.new) }
         ensures core { IfOk result (λ stop. stop.core < place.old.recording.params.cores) }
     {
-        if self.breaks(core, place.core(core).pc()) {
-            return Ok(plain_stop(core, Why::Breakpoint));
+        let watched = touched(self.points, place.next_use(core));
+        match direction {
+            Direction::Forward => {
+                if self.breaks(core, place.core(core).pc()) {
+                    return Ok(plain_stop(core, Why::Breakpoint));
+                }
+                if let Some(point) = watched {
+                    return Ok(plain_stop(teller(self.heard, lead, core), why_of(point)));
+                }
+                place.step(alloc, core)?;
+                Ok(fault_stop(self, core))
+            }
+            Direction::Back => {
+                if let Some(point) = watched {
+                    place.step(alloc, core)?;
+                    return Ok(plain_stop(teller(self.paused, lead, core), why_of(point)));
+                }
+                Ok(plain_stop(core, Why::Breakpoint))
+            }
         }
-        if let Some(point) = touched(self.points, place.next_use(core)) {
-            return Ok(plain_stop(teller(self.heard, lead, core), why_of(point)));
-        }
-        place.step(alloc, core)?;
-        Ok(fault_stop(self, core))
-    }
-}
-
-// Backwards.
-impl Hearing<'_> {
-    /// A step back of a core.
-    fn step_back_core(&self, alloc: Global, place: &mut Place, core: u8) -> Moved
-        requires run { IsOf self.now.audited.now place.old }
-        requires core { core < place.old.recording.params.cores }
-        ensures kept { IsKept place.old place.new }
-        ensures steps { IfOk result (StepsBackward (stopping_of self.now) core place.old place.new) }
-        ensures core { IfOk result (λ stop. stop.core < place.old.recording.params.cores) }
-    {
-        // A valid recording has no more cores than there may be.
-        let _ = self.audited.recording();
-        if !place.has_last(core) {
-            return Ok(plain_stop(core, Why::Begin));
-        }
-        let to = step_back(self.audited, &place.cut(), core)?;
-        self.walk_back(alloc, place, core, &to, plain_stop(core, Why::Nothing))
-    }
-
-    /// All cores go back.
-    fn go_back(&self, alloc: Global, place: &mut Place, lead: u8) -> Moved
-        requires run { IsOf self.now.audited.now place.old }
-        requires lead { lead < place.old.recording.params.cores }
-        ensures kept { IsKept place.old place.new }
-        ensures goes { IfOk result (GoesBackward (stopping_of self.now) lead place.old place.new) }
-        ensures core { IfOk result (λ stop. stop.core < place.old.recording.params.cores) }
-    {
-        // A valid recording has no more cores than there may be.
-        let _ = self.audited.recording();
-        let to = Cut {
-            cores: place.cores(),
-            counts: [0; PLACES],
-        };
-        self.walk_back(alloc, place, lead, &to, plain_stop(lead, Why::Begin))
-    }
-
-    /// Goes the way from a closed cut to here back until something stops it.
-    fn walk_back(&self, alloc: Global, place: &mut Place, lead: u8, to: &Cut, done: Stop) -> Moved
-        requires valid { Valid place.old.recording }
-        requires closed { IsClosed place.old.which place.old.recording to.now }
-        requires within { IsContained to.now (cut_at place.old) }
-        requires lead { lead < place.old.recording.params.cores }
-        requires told { done.core < place.old.recording.params.cores }
-        ensures kept { IsKept place.old place.new }
-        ensures walks { IfOk result (λ stop.
-            WalksBack (stopping_of self.now) lead place.old to.now place.new stop done) }
-        ensures core { IfOk result (λ stop. stop.core < place.old.recording.params.cores) }
-    {
-        // The place is at a closed cut, so each core of the way was ready where its place came.
-        let _ = place.cut();
-        match place.back(alloc, self, to)? {
-            None => Ok(done),
-            Some(core) => self.halt_back(alloc, place, lead, core),
-        }
-    }
-
-    /// What stopped it behind a core's access, or before the core's instruction.
-    pub fn halt_back(&self, alloc: Global, place: &mut Place, lead: u8, core: u8) -> Moved
-        requires valid { Valid place.old.recording }
-        requires lead { lead < place.old.recording.params.cores }
-        requires next { IsInstrOf place.old.recording (next_in (cut_at place.old) core) }
-        ensures kept { IsKept place.old place.new }
-        ensures halts { IfOk result (HaltsBack (stopping_of self.now) lead core place.old place.new) }
-        ensures core { IfOk result (λ stop. stop.core < place.old.recording.params.cores) }
-    {
-        if let Some(point) = touched(self.points, place.next_use(core)) {
-            place.step(alloc, core)?;
-            return Ok(plain_stop(teller(self.paused, lead, core), why_of(point)));
-        }
-        Ok(plain_stop(core, Why::Breakpoint))
     }
 }
 

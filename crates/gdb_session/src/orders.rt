@@ -1,12 +1,13 @@
 //! Which move a packet orders.
 ghost use Rattle.std.specs.Prelude.{◌≡◌, ◌<◌, ◌≤◌, IfSome};
 ghost use Rattle.rtr_types.specs.declared.TheConstants.{CORES_MAX};
-ghost use Rattle.gdb_session.specs.Orders.{IsWithin, acts, all_back, all_go, all_on, are_there, asked_of, every_core};
+ghost use Rattle.gdb_session.specs.Orders.{IsWithin, acts, all_go, all_on, are_there, asked_of, every_core};
 ghost use Rattle.gdb_session.specs.Orders.{go_back_order, heard_of, is_asked, lower_of, lowest_where, mover, movers_of};
 ghost use Rattle.gdb_session.specs.Orders.{named, names, only};
 ghost use Rattle.gdb_session.specs.Orders.{resume_order, some_order, step_back_order, steps};
 ghost use Rattle.gdb_session.specs.Wishes.{Fit};
 
+use crate::direction::Direction;
 use crate::wishes::{Wishes, core_of, is_there};
 use gdb_packets::{Action, Thread};
 use rtr_types::CoreSet;
@@ -17,17 +18,12 @@ pub(crate) enum Order {
     /// None, since it was interrupted; this core is told.
     Rest(u8),
     /// A step of this core; those of the set are heard.
-    Step(u8, CoreSet),
-    /// All cores go on, and are heard; at the end this one is told.
-    Go(u8, CoreSet),
-    /// Only the cores of the first set go on; those of the second are heard, and at the end this core is told.
-    GoWith(u8, CoreSet, CoreSet),
-    /// A step back of this core; those of the set are heard.
-    StepBack(u8, CoreSet),
-    /// All cores go back; at the beginning this one is told.
-    GoBack(u8),
-    /// Only the cores of the first set go back; those of the second are heard, and at the beginning this core is told.
-    GoBackWith(u8, CoreSet, CoreSet),
+    Step(Direction, u8, CoreSet),
+    /// All cores go on, and those of the set are heard; where nothing lies ahead this one is told.
+    Go(Direction, u8, CoreSet),
+    /// Only the cores of the first set go on; those of the second are heard, and where nothing lies ahead this core is
+    /// told.
+    GoWith(Direction, u8, CoreSet, CoreSet),
 }
 
 /// Whether the name means the core.
@@ -165,14 +161,14 @@ fn only(core: u8) -> CoreSet
     CoreSet::empty().with(core)
 }
 
-/// All cores go on: by the one that leads alone, where one does.
-fn all_on(lead: Option<u8>, told: u8, heard: CoreSet) -> Order
+/// All cores go on in the direction: by the one that leads alone, where one does.
+fn all_on(direction: Direction, lead: Option<u8>, told: u8, heard: CoreSet) -> Order
     requires { IfSome lead (λ core. core < CORES_MAX) }
-    ensures { result ≡ all_on lead told heard }
+    ensures { result ≡ all_on direction lead told heard }
 {
     match lead {
-        Some(lead) => Order::GoWith(told, only(lead), heard),
-        None => Order::Go(told, heard),
+        Some(lead) => Order::GoWith(direction, told, only(lead), heard),
+        None => Order::Go(direction, told, heard),
     }
 }
 
@@ -190,7 +186,7 @@ fn some_order(wishes: Wishes, heard: CoreSet, lowest: Option<u8>, cores: u8) -> 
     } else {
         lowest
     };
-    Some(Order::GoWith(told, heard, heard))
+    Some(Order::GoWith(Direction::Forward, told, heard, heard))
 }
 
 /// The move that actions order; none where they name a thread that isn't there, or no core is to move.
@@ -208,8 +204,10 @@ pub(crate) fn resume_order(wishes: Wishes, cores: u8, actions: &[Action]) -> Opt
     }
     let heard = heard_of(actions, cores);
     match lowest_asked(actions, cores, true) {
-        Some(core) => Some(Order::Step(core, heard)),
-        None if all_go(actions, cores) => Some(all_on(wishes.lead, wishes.looked, heard)),
+        Some(core) => Some(Order::Step(Direction::Forward, core, heard)),
+        None if all_go(actions, cores) => {
+            Some(all_on(Direction::Forward, wishes.lead, wishes.looked, heard))
+        }
         None => some_order(wishes, heard, lowest_asked(actions, cores, false), cores),
     }
 }
@@ -244,21 +242,7 @@ pub(crate) fn step_back_order(wishes: Wishes, cores: u8) -> Order
     if wishes.interrupted {
         Order::Rest(core)
     } else {
-        Order::StepBack(core, movers_of(wishes.moving, cores))
-    }
-}
-
-/// All cores go back: by the one that leads alone, where one does.
-fn all_back(lead: Option<u8>, told: u8, cores: u8) -> Order
-    requires few { cores ≤ CORES_MAX }
-    requires lead { IfSome lead (λ core. core < cores) }
-    requires told { told < cores }
-    ensures order { result ≡ all_back lead told cores }
-    ensures within { IsWithin result cores }
-{
-    match lead {
-        Some(lead) => Order::GoBackWith(told, only(lead), every_core(cores)),
-        None => Order::GoBack(told),
+        Order::Step(Direction::Back, core, movers_of(wishes.moving, cores))
     }
 }
 
@@ -273,7 +257,12 @@ pub(crate) fn go_back_order(wishes: Wishes, cores: u8) -> Order
         return Order::Rest(mover(wishes));
     }
     match wishes.moving {
-        Some(core) => Order::GoBackWith(core, only(core), only(core)),
-        None => all_back(wishes.lead, wishes.looked, cores),
+        Some(core) => Order::GoWith(Direction::Back, core, only(core), only(core)),
+        None => all_on(
+            Direction::Back,
+            wishes.lead,
+            wishes.looked,
+            every_core(cores),
+        ),
     }
 }

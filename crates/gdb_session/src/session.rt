@@ -107,15 +107,7 @@ impl Partner for Session<'_> {
         ensures which { self.new.place.which ≡ self.old.place.which }
     {
         let ask = ask_of(alloc, packet)?;
-        let payloads = answered(
-            alloc,
-            self.audited,
-            &self.image,
-            &mut self.place,
-            &mut self.wishes,
-            &mut self.points,
-            &ask,
-        )?;
+        let payloads = self.answered(alloc, &ask)?;
         Ok(Answer {
             payloads,
             next: next_after(&ask),
@@ -141,91 +133,88 @@ fn next_after(ask: &Ask) -> Next
     }
 }
 
-/// The payloads that a packet is answered.
-fn answered(
-    alloc: Global,
-    audited: &Audited,
-    image: &Image,
-    place: &mut Place,
-    wishes: &mut Wishes,
-    points: &mut Items<Point>,
-    ask: &Ask,
-) -> Result<Items<Items<u8>>, AllocError>
-    requires { Sits audited.now image.now (seat_of place.old wishes.old points.old) }
-    ensures sits { Sits audited.now image.now (seat_of place.new wishes.new points.new) }
-    ensures kept { IsKept place.old place.new }
-    ensures answers { IfOk result (AnswersWith ask.now (seat_of place.old wishes.old points.old)
-        (seat_of place.new wishes.new points.new)) }
-{
-    match ask {
-        Ask::Resume(actions) => {
-            // A valid recording has no more cores than there may be.
-            let _ = audited.recording();
-            let order = resume_order(*wishes, place.cores(), actions.as_slice());
-            moved(
+impl Session<'_> {
+    /// The payloads that a packet is answered.
+    fn answered(&mut self, alloc: Global, ask: &Ask) -> Result<Items<Items<u8>>, AllocError>
+        ensures kept { IsKept self.old.place self.new.place }
+        ensures answers { IfOk result (AnswersWith ask.now self.old self.new) }
+    {
+        match ask {
+            Ask::Resume(actions) => {
+                // A valid recording has no more cores than there may be.
+                let _ = self.audited.recording();
+                let order = resume_order(self.wishes, self.place.cores(), actions.as_slice());
+                self.moved(alloc, order)
+            }
+            Ask::Plain(plain) => self.answered_plain(alloc, *plain),
+            Ask::Command(text) => commanded(
                 alloc,
-                audited,
-                image,
-                place,
-                wishes,
-                points.as_slice(),
-                order,
-            )
+                self.audited,
+                &mut self.place,
+                &mut self.wishes,
+                text.as_slice(),
+            ),
         }
-        Ask::Plain(plain) => answered_plain(alloc, audited, image, place, wishes, points, *plain),
-        Ask::Command(text) => commanded(alloc, audited, place, wishes, text.as_slice()),
     }
-}
 
-/// The payloads that a packet without a list is answered.
-fn answered_plain(
-    alloc: Global,
-    audited: &Audited,
-    image: &Image,
-    place: &mut Place,
-    wishes: &mut Wishes,
-    points: &mut Items<Point>,
-    plain: Plain,
-) -> Result<Items<Items<u8>>, AllocError>
-    requires { Sits audited.now image.now (seat_of place.old wishes.old points.old) }
-    ensures sits { Sits audited.now image.now (seat_of place.new wishes.new points.new) }
-    ensures kept { IsKept place.old place.new }
-    ensures answers { IfOk result (AnswersPlain plain (seat_of place.old wishes.old points.old)
-        (seat_of place.new wishes.new points.new)) }
-{
-    match plain {
-        Plain::StepBack => {
-            // A valid recording has no more cores than there may be.
-            let _ = audited.recording();
-            let order = step_back_order(*wishes, place.cores());
-            moved(
+    /// The payloads that a packet without a list is answered.
+    fn answered_plain(
+        &mut self,
+        alloc: Global,
+        plain: Plain,
+    ) -> Result<Items<Items<u8>>, AllocError>
+        ensures kept { IsKept self.old.place self.new.place }
+        ensures answers { IfOk result (AnswersPlain plain self.old self.new) }
+    {
+        // A valid recording has no more cores than there may be.
+        let _ = self.audited.recording();
+        match plain {
+            Plain::StepBack => {
+                let order = step_back_order(self.wishes, self.place.cores());
+                self.moved(alloc, Some(order))
+            }
+            Plain::GoBack => {
+                let order = go_back_order(self.wishes, self.place.cores());
+                self.moved(alloc, Some(order))
+            }
+            Plain::SetPoint(kind, span) => set_one(alloc, &mut self.points, point_of(kind, span)),
+            Plain::ClearPoint(kind, span) => clear_one(
                 alloc,
-                audited,
-                image,
-                place,
-                wishes,
-                points.as_slice(),
-                Some(order),
-            )
-        }
-        Plain::GoBack => {
-            // A valid recording has no more cores than there may be.
-            let _ = audited.recording();
-            let order = go_back_order(*wishes, place.cores());
-            moved(
+                &mut self.points,
+                point_of(kind, span),
+            ),
+            Plain::Quit => Ok(silent(alloc)),
+            _ => answered_still(
                 alloc,
-                audited,
-                image,
-                place,
-                wishes,
-                points.as_slice(),
-                Some(order),
-            )
+                self.audited,
+                &self.image,
+                &self.place,
+                &mut self.wishes,
+                plain,
+            ),
         }
-        Plain::SetPoint(kind, span) => set_one(alloc, points, point_of(kind, span)),
-        Plain::ClearPoint(kind, span) => clear_one(alloc, points, point_of(kind, span)),
-        Plain::Quit => Ok(silent(alloc)),
-        _ => answered_still(alloc, audited, image, place, wishes, plain),
+    }
+
+    /// Obeys an order, if there is one, and tells the stop.
+    fn moved(&mut self, alloc: Global, order: Option<Order>) -> Result<Items<Items<u8>>, AllocError>
+        requires { IfSome order (λ order. IsWithin order self.old.place.recording.params.cores) }
+        ensures kept { IsKept self.old.place self.new.place }
+        ensures moves { IfOk result (MovesBy order self.old self.new) }
+    {
+        let Some(order) = order else {
+            return one(alloc, &Reply::Refused);
+        };
+        let stop = obey(
+            alloc,
+            self.audited,
+            &self.image,
+            &mut self.place,
+            self.points.as_slice(),
+            order,
+        )?;
+        let payloads = one(alloc, &Reply::Stopped(stop))?;
+        self.wishes = told_wishes(self.wishes, stop.core, self.place.cores());
+        Ok(payloads)
     }
 }
 
@@ -274,32 +263,4 @@ fn answered_still(
     let payloads = one(alloc, &reply)?;
     *wishes = wishes_after(*wishes, plain, place.cores());
     Ok(payloads)
-}
-
-/// Obeys an order, if there is one, and tells the stop.
-fn moved(
-    alloc: Global,
-    audited: &Audited,
-    image: &Image,
-    place: &mut Place,
-    wishes: &mut Wishes,
-    points: &[Point],
-    order: Option<Order>,
-) -> Result<Items<Items<u8>>, AllocError>
-    requires sits { Sits audited.now image.now (seat_of place.old wishes.old points.now) }
-    requires within { IfSome order (λ order. IsWithin order place.old.recording.params.cores) }
-    ensures sits { Sits audited.now image.now (seat_of place.new wishes.new points.now) }
-    ensures kept { IsKept place.old place.new }
-    ensures moves { IfOk result (MovesBy order (seat_of place.old wishes.old points.now)
-        (seat_of place.new wishes.new points.now)) }
-{
-    match order {
-        None => one(alloc, &Reply::Refused),
-        Some(order) => {
-            let stop = obey(alloc, audited, image, place, points, order)?;
-            let payloads = one(alloc, &Reply::Stopped(stop))?;
-            *wishes = told_wishes(*wishes, stop.core, place.cores());
-            Ok(payloads)
-        }
-    }
 }

@@ -1,7 +1,7 @@
 -- Turn by turn: the place that comes next on the way back is found by the counts that are left, and each turn takes
 -- back one of them.
 use Rattle.std.proofs.Common.{◌≡◌, ◌∙◌, ◌<◌, ◌+◌, ◌-◌, List, ℕ, length, get_or, refl, sym, subst, arith}
-use Rattle.std.specs.Prelude.{Option, Some, MatchOption, slice_index, slice_set}
+use Rattle.std.specs.Prelude.{Option, MatchOption, slice_index, slice_set}
 use Rattle.std.proofs.lemmas.Bool.{leb-false, leb-true}
 use Rattle.gdb_packets.specs.declared.replies.Stop as stops
 use Rattle.rtr_types.specs.declared.pairs.Which.{Which}
@@ -9,11 +9,13 @@ use Rattle.race_log.specs.declared.recording.Recording.{Recording}
 use Rattle.race_log.specs.Validity.{Valid}
 use Rattle.replay_audit.specs.Determinate.{IsDeterminate}
 use Rattle.debug_place.specs.Places.{Placed}
-use Rattle.gdb_session.specs.Moves.{StepsBackFree, StepsBackInto}
+use Rattle.gdb_session.specs.declared.direction.Direction.TheVariants.{Back}
+use Rattle.gdb_session.specs.Moves.{StepsFree, StepsInto}
 use Rattle.gdb_session.specs.Stopping.{stopping_of}
 use Rattle.gdb_session.proofs.EndLemmas.{whole_at}
 use Rattle.gdb_session.proofs.BackLemmas.{IsTurningBack, back_count, back_few, back_inside, back_last, back_passed}
 use Rattle.gdb_session.proofs.BackLemmas.{back_taken, back_there, turning_last}
+use Rattle.gdb_session.proofs.AheadLemmas.{stopped_turn}
 use Rattle.gdb_session.proofs.TurnLemmas.{line_inside}
 use Rattle.gdb_session.proofs.hearing.Hearing.go_back_with.Goals as goal
 use Rattle.gdb_session.proofs.hearing.Hearing.go_back_with.Goals.{After-timeline, else-has, else-has-via-else-has}
@@ -69,9 +71,9 @@ lacks-requires-clause-core c =
     (sym c.loop-number.invariant.kept.recording)
     (back_inside _ _ _ _ _ _ c.loop-number.invariant (valid here) _ c.timeline.ensures _ (number_is here) (inside here))
 
-pub step_back_until-requires-clause-last : goal.step_back_until-requires-clause-last
-step_back_until-requires-clause-last c =
-    let here = (goal.at.step_back_until-requires-clause-last c).After-timeline in
+pub step_until-requires-clause-ahead : goal.step_until-requires-clause-ahead
+step_until-requires-clause-ahead c =
+    let here = (goal.at.step_until-requires-clause-ahead c).After-timeline in
     back_last _ _ _ _ _ _ c.loop-number.invariant (valid here) _ c.timeline.ensures _ (number_is here) (inside here)
     (sym c.has.ensures ∙ c.if-has.true) (leb-false _ _ (sym c.lacks.ensures ∙ c.if-not-lacks.true))
 
@@ -79,23 +81,15 @@ pub returns-in-Some-clause-goes : goal.returns-in-Some-clause-goes
 returns-in-Some-clause-goes c =
     let here = (goal.at.returns-in-Some-clause-goes c).After-timeline in
     let h = c.loop-number.invariant in
+    let now = c.loop-number.place in
     let core = get_or c.timeline.result.now (c.loop-number.number - 1) 0 in
     let stopping = stopping_of c.args.self.now in
-    record {
-      turns = h.turns;
-      mid = c.loop-number.place;
-      free = h.free;
-      next = Some core;
-      ends = record {
-        turn = back_there _ _ _ _ _ _ c.loop-number.invariant (valid here) _ c.timeline.ensures _ (number_is here)
-            (inside here)
-            (sym c.has.ensures ∙ c.if-has.true) (leb-false _ _ (sym c.lacks.ensures ∙ c.if-not-lacks.true));
-        steps = subst (λ (s : Option stops.Stop). MatchOption s
-            (StepsBackFree stopping core c.loop-number.place c.step_back_until.new.place)
-            (StepsBackInto stopping core c.loop-number.place c.step_back_until.new.place)) c.in-Some.is
-            c.in_ok-stop.ensures.steps;
-      };
-    }
+    stopped_turn Back stopping _ _ h.turns core _ now _ _ h.free
+    (back_there _ _ _ _ _ _ h (valid here) _ c.timeline.ensures _ (number_is here)
+    (inside here)
+    (sym c.has.ensures ∙ c.if-has.true) (leb-false _ _ (sym c.lacks.ensures ∙ c.if-not-lacks.true)))
+    (subst (λ (s : Option stops.Stop). MatchOption s (StepsFree Back stopping core now c.step_until.new.place)
+    (StepsInto Back stopping core now c.step_until.new.place)) c.in-Some.is c.in_ok-stop.ensures.steps)
 
 pub bounds-at-core-in-loop-number : goal.bounds-at-core-in-loop-number
 bounds-at-core-in-loop-number c =
@@ -116,11 +110,11 @@ loop-number-preserved c =
           (sym w.place-is)
           (back_taken _ _ _ _ _ _ c.loop-number.invariant (valid here) _ c.timeline.ensures _ (number_is here)
           (inside here) new refl
-          w.step_back_until.new.place
+          w.step_until.new.place
           (sym c.has.ensures ∙ w.if-has.true) (leb-false _ _ (sym w.lacks.ensures ∙ w.if-not-lacks.true))
           (subst (λ (s : Option stops.Stop). MatchOption s
-          (StepsBackFree stopping core now w.step_back_until.new.place)
-          (StepsBackInto stopping core now w.step_back_until.new.place)) w.in_default.is w.in_ok-stop.ensures.steps))
+          (StepsFree Back stopping core now w.step_until.new.place)
+          (StepsInto Back stopping core now w.step_until.new.place)) w.in_default.is w.in_ok-stop.ensures.steps))
       | else-has w ↦
           subst (λ (p : Placed). IsTurningBack stopping c.args.cores c.args.place.now new (c.loop-number.number - 1) p)
           (sym w.place-is)

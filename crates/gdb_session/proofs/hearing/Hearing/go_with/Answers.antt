@@ -1,13 +1,15 @@
 -- Turn by turn: the place that comes next is found by the counts reached so far, and each turn adds one to them.
 use Rattle.std.proofs.Common.{◌∙◌, ◌<◌, ◌+◌, List, ℕ, length, get_or, refl, sym, subst, arith}
-use Rattle.std.specs.Prelude.{Option, Some, MatchOption, slice_index, slice_set}
+use Rattle.std.specs.Prelude.{Option, MatchOption, slice_index, slice_set}
 use Rattle.std.proofs.lemmas.Bool.{leb-false, leb-true}
 use Rattle.gdb_packets.specs.declared.replies.Stop as stops
 use Rattle.race_log.specs.declared.recording.Recording.{Recording}
 use Rattle.race_log.specs.Validity.{Valid}
 use Rattle.debug_place.specs.Places.{Placed}
+use Rattle.gdb_session.specs.declared.direction.Direction.TheVariants.{Forward}
 use Rattle.gdb_session.specs.Moves.{StepsFree, StepsInto}
 use Rattle.gdb_session.specs.Stopping.{stopping_of}
+use Rattle.gdb_session.proofs.AheadLemmas.{stopped_turn}
 use Rattle.gdb_session.proofs.TurnLemmas.{IsTurning, line_inside, turn_few, turn_inside, turn_next, turn_passed}
 use Rattle.gdb_session.proofs.TurnLemmas.{turn_room, turn_taken, turn_there}
 use Rattle.gdb_session.proofs.hearing.Hearing.go_with.Goals as goal
@@ -44,9 +46,9 @@ lacks-requires-clause-core c =
     (sym c.loop-number.invariant.kept.recording)
     (turn_inside _ _ _ _ _ _ c.loop-number.invariant (valid here) _ c.timeline.ensures (inside here))
 
-pub step_until-requires-clause-next : goal.step_until-requires-clause-next
-step_until-requires-clause-next c =
-    let here = (goal.at.step_until-requires-clause-next c).After-timeline in
+pub step_until-requires-clause-ahead : goal.step_until-requires-clause-ahead
+step_until-requires-clause-ahead c =
+    let here = (goal.at.step_until-requires-clause-ahead c).After-timeline in
     turn_next _ _ _ _ _ _ c.loop-number.invariant (valid here) _ c.timeline.ensures (inside here)
     (leb-true _ _ (sym c.lacks.ensures ∙ c.if-lacks.true))
 
@@ -65,22 +67,14 @@ pub returns-in-Some-clause-goes : goal.returns-in-Some-clause-goes
 returns-in-Some-clause-goes c =
     let here = (goal.at.returns-in-Some-clause-goes c).After-timeline in
     let h = c.loop-number.invariant in
+    let now = c.loop-number.place in
     let core = get_or c.timeline.result.now c.loop-number.number 0 in
     let stopping = stopping_of c.args.self.now in
-    record {
-      turns = h.turns;
-      mid = c.loop-number.place;
-      free = h.free;
-      next = Some core;
-      ends = record {
-        turn = turn_there _ _ _ _ _ _ c.loop-number.invariant (valid here) _ c.timeline.ensures (inside here)
-            (sym c.has.ensures ∙ c.if-has.true) (leb-true _ _ (sym c.lacks.ensures ∙ c.if-lacks.true));
-        steps = subst (λ (s : Option stops.Stop). MatchOption s
-            (StepsFree stopping core c.loop-number.place c.step_until.new.place)
-            (StepsInto stopping core c.loop-number.place c.step_until.new.place)) c.in-Some.is
-            c.in_ok-stop.ensures.steps;
-      };
-    }
+    stopped_turn Forward stopping _ _ h.turns core _ now _ _ h.free
+    (turn_there _ _ _ _ _ _ h (valid here) _ c.timeline.ensures (inside here)
+    (sym c.has.ensures ∙ c.if-has.true) (leb-true _ _ (sym c.lacks.ensures ∙ c.if-lacks.true)))
+    (subst (λ (s : Option stops.Stop). MatchOption s (StepsFree Forward stopping core now c.step_until.new.place)
+    (StepsInto Forward stopping core now c.step_until.new.place)) c.in-Some.is c.in_ok-stop.ensures.steps)
 
 pub loop-number-preserved : goal.loop-number-preserved
 loop-number-preserved c =
@@ -97,8 +91,8 @@ loop-number-preserved c =
           (turn_taken _ _ _ _ _ _ c.loop-number.invariant (valid here) _ c.timeline.ensures
           (inside here) new refl w.step_until.new.place
           (sym c.has.ensures ∙ w.if-has.true) (leb-true _ _ (sym w.lacks.ensures ∙ w.if-lacks.true))
-          (subst (λ (s : Option stops.Stop). MatchOption s (StepsFree stopping core now w.step_until.new.place)
-          (StepsInto stopping core now w.step_until.new.place)) w.in_default.is w.in_ok-stop.ensures.steps))
+          (subst (λ (s : Option stops.Stop). MatchOption s (StepsFree Forward stopping core now w.step_until.new.place)
+          (StepsInto Forward stopping core now w.step_until.new.place)) w.in_default.is w.in_ok-stop.ensures.steps))
       | else-has w ↦
           subst (λ (p : Placed). IsTurning stopping c.args.cores c.args.place.now new (c.loop-number.number + 1) p)
           (sym w.place-is)
