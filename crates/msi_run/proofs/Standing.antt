@@ -24,7 +24,7 @@ use Rattle.machine_plain.specs.Plain.{plain}
 use Rattle.run_outcome.proofs.Turns.{numbered}
 use Rattle.run_outcome.specs.Loads.{lists_told}
 use Rattle.run_outcome.specs.Outcomes.{StandsAt}
-use Rattle.msi_run.specs.Clerks.{Accepts, ToldLocal, ToldTouch}
+use Rattle.run_steps.specs.Clerks.{Accepts, ToldLocal, ToldTouch}
 
 -- the lists after what the clerk was told of
 pub told_lists : (e : Event) (carry : NoCarry) (before after : LoadRooms) (r q : NoRider) →

@@ -3,9 +3,7 @@
 #![tactic(auto)]
 
 mod ends;
-mod load_clerk;
 mod run;
 
 pub use ends::{cores_of, words_of};
-pub use load_clerk::note_read;
 pub use run::{Ran, run_image};

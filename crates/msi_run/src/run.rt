@@ -8,12 +8,11 @@ ghost use Rattle.run_outcome.specs.Outcomes.{StandsAt, outcome_of};
 ghost use Rattle.msi_run.specs.Clerks.{no_riding};
 
 use crate::ends::{cores_of, words_of};
-use crate::load_clerk::LoadClerk;
 use access_times::{NoCarry, NoRider};
 use image_mem::Image;
 use msi_machine::Machine;
 use rtr_types::Params;
-use run_steps::{Stepping, run_to_end};
+use run_steps::{LoadClerk, Stepping, run_to_end};
 use rv_core::Outcome;
 use schedule_pick::Schedule;
 use std::alloc::{AllocError, Global};

@@ -1,5 +1,5 @@
 -- What is exact along every run.
-use Rattle.std.specs.Prelude.{◌≡◌, ℕ, suc, ◌<◌, ◌≤◌}
+use Rattle.std.specs.Prelude.{◌≡◌, ℕ, suc, ◌<◌}
 use Rattle.image_mem.specs.Contents.{Contents}
 use Rattle.rtr_types.specs.Parameters.{Fits}
 use Rattle.rtr_types.specs.declared.access.Access.{Access}
@@ -13,7 +13,7 @@ use Rattle.msi_state.specs.Runs.{accesses, event_at}
 use Rattle.online_reduce.specs.Exact.{AreExactFor, last_of}
 use Rattle.online_reduce.specs.Reduced.{Reduced, clock_of, count_of}
 use Rattle.run_outcome.specs.Retirement.{RetiresAt, retired_count}
-use Rattle.run_records.specs.StandingAt.{reduction_at, times_found}
+use Rattle.run_records.specs.StandingAt.{UntilEnd, reduction_at, times_found}
 
 -- what the reduction r has after t choices: of each core the count of its retired instructions, and the exact clock of
 -- the last one
@@ -25,9 +25,7 @@ pub record ExactClocks (image : Contents) (params : Params) (schedule : Choices)
 
 abbrev pub ExactClocksLaw : Type 0
 ExactClocksLaw =
-    (image : Contents) (params : Params) (schedule : Choices) (t : ℕ) → Fits params
-    → t ≤ end_of image params (choice_at schedule)
-    → ExactClocks image params schedule t (reduction_at image params schedule t)
+    UntilEnd (λ image params schedule t. ExactClocks image params schedule t (reduction_at image params schedule t))
 
 -- The clock that is noted when an instruction retires, with an access or without one, is exact.
 abbrev pub RetiredClockLaw : Type 0

@@ -7,16 +7,15 @@ use Rattle.rtr_types.specs.declared.instr.Edge.{Edge}
 use Rattle.rtr_types.specs.declared.instr.Instr.{Instr}
 use Rattle.rtr_types.specs.declared.pairs.Which.TheVariants.{Reduced}
 use Rattle.rtr_types.specs.declared.params.Params.{Params}
-use Rattle.schedule_pick.specs.Choices.{Choices, choice_at}
+use Rattle.schedule_pick.specs.Choices.{Choices}
 use Rattle.clock_core.specs.Order.{Among, Before}
 use Rattle.conflict_edge.specs.Least.{IsLeast, Others}
 use Rattle.edge_regulate.specs.Regulated.{IsRegulation, Knowledge, regulated}
 use Rattle.race_log.specs.Sources.{log_edges}
-use Rattle.machine_bound.specs.Ends.{end_of}
 use Rattle.run_records.specs.Recordings.{IsRecorded, run_accesses, recording_of}
 use Rattle.run_records.specs.Standing.{NotesAt}
 use Rattle.run_records.specs.WhatIsKnown.{CountsKnown}
-use Rattle.run_records.specs.StandingAt.{Standing, regulation_of, standing_at}
+use Rattle.run_records.specs.StandingAt.{Standing, UntilEnd, regulation_of, standing_at}
 
 -- Until its end a run is recorded: the machine, the reduction, what is noted and the choices that are left stand t
 -- choices into it, and the vectors of the reduction's edges are those by what is noted, whatever is noted later.
@@ -26,9 +25,7 @@ pub record IsStanding (image : Contents) (params : Params) (schedule : Choices) 
 
 abbrev pub RecordsLaw : Type 0
 RecordsLaw =
-    (image : Contents) (params : Params) (schedule : Choices) (t : ℕ) → Fits params
-    → t ≤ end_of image params (choice_at schedule)
-    → IsStanding image params schedule t (standing_at image params schedule t)
+    UntilEnd (λ image params schedule t. IsStanding image params schedule t (standing_at image params schedule t))
 
 abbrev pub RecordedLaw : Type 0
 RecordedLaw =

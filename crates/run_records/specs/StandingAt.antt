@@ -1,9 +1,10 @@
 -- The machine whose riders record times, with the reduction that the recorder's clerk makes and what is noted, along a
 -- run. The reduction chooses the clocks that are noted.
-use Rattle.std.specs.Prelude.{ℕ, zero, suc, [], Option, Some, None}
+use Rattle.std.specs.Prelude.{ℕ, zero, suc, ◌≤◌, [], Option, Some, None}
 use Rattle.access_times.specs.Times.{fresh_times, times_noted, times_riding}
 use Rattle.access_times.specs.declared.times.Times.{Times}
 use Rattle.image_mem.specs.Contents.{Contents}
+use Rattle.rtr_types.specs.Parameters.{Fits}
 use Rattle.rtr_types.specs.declared.params.Params.{Params}
 use Rattle.schedule_pick.specs.Choices.{Choices, choice_at, choices_after}
 use Rattle.know_history.specs.Knowledge.{known_carrying}
@@ -11,6 +12,7 @@ use Rattle.know_history.specs.Notes.{Notes, known_at, no_notes}
 use Rattle.know_history.specs.declared.known.Known.{Known}
 use Rattle.edge_regulate.specs.Regulated.{Regulation, regulated}
 use Rattle.msi_state.specs.Events.{Event, Nothing, Retires, Accesses}
+use Rattle.machine_bound.specs.Ends.{end_of}
 use Rattle.machine_plain.specs.Plain.{plain}
 use Rattle.msi_state.specs.Runs.{chosen}
 use Rattle.msi_state.specs.States.{State, state_start}
@@ -85,3 +87,9 @@ times_found image params schedule t =
 -- the reduction after t choices
 abbrev pub reduction_at : Contents → Params → Choices → (t : ℕ) → Reduced
 reduction_at image params schedule t = (standing_at image params schedule t).reduction
+
+-- what holds of every run after each number of choices up to its end
+abbrev pub UntilEnd : (Contents → Params → Choices → ℕ → Type 0) → Type 0
+UntilEnd Holds =
+    (image : Contents) (params : Params) (schedule : Choices) (t : ℕ) → Fits params
+    → t ≤ end_of image params (choice_at schedule) → Holds image params schedule t

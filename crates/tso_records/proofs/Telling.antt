@@ -96,6 +96,34 @@ record Locals (list : List Retirement) (all : List Access) (r : Reduced) (edges 
   cores : (reduced_told r found more).cores ≡ r.cores
   counts : (c : ℕ) → count_of (reduced_told r found more) c ≡ count_of r c + length (told_of c more)
 
+-- of one before others the reduction takes its count alone
+record JustCounts (r : Reduced) (found : Times) (e : Told) (more : List Told) : Type 0 where
+  next : IsNext r (instr_told e) → AreNextOf (counted r (instr_told e)) found more → AreNextOf r found (e ∷ more)
+  edges : edges_told r found (e ∷ more) ≡ edges_told (counted r (instr_told e)) found more
+  reduced : reduced_told r found (e ∷ more) ≡ reduced_told (counted r (instr_told e)) found more
+
+-- so it may stand before others that touch no data
+local_first : (list : List Retirement) (all : List Access) (r : Reduced) (edges : List Edge) (found : Times) (e : Told)
+    (more : List Told) → JustCounts r found e more → AreInside r.cores (e ∷ more) → Awaits r (e ∷ more) →
+    ReducesExactly list all r edges →
+    (AreInside (counted r (instr_told e)).cores more → Awaits (counted r (instr_told e)) more →
+    ReducesExactly list all (counted r (instr_told e)) edges →
+    Locals list all (counted r (instr_told e)) edges found more) → Locals list all r edges found (e ∷ more)
+local_first list all r edges found e more just inside awaits h later =
+    let at = instr_told e in
+    let next = next_is r e more inside awaits in
+    let counted_is = local_counted all r at h.reduction.exact next in
+    let rest = later (inside_next r (counted r at) e more counted_is inside)
+    (awaits_next r (counted r at) e more counted_is inside awaits) (local_reduces list all r edges at next h) in
+    record {
+      next = just.next next rest.next;
+      none = just.edges ∙ rest.none;
+      reduces = subst (λ (q : Reduced). ReducesExactly list all q edges) (sym just.reduced) rest.reduces;
+      cores = ap (λ (q : Reduced). q.cores) just.reduced ∙ rest.cores ∙ counted_is.cores;
+      counts = λ c. ap (λ (q : Reduced). count_of q c) just.reduced ∙ rest.counts c
+          ∙ counts_next r (counted r at) e more counted_is next c;
+    }
+
 locals_told : (list : List Retirement) (all : List Access) (r : Reduced) (edges : List Edge) (found : Times)
     (more : List Told) → ordered_told more ≡ [] →
     AreInside r.cores more → Awaits r more → ReducesExactly list all r edges → Locals list all r edges found more
@@ -109,37 +137,16 @@ locals_told list all r edges found [] local inside awaits h =
           omega arith in same;
     }
 locals_told list all r edges found (Alone at ∷ more) local inside awaits h =
-    let next = next_is r (Alone at) more inside awaits in
-    let counted_is = local_counted all r at h.reduction.exact next in
-    let rest = locals_told list all (counted r at) edges found more local
-    (inside_next r (counted r at) (Alone at) more counted_is inside)
-    (awaits_next r (counted r at) (Alone at) more counted_is inside awaits)
-    (local_reduces list all r edges at next h) in
-    record {
-      next = (next, rest.next);
-      none = rest.none;
-      reduces = rest.reduces;
-      cores = rest.cores ∙ counted_is.cores;
-      counts = λ c. rest.counts c ∙ counts_next r (counted r at) (Alone at) more counted_is next c;
-    }
+    local_first list all r edges found (Alone at) more (record { next = λ i n. (i, n); edges = refl; reduced = refl })
+    inside awaits h (λ i w k. locals_told list all (counted r at) edges found more local i w k)
 locals_told list all r edges found (Ordered a ∷ more) local inside awaits h = absurd (some a (ordered_told more) local)
   where
     some : (x : Access) (xs : List Access) → x ∷ xs ≡ [] → ⊥
     some x xs e = absurd cc
 locals_told list all r edges found (Logged at word value ∷ more) local inside awaits h =
-    let next = next_is r (Logged at word value) more inside awaits in
-    let counted_is = local_counted all r at h.reduction.exact next in
-    let rest = locals_told list all (counted r at) edges found more local
-    (inside_next r (counted r at) (Logged at word value) more counted_is inside)
-    (awaits_next r (counted r at) (Logged at word value) more counted_is inside awaits)
-    (local_reduces list all r edges at next h) in
-    record {
-      next = (next, rest.next);
-      none = rest.none;
-      reduces = rest.reduces;
-      cores = rest.cores ∙ counted_is.cores;
-      counts = λ c. rest.counts c ∙ counts_next r (counted r at) (Logged at word value) more counted_is next c;
-    }
+    local_first list all r edges found (Logged at word value) more
+    (record { next = λ i n. (i, n); edges = refl; reduced = refl }) inside awaits h
+    (λ i w k. locals_told list all (counted r at) edges found more local i w k)
 
 -- ---- one step
 

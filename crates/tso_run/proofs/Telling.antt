@@ -23,7 +23,7 @@ use Rattle.tso_state.specs.Runs.{chosen, plain_told}
 use Rattle.tso_state.specs.States.{PlainState, State, core_at}
 use Rattle.tso_state.specs.Steps.{event, told}
 use Rattle.tso_told.specs.Played.{AreInside}
-use Rattle.tso_run.specs.Clerks.{Accepts, ToldLocal, ToldLogged, ToldTouch}
+use Rattle.run_steps.specs.Clerks.{Accepts, ToldLocal, ToldLogged, ToldTouch}
 
 -- what the clerk's calls do
 abbrev pub local : (K : Type 0) → LoadRooms → Instr → K → LoadRooms → Type 0

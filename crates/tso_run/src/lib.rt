@@ -3,7 +3,6 @@
 #![tactic(auto)]
 
 mod ends;
-mod load_clerk;
 mod run;
 
 pub use ends::{cores_of, words_of};

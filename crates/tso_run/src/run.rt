@@ -7,11 +7,10 @@ ghost use Rattle.tso_plain.specs.Plain.{plain};
 ghost use Rattle.tso_state.specs.States.{all_done};
 
 use crate::ends::{cores_of, words_of};
-use crate::load_clerk::LoadClerk;
 use access_times::{NoCarry, NoRider};
 use image_mem::Image;
 use rtr_types::Params;
-use run_steps::{Stepping, run_to_end};
+use run_steps::{LoadClerk, Stepping, run_to_end};
 use rv_core::Outcome;
 use schedule_pick::Schedule;
 use std::alloc::{AllocError, Global};

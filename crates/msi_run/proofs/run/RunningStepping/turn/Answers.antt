@@ -14,7 +14,8 @@ use Rattle.rtr_types.specs.declared.instr.Instr.{Instr}
 use Rattle.run_outcome.proofs.Turns.{Steps, stands_next}
 use Rattle.run_outcome.specs.Loads.{lists_told}
 use Rattle.msi_run.proofs.Standing.{accepts_next, told_lists}
-use Rattle.msi_run.specs.Clerks.{Accepts, no_riding}
+use Rattle.run_steps.specs.Clerks.{Accepts}
+use Rattle.msi_run.specs.Clerks.{no_riding}
 use Rattle.msi_run.proofs.run.RunningStepping.turn.Goals as goal
 
 pub step-requires-clause-accepts : goal.step-requires-clause-accepts

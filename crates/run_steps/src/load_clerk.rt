@@ -1,7 +1,6 @@
-//! A clerk that keeps what each core's loads got.
+//! A clerk that keeps what each core's loads got, for a run that keeps no log, whichever the machine is.
 ghost use Rattle.std.specs.Prelude.{◌≡◌, ◌<◌, [], IfOk, IsTrue, OnOk, length, replicate};
-ghost use Rattle.tso_outcome.specs.Loads.{loads_after};
-ghost use Rattle.tso_state.specs.Events.{Ordered};
+ghost use Rattle.run_steps.specs.Clerks.{with_load, with_read};
 
 use access_times::{Carry, Clerk, Rider};
 use load_lists::LoadLists;
@@ -14,7 +13,7 @@ use tso_clerk::TsoClerk;
 /// Keeps each core's loads, and nothing else. It accepts every instruction of its cores while there is room
 /// for one more load of each.
 #[derive(Drop)]
-pub(crate) struct LoadClerk {
+pub struct LoadClerk {
     loads: LoadLists,
 }
 
@@ -28,7 +27,7 @@ impl Model for LoadClerk {
 
 impl LoadClerk {
     /// A clerk for so many cores that was told nothing yet.
-    pub(crate) fn new(alloc: Global, cores: u8) -> Result<LoadClerk, AllocError>
+    pub fn new(alloc: Global, cores: u8) -> Result<LoadClerk, AllocError>
         ensures { IfOk result (λ clerk. clerk.lists ≡ replicate cores []) }
     {
         let loads = LoadLists::new(alloc, cores)?;
@@ -36,7 +35,7 @@ impl LoadClerk {
     }
 
     /// Makes room for one more load of each core.
-    pub(crate) fn make_room(&mut self) -> Result<(), AllocError>
+    pub fn make_room(&mut self) -> Result<(), AllocError>
         ensures lists { self.new.lists ≡ self.old.lists }
         ensures roomy { OnOk result (IsTrue self.new.roomy) }
     {
@@ -47,20 +46,29 @@ impl LoadClerk {
     fn note_read(&mut self, access: &Access)
         requires core { access.now.at.core < length self.old.lists }
         requires room { IsTrue self.old.roomy }
-        ensures { self.new.lists ≡ loads_after self.old.lists (Ordered access.now) }
+        ensures { self.new.lists ≡ with_read self.old.lists access.now }
     {
         if access.kind.is_read() {
-            let note = LoadNote {
-                count: access.at.count,
-                word: access.word,
-                value: access.before,
-            };
-            self.loads.note(access.at.core, note);
+            self.note_load(access.at, access.word, access.before);
         }
     }
 
+    /// Notes what a load or an atomic memory operation got with its core.
+    fn note_load(&mut self, at: Instr, word: u32, value: u32)
+        requires core { at.core < length self.old.lists }
+        requires room { IsTrue self.old.roomy }
+        ensures { self.new.lists ≡ with_load self.old.lists at word value }
+    {
+        let note = LoadNote {
+            count: at.count,
+            word,
+            value,
+        };
+        self.loads.note(at.core, note);
+    }
+
     /// Each core's loads. It takes no memory.
-    pub(crate) fn into_loads(self) -> Items<Items<LoadNote>>
+    pub fn into_loads(self) -> Items<Items<LoadNote>>
         ensures { result ≡ self.lists }
     {
         let LoadClerk { loads } = self;
@@ -69,7 +77,7 @@ impl LoadClerk {
 }
 
 impl<R: Rider, K: Carry> Clerk<R, K> for LoadClerk {
-    ghost use Rattle.tso_run.specs.Clerks.{Accepts, ToldLocal, ToldTouch};
+    ghost use Rattle.run_steps.specs.Clerks.{Accepts, ToldLocal, ToldTouch};
 
     ghost accepts = { λ c i. Accepts c i };
 
@@ -85,7 +93,7 @@ impl<R: Rider, K: Carry> Clerk<R, K> for LoadClerk {
 }
 
 impl<R: Rider, K: Carry> TsoClerk<R, K> for LoadClerk {
-    ghost use Rattle.tso_run.specs.Clerks.{ToldLogged};
+    ghost use Rattle.run_steps.specs.Clerks.{ToldLogged};
 
     ghost accepts_alone = { λ c i. Unit {0} };
 
@@ -94,11 +102,6 @@ impl<R: Rider, K: Carry> TsoClerk<R, K> for LoadClerk {
     fn alone(&mut self, _at: Instr, _carry: &K) {}
 
     fn logged(&mut self, at: Instr, word: u32, value: u32, _carry: &K) {
-        let note = LoadNote {
-            count: at.count,
-            word,
-            value,
-        };
-        self.loads.note(at.core, note);
+        self.note_load(at, word, value);
     }
 }
