@@ -1,11 +1,11 @@
 -- A run ends, and the instructions that retired in it have paid for its steps.
 use Rattle.std.proofs.Common.{◌≡◌, ◌∙◌, ap, refl, sym, ℕ, ◌+◌, ◌*◌, ◌<◌, ◌≤◌, ◌^◌, Bool, true, false, List, [], ◌∷◌}
 use Rattle.std.proofs.Common.{length, Option, Some, None, zero}
-use Rattle.std.proofs.Common.{suc, arith, inl, inr}
-use Rattle.std.specs.Prelude.{if◌then◌else◌, map, replicate}
+use Rattle.std.proofs.Common.{suc, arith}
+use Rattle.std.specs.Prelude.{map, replicate}
 use Rattle.std.specs.List.{sum_by, list_all, range_with_len, zip}
 use Rattle.std.proofs.Math.Nat.{mul-add}
-use Rattle.std.proofs.lemmas.Bool.{cases_eq, cases_lt, and_parts}
+use Rattle.std.proofs.lemmas.Bool.{and_parts}
 use Rattle.std.proofs.lemmas.Nat.{mul-le}
 use Rattle.std.proofs.lemmas.List.FromFn.{length-map-range_with_len, length-range_with_len}
 use Rattle.std.proofs.lemmas.List.Sums.{sum_by-cons}
@@ -29,46 +29,11 @@ use Rattle.machine_invariant.specs.Holds.{MachineHolds}
 use Rattle.machine_invariant.proofs.Begins.{chosen_enabled, holds_run}
 use Rattle.machine_invariant.proofs.Stepping.{step_cores}
 use Rattle.machine_progress.proofs.Stuck.{some_move}
-use Rattle.machine_bound.specs.Ends.{most_steps, first_among, end_of}
+use Rattle.machine_bound.specs.Ends.{most_steps, end_of}
 use Rattle.machine_bound.proofs.PortEarns.{done_base}
 use Rattle.machine_bound.proofs.Payments.{earns}
 use Rattle.machine_bound.proofs.Capacity.{capacity_kept, total_earned_le}
-
--- ---- the first number that passes a test
-
-pub record IsFirst (n : ℕ) (test : ℕ → Bool) (t u : ℕ) : Type 0 where
-  pub from : t ≤ u
-  pub within : u ≤ t + n
-  pub before : (v : ℕ) → t ≤ v → v < u → test v ≡ false
-  pub found : u < t + n → test u ≡ true
-
-pub first_is : (n : ℕ) (test : ℕ → Bool) (t : ℕ) → IsFirst n test t (first_among n test t)
-first_is zero test t = record {
-  from = omega arith;
-  within = omega arith;
-  before = λ v past lt. absurd (omega arith);
-  found = λ lt. absurd (omega arith);
-}
-first_is (suc n) test t = by_test (test t) refl (first_is n test (t + 1))
-  where
-    by_test : (b : Bool) → test t ≡ b → IsFirst n test (t + 1) (first_among n test (t + 1)) →
-        IsFirst (suc n) test t (if b then t else first_among n test (t + 1))
-    by_test true e rest = record {
-      from = omega arith;
-      within = omega arith;
-      before = λ v past lt. absurd (omega arith);
-      found = λ lt. e;
-    }
-    by_test false e rest =
-        record {
-          from = let le = rest.from in omega arith;
-          within = let le = rest.within in omega arith;
-          before = λ v past lt. elim (cases_eq v t) [
-            | inl same ↦ rw same e
-            | inr other ↦ rest.before v (omega arith) lt
-          ];
-          found = λ lt. rest.found (omega arith);
-        }
+use Rattle.machine_bound.proofs.Firsts.{FailsBefore, fails_before, first_passes, first_within, one_first}
 
 -- ---- the sums at the start and at the end
 
@@ -127,9 +92,13 @@ chosen_none : (ms : List Move) (choice : ℕ) {X : Type 0} → 0 < length ms →
 chosen_none [] choice some e = absurd (omega arith)
 chosen_none (m ∷ ms) choice some e = absurd (cc)
 
+-- each core's program is done after t choices
+abbrev pub is_over : Contents → Params → (choices : ℕ → ℕ) → (t : ℕ) → Bool
+is_over image params choices t = all_done (run image params choices t)
+
 -- the run is not yet at its end at any moment before this one
 abbrev pub NotBefore : Contents → Params → (choices : ℕ → ℕ) → (t : ℕ) → Type 0
-NotBefore image params choices t = (u : ℕ) → u < t → all_done (run image params choices u) ≡ false
+NotBefore image params choices t = FailsBefore (is_over image params choices) t
 
 pub run_holds : (image : Contents) (params : Params) (choices : ℕ → ℕ) (t : ℕ) → InRange params →
     MachineHolds none_riding none_carrying (run image params choices t)
@@ -213,65 +182,35 @@ all_earned s long done = done_earned s.image none_riding (length s.cores) s.core
 
 -- ---- the end
 
-found : (image : Contents) (params : Params) (choices : ℕ → ℕ) →
-    IsFirst (most_steps params) (λ t. all_done (run image params choices t)) 0 (end_of image params choices)
-unfolding end_of
-found image params choices = first_is (most_steps params) (λ t. all_done (run image params choices t)) 0
-
 end_first : (image : Contents) (params : Params) (choices : ℕ → ℕ) →
     NotBefore image params choices (end_of image params choices)
-end_first image params choices u lt = (found image params choices).before u (omega arith) lt
+unfolding end_of
+end_first image params choices = fails_before (most_steps params) (is_over image params choices)
 
 pub end_within : (image : Contents) (params : Params) (choices : ℕ → ℕ) →
     end_of image params choices ≤ most_steps params
-end_within image params choices = let le = (found image params choices).within in omega arith
+unfolding end_of
+end_within image params choices = first_within (most_steps params) (is_over image params choices)
 
 end_done : (image : Contents) (params : Params) (choices : ℕ → ℕ) → InRange params →
     all_done (run image params choices (end_of image params choices)) ≡ true
-end_done image params choices fits = by_test (all_done (run image params choices e)) refl
-  where
-    e : ℕ
-    e = end_of image params choices
-
-    still_more : all_done (run image params choices e) ≡ false → NotBefore image params choices (suc e)
-    still_more is u lt = elim (cases_eq u e) [
-      | inl same ↦ rw same is
-      | inr other ↦ end_first image params choices u
-          (omega arith)
-    ]
-
-    by_test : (b : Bool) → all_done (run image params choices e) ≡ b → all_done (run image params choices e) ≡ true
-    by_test true is = is
-    by_test false is =
-        let le : suc e + left none_riding (run image params choices (suc e)) ≤ most_steps params =
-        left_within image params choices (suc e) fits (still_more is) in
-        (found image params choices).found (omega arith)
+unfolding end_of
+end_done image params choices fits =
+    first_passes (most_steps params) (is_over image params choices)
+    (λ t more. (let le = left_within image params choices t fits more in omega arith))
 
 pub run_ends : (image : Contents) (params : Params) (choices : ℕ → ℕ) → InRange params →
     IsRunEnd image params choices (end_of image params choices)
-run_ends image params choices fits = record {
-  done = end_done image params choices fits;
-  first =
-      end_first image params choices;
-}
+run_ends image params choices fits =
+    record { done = end_done image params choices fits; first = end_first image params choices }
 
 -- a run has one end
-ends_alike : (image : Contents) (params : Params) (choices : ℕ → ℕ) (t u : ℕ) → IsRunEnd image params choices t →
-    IsRunEnd image params choices u → t ≤ u
-ends_alike image params choices t u one other = elim (cases_lt u t) [
-  | inr le ↦ le
-  | inl lt ↦ absurd (let more =
-      one.first u lt in let done = other.done in cc)
-]
-
 pub one_end : (image : Contents) (params : Params) (choices : ℕ → ℕ) (t : ℕ) → InRange params →
     IsRunEnd image params choices t →
     t ≡ end_of image params choices
 one_end image params choices t fits end =
-    let it = run_ends image params choices fits in
-    let le = ends_alike image params choices t (end_of image params choices) end it in
-    let ge = ends_alike image params choices (end_of image params choices) t it end in
-    omega arith
+    one_first (is_over image params choices) t (end_of image params choices) end.done end.first
+    (end_done image params choices fits) (end_first image params choices)
 
 pub end_in_time : (image : Contents) (params : Params) (choices : ℕ → ℕ) → InRange params →
     end_of image params choices ≤ (2 * params.cores + 4) * total_retired (run image params choices
@@ -292,10 +231,15 @@ pub left_until_end : (image : Contents) (params : Params) (choices : ℕ → ℕ
 left_until_end image params choices t fits le =
     left_within image params choices t fits (λ u lt. end_first image params choices u (omega arith))
 
-pub most_steps_few : (params : Params) → Fits params → most_steps params < 2 ^ 32
-most_steps_few params fits =
+-- so many steps for each instruction fit a word
+pub few_steps : (more : ℕ) (params : Params) → Fits params → more ≤ 5 →
+    (2 * params.cores + more) * (params.cores * params.limit) < 2 ^ 32
+few_steps more params fits le =
     let few = fits.cores in
-    let steps : most_steps params ≤ (2 * CORES_MAX + 4) * INSTRUCTIONS_MAX =
-    mul-le (2 * params.cores + 4) (params.cores * params.limit) (2 * CORES_MAX + 4) INSTRUCTIONS_MAX (omega arith)
+    let steps : (2 * params.cores + more) * (params.cores * params.limit) ≤ (2 * CORES_MAX + 5) * INSTRUCTIONS_MAX =
+    mul-le (2 * params.cores + more) (params.cores * params.limit) (2 * CORES_MAX + 5) INSTRUCTIONS_MAX (omega arith)
     fits.instructions in
     omega arith
+
+pub most_steps_few : (params : Params) → Fits params → most_steps params < 2 ^ 32
+most_steps_few params fits = few_steps 4 params fits (omega arith)

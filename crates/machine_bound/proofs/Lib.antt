@@ -4,4 +4,5 @@ pub mod PortEarns
 pub mod Requests
 pub mod Payments
 pub mod Capacity
+pub mod Firsts
 pub mod Ends

@@ -16,6 +16,7 @@ use rtr_types::CORES_MAX;
 use std::alloc::AllocError;
 
 /// The marks with the late core's oldest request marked where the home can take it.
+#[inline(always)]
 pub fn with_late<R: Rider, K: Carry>(
     memory: &MemorySystem<R, K>,
     cores: u32,

@@ -10,13 +10,12 @@ use Rattle.msi_cache.specs.declared.messages.Request.{Request}
 use Rattle.msi_cache.specs.declared.messages.Response.{Response}
 use Rattle.msi_directory.specs.Table.{HomeRow, Send, gives, request_row, response_row}
 use Rattle.msi_directory.specs.Entries.{entry_by, entry_left, entry_met, sent, answer_by, request_words, request_rider}
-use Rattle.msi_directory.specs.Entries.{response_words, response_rider, entry_after_request, entry_for_request}
-use Rattle.msi_directory.specs.Entries.{entry_after_response, entry_for_response, answer_to_request}
-use Rattle.msi_directory.specs.Entries.{answer_to_response}
+use Rattle.msi_directory.specs.Entries.{response_words, response_rider}
 use Rattle.msi_directory.specs.Blocks.{entry_at, no_entry}
 use Rattle.msi_directory.specs.PlainPart.{plain_entry, plain_entries, plain_send, plain_home_answer, PlainRequest}
 use Rattle.msi_directory.specs.PlainPart.{PlainResponse}
 use Rattle.msi_directory.specs.declared.entry.Entry.{Entry}
+use Rattle.msi_directory.specs.declared.entry.Stage.{Stage}
 
 module _ {R : Type 0} where
   plain_entry_at : (fresh : R) (entries : List (Entry R)) (block : ℕ) →
@@ -78,105 +77,68 @@ module _ {R : Type 0} where
   plain_answer_by None block e = refl
   plain_answer_by (Some r) block e = rw (plain_sent r.send block e)
 
-  plain_entry_after_request : (riding : Riding R) (e : Entry R) (c : ℕ) (request : Request R) →
-      plain_entry (entry_after_request riding e c request)
-      ≡ entry_after_request none_riding (plain_entry e) c (plain_request request)
-  plain_entry_after_request riding e c request =
-      rw (
-        plain_entry_by riding (request_row e.stage c (ask_of request)) e (request_words request e.words)
-            (request_rider request e.rider),
-        plain_ask request,
-        plain_request_words request e.words,
-      )
+-- a message about the block comes with these words and this rider, and meets this row at each stage
+module _ {R : Type 0} (riding : Riding R) (entries : List (Entry R)) (block : ℕ) (row : Stage → Option HomeRow)
+    (words : List ℕ → List ℕ) (rider : R → R) where
+  -- the block's entry, before
+  abbrev before : Entry R
+  before = entry_at riding.fresh entries block
 
-  plain_entry_for_request : (absorbed : R → R → R) (e : Entry R) (c : ℕ) (request : Request R) →
-      plain_entry (entry_for_request absorbed e c request)
-      ≡ entry_for_request none_riding.absorbed (plain_entry e) c (plain_request request)
-  plain_entry_for_request absorbed e c request =
-      rw (
-        plain_entry_met absorbed (request_row e.stage c (ask_of request)) e (request_words request e.words)
-            (request_rider request e.rider),
-        plain_ask request,
-        plain_request_words request e.words,
-      )
+  abbrev plain_before : Entry (Unit {0})
+  plain_before = entry_at tt (plain_entries entries) block
 
-  plain_entry_after_response : (riding : Riding R) (e : Entry R) (c : ℕ) (response : Response R) →
-      plain_entry (entry_after_response riding e c response)
-      ≡ entry_after_response none_riding (plain_entry e) c (plain_response response)
-  plain_entry_after_response riding e c response =
-      rw (
-        plain_entry_by riding (response_row e.stage c (reply_of response)) e (response_words response e.words)
-            (response_rider response),
-        plain_reply response,
-        plain_response_words response e.words,
-      )
+  record Forgets : Type 0 where
+    found : plain_entry before ≡ plain_before
+    left : plain_entries (slice_set entries block
+        (entry_by riding (row before.stage) before (words before.words) (rider before.rider)))
+        ≡ slice_set (plain_entries entries) block
+        (entry_by none_riding (row plain_before.stage) plain_before (words plain_before.words) tt)
+    answer : plain_home_answer (answer_by (row before.stage) block
+        (entry_met riding.absorbed (row before.stage) before (words before.words) (rider before.rider)))
+        ≡ answer_by (row plain_before.stage) block
+        (entry_met none_riding.absorbed (row plain_before.stage) plain_before (words plain_before.words) tt)
 
-  plain_entry_for_response : (absorbed : R → R → R) (e : Entry R) (c : ℕ) (response : Response R) →
-      plain_entry (entry_for_response absorbed e c response)
-      ≡ entry_for_response none_riding.absorbed (plain_entry e) c (plain_response response)
-  plain_entry_for_response absorbed e c response =
-      rw (
-        plain_entry_met absorbed (response_row e.stage c (reply_of response)) e (response_words response e.words)
-            (response_rider response),
-        plain_reply response,
-        plain_response_words response e.words,
-      )
-
-  plain_answer_to_request : (absorbed : R → R → R) (e : Entry R) (c : ℕ) (request : Request R) →
-      plain_home_answer (answer_to_request absorbed e c request)
-      ≡ answer_to_request none_riding.absorbed (plain_entry e) c (plain_request request)
-  plain_answer_to_request absorbed e c request =
-      rw (
-        plain_answer_by (request_row e.stage c (ask_of request)) (request_block request)
-            (entry_for_request absorbed e c request),
-        plain_entry_for_request absorbed e c request,
-        plain_ask request,
-        plain_request_block request,
-      )
-
-  plain_answer_to_response : (absorbed : R → R → R) (e : Entry R) (c : ℕ) (response : Response R) →
-      plain_home_answer (answer_to_response absorbed e c response) ≡ answer_to_response none_riding.absorbed
-      (plain_entry e) c (plain_response response)
-  plain_answer_to_response absorbed e c response =
-      rw (
-        plain_answer_by (response_row e.stage c (reply_of response)) (response_block response)
-            (entry_for_response absorbed e c response),
-        plain_entry_for_response absorbed e c response,
-        plain_reply response,
-        plain_response_block response,
-      )
-
-  pub plain_on_request : (riding : Riding R) (entries : List (Entry R)) (c : ℕ) (request : Request R) →
-      PlainRequest riding entries c request
-  plain_on_request riding entries c request =
-      let block = request_block request in
+  forgets : Forgets
+  forgets =
+      let e : Entry R = before in
       record {
-        same_entry = rw (plain_entry_at riding.fresh entries block);
-        same_row = rw (plain_entry_at riding.fresh entries block, plain_ask request);
-        same_entries = rw (
-          plain_set entries block (entry_after_request riding (entry_at riding.fresh entries block) c request),
-          plain_request_block request,
+        found = rw (plain_entry_at riding.fresh entries block);
+        left = rw (
+          plain_set entries block (entry_by riding (row e.stage) e (words e.words) (rider e.rider)),
           plain_entry_at riding.fresh entries block,
-          plain_entry_after_request riding (entry_at riding.fresh entries block) c request,
+          plain_entry_by riding (row e.stage) e (words e.words) (rider e.rider),
         );
-        same_answer = rw (plain_entry_at riding.fresh entries block) (plain_answer_to_request riding.absorbed
-            (entry_at riding.fresh entries block) c request);
+        answer = rw (
+          plain_entry_at riding.fresh entries block,
+          plain_answer_by (row e.stage) block
+              (entry_met riding.absorbed (row e.stage) e (words e.words) (rider e.rider)),
+          plain_entry_met riding.absorbed (row e.stage) e (words e.words) (rider e.rider),
+        );
       }
 
-  pub plain_on_response : (riding : Riding R) (entries : List (Entry R)) (c : ℕ) (response : Response R) →
-      PlainResponse riding entries c response
-  plain_on_response riding entries c response =
-      let block = response_block response in
+module _ {R : Type 0} (riding : Riding R) (entries : List (Entry R)) (c : ℕ) where
+  pub plain_on_request : (request : Request R) → PlainRequest riding entries c request
+  plain_on_request request =
+      let is =
+      forgets riding entries (request_block request) (λ stage. request_row stage c (ask_of request))
+      (request_words request) (request_rider request) in
+      let words = plain_request_words request (entry_at tt (plain_entries entries) (request_block request)).words in
       record {
-        same_entry = rw (plain_entry_at riding.fresh entries block);
-        same_row = rw (plain_entry_at riding.fresh entries block, plain_reply response);
-        same_entries = rw (
-          plain_set entries block (entry_after_response riding (entry_at riding.fresh entries block) c
-              response),
-          plain_response_block response,
-          plain_entry_at riding.fresh entries block,
-          plain_entry_after_response riding (entry_at riding.fresh entries block) c response,
-        );
-        same_answer = rw (plain_entry_at riding.fresh entries block)
-            (plain_answer_to_response riding.absorbed (entry_at riding.fresh entries block) c response);
+        same_entry = is.found;
+        same_row = rw (plain_entry_at riding.fresh entries (request_block request), plain_ask request);
+        same_entries = rw (plain_request_block request, plain_ask request, words) is.left;
+        same_answer = rw (plain_request_block request, plain_ask request, words) is.answer;
+      }
+
+  pub plain_on_response : (response : Response R) → PlainResponse riding entries c response
+  plain_on_response response =
+      let is =
+      forgets riding entries (response_block response) (λ stage. response_row stage c (reply_of response))
+      (response_words response) (λ own. response_rider response) in
+      let words = plain_response_words response (entry_at tt (plain_entries entries) (response_block response)).words in
+      record {
+        same_entry = is.found;
+        same_row = rw (plain_entry_at riding.fresh entries (response_block response), plain_reply response);
+        same_entries = rw (plain_response_block response, plain_reply response, words) is.left;
+        same_answer = rw (plain_response_block response, plain_reply response, words) is.answer;
       }

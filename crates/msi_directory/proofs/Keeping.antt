@@ -76,8 +76,8 @@ module _ {R S : Type 0} (m m' : IndexMap ℕ Stage S) (copies copies' : List (Ho
       same,
     )
 
--- the stage and the copy at a place are changed
-module _ {R S : Type 0} (m : IndexMap ℕ Stage S) (copies : List (HomeCopy R)) (now : Kept R)
+-- the stage and the copy at a place are changed as a deed changes them
+module _ {R S : Type 0} (done : Deed R) (m : IndexMap ℕ Stage S) (copies : List (HomeCopy R)) (now : Kept R)
     (is : kept_of m copies ≡ now)
     (place : ℕ) (stage : Stage) (copy : HomeCopy R)
     (stands : slice_get (values m) place ≡ Some stage) (within : place < length copies)
@@ -88,29 +88,31 @@ module _ {R S : Type 0} (m : IndexMap ℕ Stage S) (copies : List (HomeCopy R)) 
       (λ i. entry_of (get_or_from_slice_get (values m) place stage past.stage stands i)
       (sym (get_or_read copies place copy within lies (copy_of past)) i))
 
-  changed : (row : Entry R → Entry R) (stage' : Stage) (copy' : HomeCopy R) →
-      entry_of stage' copy' ≡ row (entry_of stage copy) → (past : Entry R)
+  changed : (stage' : Stage) (copy' : HomeCopy R) →
+      entry_of stage' copy' ≡ done.after (entry_of stage copy) → (past : Entry R)
       → kept_of (with_value_at m place stage') (slice_set copies place copy') ≡ kept_with now place
-      (row (kept_at now place past))
-  changed row stage' copy' after past =
+      (done.after (kept_at now place past))
+  changed stage' copy' after past =
       rw (here past, ← after, ← is, keys-with_value_at m place stage', values_set m.entries place stage')
 
   -- a deed that is done to the stage and the copy is done at the place
-  pub done_at : (done : Deed R) (stage' : Stage) (copy' : HomeCopy R) (hand : R) (served : Served) →
+  pub done_at : (stage' : Stage) (copy' : HomeCopy R) (hand : R) (served : Served) →
       entry_of stage' copy' ≡ done.after (entry_of stage copy)
       → answer_riding hand served.answer ≡ done.answer (entry_of stage copy) → served.free ≡ is_free stage'
       → IsDoneAt done now (kept_of (with_value_at m place stage') (slice_set copies place copy')) place hand served
-  done_at done stage' copy' hand served after answered free =
+  done_at stage' copy' hand served after answered free =
       record {
-        kept = changed done.after stage' copy' after;
+        kept = changed stage' copy' after;
         answer = λ past. rw (here past) answered;
         free = λ past. rw (here past) (free ∙ ap (λ (e : Entry R). is_free e.stage) after);
       }
 
--- there are as many copies as stages then, too
-pub changed_counted : {R S : Type 0} (m : IndexMap ℕ Stage S) (copies : List (HomeCopy R)) (place : ℕ) (stage' : Stage)
-    (copy' : HomeCopy R)
-    → length copies ≡ length m.entries → length (slice_set copies place copy') ≡ length
-    (with_value_at m place stage').entries
-changed_counted m copies place stage' copy' same =
-    length-set copies place copy' ∙ same ∙ sym (index_map_len-with_value_at m place stage')
+-- there are as many copies as stages then, too, and what is beside them is as it was
+pub changed_counted : {R S Beside : Type 0} (m : IndexMap ℕ Stage S) (copies : List (HomeCopy R)) (place : ℕ)
+    (stage' : Stage) (copy' : HomeCopy R)
+    → (length copies ≡ length m.entries) × Beside
+    → (length (slice_set copies place copy') ≡ length (with_value_at m place stage').entries) × Beside
+changed_counted m copies place stage' copy' is = (
+  length-set copies place copy' ∙ is.0 ∙ sym (index_map_len-with_value_at m place stage'),
+  is.1,
+)

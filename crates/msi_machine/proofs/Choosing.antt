@@ -40,6 +40,12 @@ module _ {R K : Type 0} where
       (filter_passes (enabled riding carrying s) (candidates (length s.cores) (4 * length s.cores)))
       (chosen_of_some (moves riding carrying s) choice m some is)
 
+  -- what is seen of a machine's parts has the invariant that they have
+  pub seen_holds : (riding : Riding R) (carrying : Carrying K) {m seen : Machinery R K} → m ≡ seen →
+      MachineHolds riding carrying m.state → MachineHolds riding carrying seen.state
+  seen_holds riding carrying view holds =
+      subst (λ (x : Machinery R K). MachineHolds riding carrying x.state) view holds
+
   -- what is found so in a machine that isn't done can be made
   pub found_enabled : (riding : Riding R) (carrying : Carrying K) (m seen : Machinery R K) (choice count : ℕ)
       (taken : Move) {found : List Move} →
@@ -49,6 +55,5 @@ module _ {R K : Type 0} where
   found_enabled riding carrying m seen choice count taken view holds more all same is =
       subst (λ (x : Machinery R K). enabled riding carrying x.state taken ≡ true) (sym view)
       (taken_enabled riding carrying seen.state choice taken
-      (some_move riding carrying seen.state (subst (λ (x : Machinery R K). MachineHolds riding carrying x.state) view
-      holds) more)
+      (some_move riding carrying seen.state (seen_holds riding carrying view holds) more)
       (numbered choice count taken all same is))

@@ -62,16 +62,20 @@ one_core image c (Retires at) cores = refl
 one_core image c (Accesses a) cores = refl
 
 module _ {R K : Type 0} where
-  -- a move that sets one core, and one port
-  moved_at : (riding : Riding R) (carrying : Carrying K) (rider : R) (s t : State R K) (m : Move) (c : ℕ) →
-      t ≡ step riding carrying rider s m → (core : Core) (port : Port R K) →
-      (step riding carrying rider s m).cores ≡ slice_set s.cores c core →
-      (step riding carrying rider s m).memory ≡ record s.memory { ports = slice_set s.memory.ports c port } →
-      MovedAt s t c
-  moved_at riding carrying rider s t m c is core port cores memory =
+  -- a move that sets one port, that of its own core
+  moved_at : (riding : Riding R) (carrying : Carrying K) (rider : R) (s t : State R K) (m : Move) →
+      t ≡ step riding carrying rider s m → (port : Port R K) →
+      (step riding carrying rider s m).memory
+      ≡ record s.memory { ports = slice_set s.memory.ports (core_of m) port } →
+      MovedAt s t (core_of m)
+  moved_at riding carrying rider s t m is port memory =
       record {
         image = ap (λ (x : State R K). x.image) is;
-        cores = record { one = core; is = ap (λ (x : State R K). x.cores) is ∙ cores };
+        cores = record {
+          one = core_after s.image (event riding carrying s m) (core_at s.cores (core_of m));
+          is = ap (λ (x : State R K). x.cores) is
+              ∙ one_core s.image (core_of m) (event riding carrying s m) s.cores;
+        };
         memory = record {
           ports = record {
             one = port;
@@ -87,11 +91,9 @@ module _ {R K : Type 0} where
       c < length s.memory.ports →
       t ≡ step riding carrying rider s (CoreMove c) → MovedAt s t c
   core_moves riding carrying rider s t c within is =
-      moved_at riding carrying rider s t (CoreMove c) c is
-      (core_after s.image (event riding carrying s (CoreMove c)) (core_at s.cores c))
+      moved_at riding carrying rider s t (CoreMove c) is
       (port_worked riding carrying rider (need_access (need s.image (core_at s.cores c)))
       (event riding carrying s (CoreMove c)) (port_at carrying s.memory.ports c))
-      (one_core s.image c (event riding carrying s (CoreMove c)) s.cores)
       (core_memory riding carrying rider s c within)
 
   -- it changes neither the port's responses nor its messages
@@ -173,11 +175,9 @@ module _ {R K : Type 0} where
       c < length s.memory.ports →
       t ≡ step riding carrying rider s (MessageMove c) → MovedAt s t c
   message_moves riding carrying rider s t c within is =
-      moved_at riding carrying rider s t (MessageMove c) c is
-      (core_after s.image (event riding carrying s (MessageMove c)) (core_at s.cores c))
+      moved_at riding carrying rider s t (MessageMove c) is
       (port_told riding carrying rider (event riding carrying s (MessageMove c))
       (port_taken riding carrying (port_at carrying s.memory.ports c)))
-      (one_core s.image c (event riding carrying s (MessageMove c)) s.cores)
       (message_memory riding carrying rider s c within)
 
   -- it puts down no request

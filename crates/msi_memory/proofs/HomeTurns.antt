@@ -16,8 +16,7 @@ use Rattle.msi_directory.specs.Deeds.{Deed, request_deed, response_deed}
 use Rattle.msi_directory.specs.Entries.{answer_riding}
 use Rattle.msi_directory.specs.Table.{is_free}
 use Rattle.msi_directory.specs.declared.entry.HomeAnswer.{HomeAnswer}
-use Rattle.msi_memory.specs.Acts.{delivered, port_requested, port_responded, take_request, take_request_in}
-use Rattle.msi_memory.specs.Acts.{take_response, take_response_in}
+use Rattle.msi_memory.specs.Acts.{delivered, take_request_in, take_response_in}
 use Rattle.msi_memory.specs.Heads.{OfHead}
 use Rattle.msi_memory.specs.Memories.{Memory, System, no_port, port_at}
 use Rattle.msi_memory.specs.Rests.{HasRoomTo, NamesFit, can_request_in, can_respond_in, request_answer_in}
@@ -95,175 +94,144 @@ module _ {R K : Type 0} (fresh : R) (carrying : Carrying K) (done : Deed R) (sen
             (done.after (entry_at fresh old.entries done.block)) turn.free within is.block kept is.served.free;
       }
 
-module _ {R K : Type 0} (riding : Riding R) (carrying : Carrying K) (ports : List (Port R K)) (old new : Blocks R)
-    (before after : K) (hand : R) (turn : Turn) (c : ℕ) where
-  -- the memory system before the turn, and once its answer went to these ports
-  abbrev start : Memory R K
-  start = record { ports = ports; home = old.entries; carry = before }
+-- a message that does this comes to the home on this link of core c's
+module _ {T R K : Type 0} (riding : Riding R) (carrying : Carrying K) (does : T → Deed R)
+    (link : Port R K → Queue (Mail T K)) (with_link : Port R K → Queue (Mail T K) → Port R K) (c : ℕ) where
+  -- what it is answered
+  abbrev said : T → Memory R K → HomeAnswer R
+  said message m = (does message).answer (entry_at riding.fresh m.home (does message).block)
 
-  abbrev end_at : List (Port R K) → Memory R K
-  end_at told =
+  -- the port with these left on the link
+  abbrev port_left : Port R K → List (Mail T K) → Port R K
+  port_left p rest = with_link p (record (link p) { items = rest })
+
+  -- the memory system once the home took the message, behind which these lie
+  abbrev taken : Mail T K → List (Mail T K) → Memory R K → Memory R K
+  taken mail rest m =
+      let done : Deed R = does mail.item in
+      let carry : K = carrying.joined m.carry mail.carry in
       record {
-        ports = delivered carrying (answer_riding hand turn.answer) turn.block after told;
-        home = new.entries;
-        carry = after;
+        ports = delivered carrying (said mail.item m) done.block carry
+            (slice_set m.ports c (port_left (port_at carrying m.ports c) rest));
+        home = slice_set m.home done.block (done.after (entry_at riding.fresh m.home done.block));
+        carry = carry;
       }
 
-  -- the home did what the oldest of these messages does
-  abbrev DoneFor : {T : Type 0} → (T → Deed R) → List (Mail T K) → Type 0
-  DoneFor does items =
-      OfHead items (λ mail. IsDone riding.fresh carrying (does mail.item) mail.carry old new before after hand turn)
+  -- one of these is the oldest; the act with it leads to next, is answered so, and tells so
+  pub record HasOldest (m : Memory R K) (items : List (Mail T K)) (next : Memory R K) (answer : HomeAnswer R)
+      (Tells : Turn → Type 0) : Type 0 where
+    mail : Mail T K
+    rest : List (Mail T K)
+    are : items ≡ mail ∷ rest
+    within : (does mail.item).block < length m.home
+    leads : next ≡ taken mail rest m
+    answers : answer ≡ said mail.item m
+    to : NamesFit m → c < length m.ports → IfSome answer.send (λ s. s.0 < length m.ports)
+    tells : (turn : Turn) → IsTurn (does mail.item).block (said mail.item m) turn → Tells turn
 
-  -- one of a port's links lost its oldest message
-  lost : {T : Type 0} (of_port : Port R K → Queue T) (in_port : Port R K → Queue T → Port R K) (port : Port R K)
-      (link : Queue T) (told : List (Port R K)) → port ≡ port_at carrying ports c → link.room ≡ (of_port port).room →
-      link.items ≡ drop 1 (of_port port).items → told ≡ slice_set ports c (in_port port link) →
-      told ≡ slice_set ports c (in_port (port_at carrying ports c) (record (of_port (port_at carrying ports c)) {
-        items = drop 1 (of_port (port_at carrying ports c)).items;
-      }))
-  lost {T} of_port in_port port link told here room items at =
-      at
-      ∙ ap (λ (q : Queue T). slice_set ports c (in_port port q))
-      (same_link link (of_port port) (drop 1 (of_port port).items) room items)
-      ∙ ap (λ (p : Port R K). slice_set ports c (in_port p (record (of_port p) { items = drop 1 (of_port p).items })))
-      here
+  -- this one, where the act is what is said of it here
+  first_of : (mail : Mail T K) (rest : List (Mail T K)) (m : Memory R K) → (does mail.item).block < length m.home →
+      (NamesFit m → c < length m.ports → IfSome (said mail.item m).send (λ s. s.0 < length m.ports)) →
+      HasOldest m (mail ∷ rest) (taken mail rest m) (said mail.item m)
+      (λ turn. IsTurn (does mail.item).block (said mail.item m) turn)
+  first_of mail rest m within to =
+      record {
+        mail = mail;
+        rest = rest;
+        are = refl;
+        within = within;
+        leads = refl;
+        answers = refl;
+        to = to;
+        tells = λ turn is. is;
+      }
 
-  -- ---- the oldest request
+-- the home did what the oldest message of core c's link does; its port was found so, and the link lost the message
+module _ {T R K : Type 0} {riding : Riding R} {carrying : Carrying K} {does : T → Deed R}
+    {link : Port R K → Queue (Mail T K)} {with_link : Port R K → Queue (Mail T K) → Port R K} {c : ℕ}
+    {next : Memory R K} {answer : HomeAnswer R} {Tells : Turn → Type 0} (ports : List (Port R K)) (old new : Blocks R)
+    (before after : K) (hand : R) (turn : Turn) (s : System R K) (port : Port R K) (left : Queue (Mail T K))
+    (told : List (Port R K))
+    (seen : ◌≡◌ {A = System R K} (record {
+      memory = record { ports = ports; home = old.entries; carry = before };
+      rooms = old.rooms;
+    }) s)
+    (oldest : HasOldest riding carrying does link with_link c s.memory
+    (link (port_at carrying s.memory.ports c)).items next answer Tells) (here : c < length s.memory.ports)
+    (found : port ≡ get_or ports c port) (at : told ≡ slice_set ports c (with_link port left))
+    (did : OfHead (link port).items (λ mail. IsDone riding.fresh carrying (does mail.item) mail.carry old new before
+    after hand turn)) where
+  -- the memory system before, of which all holds that holds of what is seen
+  abbrev start : System R K
+  start = record { memory = record { ports = ports; home = old.entries; carry = before }; rooms = old.rooms }
 
-  request_turned : (items : List (Mail (Request R) K)) (told : List (Port R K)) →
-      IsTrue (can_request_in items riding start c) → DoneFor (request_deed riding c) items →
-      told ≡ slice_set ports c (port_requested (port_at carrying ports c) (drop 1 items)) →
-      HasTurned riding.fresh (end_at told) (take_request_in items riding carrying start c) new.rooms old.rooms
-      (IsRequestTurn items riding start c) turn
-  request_turned [] told row is at = absurd cc
-  request_turned (mail ∷ rest) told row is at =
-      turned riding.fresh carrying (request_deed riding c mail.item) mail.carry old new before after hand turn is told
-      (slice_set ports c (port_requested (port_at carrying ports c) rest)) at
-      (below (request_block mail.item) (length old.entries) _ row)
+  at_start : (P : System R K → Type 0) → P s → P start
+  at_start P holds = subst P (sym seen) holds
 
-  request_deliverable : (items : List (Mail (Request R) K)) (told : List (Port R K)) (port : Port R K) →
-      IsTrue (can_request_in items riding start c) → DoneFor (request_deed riding c) items →
-      length ports ≤ CORES_MAX → NamesFit start →
-      c < length ports → HasRoomTo carrying (request_answer_in items riding start c) ports →
-      told ≡ slice_set ports c port →
-      port.messages ≡ (port_at carrying ports c).messages → CanDeliver carrying (answer_riding hand turn.answer) told
-  request_deliverable [] told port row is few names here room at same = absurd cc
-  request_deliverable (mail ∷ rest) told port row is few names here room at same =
-      deliverable carrying (answer_riding hand turn.answer) (request_answer_in (mail ∷ rest) riding start c) ports
-      told c port is.served.answer few room
-      (request_named riding old.entries (length ports) c mail.item names (below (request_block mail.item)
-      (length old.entries) _ row) here) at same
+  first : HasOldest riding carrying does link with_link c start.memory (link (port_at carrying ports c)).items next
+      answer Tells
+  first = at_start (λ x. HasOldest riding carrying does link with_link c x.memory
+      (link (port_at carrying x.memory.ports c)).items next answer Tells) oldest
 
-  -- core c's port is as it was found, and its link without the request
-  pub took_request : (s : System R K) (port : Port R K) (link : Queue (Mail (Request R) K))
-      (told : List (Port R K)) →
-      ◌≡◌ {A = System R K} (record { memory = start; rooms = old.rooms }) s → port ≡ get_or ports c port →
-      link.room ≡ port.requests.room →
-      link.items ≡ drop 1 port.requests.items → told ≡ slice_set ports c (record port { requests = link }) →
-      DoneFor (request_deed riding c) port.requests.items → c < length s.memory.ports →
-      IsTrue (can_request_in (port_at carrying s.memory.ports c).requests.items riding s.memory c) →
-      HasTurned riding.fresh (end_at told) (take_request riding carrying s.memory c) new.rooms s.rooms
-      (IsRequestTurn (port_at carrying s.memory.ports c).requests.items riding s.memory c) turn
-  took_request s port link told seen found room items at is =
-      subst (λ (x : System R K). c < length x.memory.ports →
-      IsTrue (can_request_in (port_at carrying x.memory.ports c).requests.items riding x.memory c) →
-      HasTurned riding.fresh (end_at told) (take_request riding carrying x.memory c) new.rooms x.rooms
-      (IsRequestTurn (port_at carrying x.memory.ports c).requests.items riding x.memory c) turn) seen
-      (λ within row.
-      let here : port ≡ port_at carrying ports c = found_at carrying ports c port found within in
-      request_turned (port_at carrying ports c).requests.items told row
-      (subst (λ (p : Port R K). DoneFor (request_deed riding c) p.requests.items) here is)
-      (lost (λ (p : Port R K). p.requests)
-      (λ (p : Port R K) (q : Queue (Mail (Request R) K)). record p { requests = q }) port link told here room items
-      at))
+  found_there : port ≡ port_at carrying ports c
+  found_there = found_at carrying ports c port found (at_start (λ x. c < length x.memory.ports) here)
 
-  pub sends_for_request : (s : System R K) (port : Port R K) (link : Queue (Mail (Request R) K))
-      (told : List (Port R K)) →
-      ◌≡◌ {A = System R K} (record { memory = start; rooms = old.rooms }) s → port ≡ get_or ports c port →
-      told ≡ slice_set ports c (record port { requests = link }) →
-      DoneFor (request_deed riding c) port.requests.items → length s.memory.ports ≤ CORES_MAX →
-      c < length s.memory.ports → NamesFit s.memory →
-      IsTrue (can_request_in (port_at carrying s.memory.ports c).requests.items riding s.memory c) →
-      HasRoomTo carrying (request_answer_in (port_at carrying s.memory.ports c).requests.items riding s.memory c)
-      s.memory.ports → CanDeliver carrying (answer_riding hand turn.answer) told
-  sends_for_request s port link told seen found at is =
-      subst (λ (x : System R K). length x.memory.ports ≤ CORES_MAX → c < length x.memory.ports → NamesFit x.memory →
-      IsTrue (can_request_in (port_at carrying x.memory.ports c).requests.items riding x.memory c) →
-      HasRoomTo carrying (request_answer_in (port_at carrying x.memory.ports c).requests.items riding x.memory c)
-      x.memory.ports → CanDeliver carrying (answer_riding hand turn.answer) told) seen
-      (λ few within names row room.
-      let here : port ≡ port_at carrying ports c = found_at carrying ports c port found within in
-      request_deliverable (port_at carrying ports c).requests.items told (record port { requests = link }) row
-      (subst (λ (p : Port R K). DoneFor (request_deed riding c) p.requests.items) here is)
-      few names within room at
-      (ap (λ (p : Port R K). p.messages) here))
+  done : IsDone riding.fresh carrying (does first.mail.item) first.mail.carry old new before after hand turn
+  done = subst (λ items. OfHead items (λ mail. IsDone riding.fresh carrying (does mail.item) mail.carry old new before
+      after hand turn)) (ap (λ (p : Port R K). (link p).items) found_there ∙ first.are) did
 
-  -- ---- the oldest response
+  -- the answer can be delivered to the other ports and this one, of which only the link is another
+  pub sends : (with_link port left).messages ≡ port.messages → length s.memory.ports ≤ CORES_MAX → NamesFit s.memory →
+      HasRoomTo carrying answer s.memory.ports → CanDeliver carrying (answer_riding hand turn.answer) told
+  sends same few names room =
+      deliverable carrying (answer_riding hand turn.answer) answer ports told c (with_link port left)
+      (done.served.answer ∙ sym first.answers) (at_start (λ x. length x.memory.ports ≤ CORES_MAX) few)
+      (at_start (λ x. HasRoomTo carrying answer x.memory.ports) room)
+      (first.to (at_start (λ x. NamesFit x.memory) names) (at_start (λ x. c < length x.memory.ports) here)) at
+      (same ∙ ap (λ (p : Port R K). p.messages) found_there)
 
-  response_turned : (items : List (Mail (Response R) K)) (told : List (Port R K)) →
-      IsTrue (can_respond_in items riding start c) → DoneFor (response_deed riding c) items →
-      told ≡ slice_set ports c (port_responded (port_at carrying ports c) (drop 1 items)) →
-      HasTurned riding.fresh (end_at told) (take_response_in items riding carrying start c) new.rooms old.rooms
-      (IsResponseTurn items riding start c) turn
-  response_turned [] told row is at = absurd cc
-  response_turned (mail ∷ rest) told row is at =
-      turned riding.fresh carrying (response_deed riding c mail.item) mail.carry old new before after hand turn is told
-      (slice_set ports c (port_responded (port_at carrying ports c) rest)) at
-      (below (response_block mail.item) (length old.entries) _ row)
+  -- and once these ports have it, the act is done
+  pub took : {answered : List (Port R K)} →
+      answered ≡ delivered carrying (answer_riding hand turn.answer) turn.block after told →
+      left.room ≡ (link port).room → left.items ≡ drop 1 (link port).items →
+      HasTurned riding.fresh (record { ports = answered; home = new.entries; carry = after }) next new.rooms s.rooms
+      Tells turn
+  took on_its_way room items =
+      let is =
+      turned riding.fresh carrying (does first.mail.item) first.mail.carry old new before after hand turn done told
+      (slice_set ports c (port_left riding carrying does link with_link c (port_at carrying ports c) first.rest))
+      (at
+      ∙ ap (λ (q : Queue (Mail T K)). slice_set ports c (with_link port q))
+      (same_link left (link port) (drop 1 (link port).items) room items)
+      ∙ ap (λ (p : Port R K). slice_set ports c (with_link p (record (link p) { items = drop 1 (link p).items })))
+      found_there
+      ∙ ap (λ (xs : List (Mail T K)). slice_set ports c
+      (port_left riding carrying does link with_link c (port_at carrying ports c) (drop 1 xs))) first.are)
+      first.within in
+      record {
+        memory = ap (λ (ps : List (Port R K)). record { ports = ps; home = new.entries; carry = after }) on_its_way
+            ∙ is.memory ∙ sym first.leads;
+        rooms = is.rooms ∙ ap (λ (x : System R K). x.rooms) seen;
+        turn = first.tells turn is.turn;
+        free = is.free;
+      }
 
-  response_deliverable : (items : List (Mail (Response R) K)) (told : List (Port R K)) (port : Port R K) →
-      IsTrue (can_respond_in items riding start c) → DoneFor (response_deed riding c) items →
-      length ports ≤ CORES_MAX → NamesFit start →
-      HasRoomTo carrying (response_answer_in items riding start c) ports →
-      told ≡ slice_set ports c port →
-      port.messages ≡ (port_at carrying ports c).messages → CanDeliver carrying (answer_riding hand turn.answer) told
-  response_deliverable [] told port row is few names room at same = absurd cc
-  response_deliverable (mail ∷ rest) told port row is few names room at same =
-      deliverable carrying (answer_riding hand turn.answer) (response_answer_in (mail ∷ rest) riding start c) ports
-      told c port is.served.answer few room
-      (response_named riding old.entries (length ports) c mail.item names (below (response_block mail.item)
-      (length old.entries) _ row)) at same
+module _ {R K : Type 0} (riding : Riding R) (carrying : Carrying K) (m : Memory R K) (c : ℕ) where
+  pub oldest_request : (items : List (Mail (Request R) K)) → IsTrue (can_request_in items riding m c) →
+      HasOldest riding carrying (request_deed riding c) (λ p. p.requests) (λ p q. record p { requests = q }) c m items
+      (take_request_in items riding carrying m c) (request_answer_in items riding m c) (IsRequestTurn items riding m c)
+  oldest_request [] row = absurd cc
+  oldest_request (mail ∷ rest) row =
+      let within = below (request_block mail.item) (length m.home) _ row in
+      first_of riding carrying (request_deed riding c) (λ p. p.requests) (λ p q. record p { requests = q }) c mail rest
+      m within (λ names here. request_named riding m.home (length m.ports) c mail.item names within here)
 
-  -- core c's port is as it was found, and its link without the response
-  pub took_response : (s : System R K) (port : Port R K) (link : Queue (Mail (Response R) K))
-      (told : List (Port R K)) →
-      ◌≡◌ {A = System R K} (record { memory = start; rooms = old.rooms }) s → port ≡ get_or ports c port →
-      link.room ≡ port.responses.room →
-      link.items ≡ drop 1 port.responses.items → told ≡ slice_set ports c (record port { responses = link }) →
-      DoneFor (response_deed riding c) port.responses.items → c < length s.memory.ports →
-      IsTrue (can_respond_in (port_at carrying s.memory.ports c).responses.items riding s.memory c) →
-      HasTurned riding.fresh (end_at told) (take_response riding carrying s.memory c) new.rooms s.rooms
-      (IsResponseTurn (port_at carrying s.memory.ports c).responses.items riding s.memory c) turn
-  took_response s port link told seen found room items at is =
-      subst (λ (x : System R K). c < length x.memory.ports →
-      IsTrue (can_respond_in (port_at carrying x.memory.ports c).responses.items riding x.memory c) →
-      HasTurned riding.fresh (end_at told) (take_response riding carrying x.memory c) new.rooms x.rooms
-      (IsResponseTurn (port_at carrying x.memory.ports c).responses.items riding x.memory c) turn) seen
-      (λ within row.
-      let here : port ≡ port_at carrying ports c = found_at carrying ports c port found within in
-      response_turned (port_at carrying ports c).responses.items told row
-      (subst (λ (p : Port R K). DoneFor (response_deed riding c) p.responses.items) here is)
-      (lost (λ (p : Port R K). p.responses)
-      (λ (p : Port R K) (q : Queue (Mail (Response R) K)). record p { responses = q }) port link told here room items
-      at))
-
-  pub sends_for_response : (s : System R K) (port : Port R K) (link : Queue (Mail (Response R) K))
-      (told : List (Port R K)) →
-      ◌≡◌ {A = System R K} (record { memory = start; rooms = old.rooms }) s → port ≡ get_or ports c port →
-      told ≡ slice_set ports c (record port { responses = link }) →
-      DoneFor (response_deed riding c) port.responses.items → length s.memory.ports ≤ CORES_MAX →
-      c < length s.memory.ports → NamesFit s.memory →
-      IsTrue (can_respond_in (port_at carrying s.memory.ports c).responses.items riding s.memory c) →
-      HasRoomTo carrying (response_answer_in (port_at carrying s.memory.ports c).responses.items riding s.memory c)
-      s.memory.ports → CanDeliver carrying (answer_riding hand turn.answer) told
-  sends_for_response s port link told seen found at is =
-      subst (λ (x : System R K). length x.memory.ports ≤ CORES_MAX → c < length x.memory.ports → NamesFit x.memory →
-      IsTrue (can_respond_in (port_at carrying x.memory.ports c).responses.items riding x.memory c) →
-      HasRoomTo carrying (response_answer_in (port_at carrying x.memory.ports c).responses.items riding x.memory c)
-      x.memory.ports → CanDeliver carrying (answer_riding hand turn.answer) told) seen
-      (λ few within names row room.
-      let here : port ≡ port_at carrying ports c = found_at carrying ports c port found within in
-      response_deliverable (port_at carrying ports c).responses.items told (record port { responses = link }) row
-      (subst (λ (p : Port R K). DoneFor (response_deed riding c) p.responses.items) here is)
-      few names room at
-      (ap (λ (p : Port R K). p.messages) here))
+  pub oldest_response : (items : List (Mail (Response R) K)) → IsTrue (can_respond_in items riding m c) →
+      HasOldest riding carrying (response_deed riding c) (λ p. p.responses) (λ p q. record p { responses = q }) c m
+      items (take_response_in items riding carrying m c) (response_answer_in items riding m c)
+      (IsResponseTurn items riding m c)
+  oldest_response [] row = absurd cc
+  oldest_response (mail ∷ rest) row =
+      let within = below (response_block mail.item) (length m.home) _ row in
+      first_of riding carrying (response_deed riding c) (λ p. p.responses) (λ p q. record p { responses = q }) c mail
+      rest m within (λ names here. response_named riding m.home (length m.ports) c mail.item names within)

@@ -1,13 +1,13 @@
 -- One list is changed, or gets room.
-use Rattle.std.proofs.Common.{◌≡◌, ◌≢◌, ℕ, ◌+◌, ◌<◌, ◌≤◌, Bool, true, false, ◌&&◌, List, [], ◌∷◌, length, take, get_or}
-use Rattle.std.proofs.Common.{inl, inr, refl, sym, ap, subst, ◌∙◌, arith, zero}
+use Rattle.std.proofs.Common.{◌≡◌, ◌≢◌, ℕ, ◌+◌, ◌<◌, ◌≤◌, Bool, true, false, ◌&&◌, List, [], ◌∷◌, ◌++◌, length, take}
+use Rattle.std.proofs.Common.{get_or, inl, inr, refl, sym, ap, subst, ◌∙◌, arith, zero}
 use Rattle.std.proofs.Common.{suc, IsTrue}
 use Rattle.std.specs.Prelude.{map, slice_set}
 use Rattle.std.proofs.lemmas.List.{get_or-map, get_or-set_other, length-set, map-set, take_all, take_more_set}
 use Rattle.std.proofs.lemmas.List.Folds.{list_all-append}
 use Rattle.std.proofs.Math.Seq.{map-set_same}
 use Rattle.std.proofs.lemmas.Bool.{and_from, cases_eq}
-use Rattle.roomy_lists.specs.Lists.{Listed, OthersReady, are_ready, is_ready_at, items_at, items_in}
+use Rattle.roomy_lists.specs.Lists.{Listed, OthersReady, are_ready, is_ready_at, items_at, items_in, with_item}
 use Rattle.rtr_types.proofs.Truths.{is_true, true_is, both_true, first_true, second_true}
 
 -- nothing is known
@@ -35,6 +35,13 @@ module _ {T : Type 0} where
       items_in (slice_set all i new)
       ≡ slice_set (items_in all) i list
   changed all i new list is = map-set items_of all i new ∙ ap (λ (xs : List T). slice_set (items_in all) i xs) is
+
+  -- the list that was found at this place has one more item at its end
+  pub pushed : (all : List (Listed T)) (i : ℕ) (old new : Listed T) (item : T) → i < length all →
+      old ≡ get_or all i old → new.items ≡ old.items ++ item ∷ [] →
+      items_in (slice_set all i new) ≡ with_item (items_in all) i item
+  pushed all i old new item within is more = changed all i new (items_at all i ++ item ∷ [])
+      (more ∙ ap (λ (xs : List T). xs ++ item ∷ []) (found all i old within is))
 
   -- the others' rooms stay
   pub ready_elsewhere : (all : List (Listed T)) (i k : ℕ) (new : Listed T) → k ≢ i →

@@ -7,15 +7,12 @@ use Rattle.std.proofs.Common.{suc, arith, inl, inr, ◌⊎◌}
 use Rattle.std.specs.Prelude.{map, replicate}
 use Rattle.std.specs.List.{sum_by, range_with_len}
 use Rattle.std.proofs.Math.Nat.{mul-add}
-use Rattle.std.proofs.lemmas.Bool.{cases_eq, cases_lt}
-use Rattle.std.proofs.lemmas.Nat.{mul-le}
+use Rattle.std.proofs.lemmas.Bool.{cases_lt}
 use Rattle.std.proofs.lemmas.List.{get_or_past}
 use Rattle.std.proofs.lemmas.List.FromFn.{length-range_with_len}
 use Rattle.std.proofs.lemmas.List.Sums.{sum_by-cons}
 use Rattle.access_times.specs.Riding.{Riding, Carrying, none_riding, none_carrying}
 use Rattle.image_mem.specs.Contents.{Contents}
-use Rattle.rtr_types.specs.declared.TheConstants.{CORES_MAX}
-use Rattle.rtr_types.specs.declared.params.TheConstants.{INSTRUCTIONS_MAX}
 use Rattle.rtr_types.specs.declared.params.Params.{Params}
 use Rattle.rtr_types.specs.Parameters.{Fits}
 use Rattle.rv_core.proofs.LawLemmas.{start_law}
@@ -23,7 +20,8 @@ use Rattle.msi_cache.specs.Lines.{empty_line}
 use Rattle.rtr_types.specs.declared.TheConstants.{LINES}
 use Rattle.msi_memory.specs.declared.port.Port.{Port}
 use Rattle.msi_memory.specs.Memories.{no_port, port_at, port_start}
-use Rattle.machine_bound.proofs.Ends.{owed_start}
+pub use Rattle.machine_bound.proofs.Ends.{InRange}
+use Rattle.machine_bound.proofs.Ends.{few_steps, owed_start}
 use Rattle.tso_state.specs.declared.moves.Move.{Move}
 use Rattle.tso_state.specs.States.{PlainState, BufferedCore, all_done, buffered_start}
 use Rattle.tso_state.specs.Runs.{plain_moves, chosen, chosen_of, executed, stepped_by, opening_state, run, IsRunEnd}
@@ -36,7 +34,7 @@ use Rattle.tso_bound.specs.Bound.{capacity, core_cost, empty_worth, left, lines_
 use Rattle.tso_bound.specs.Bound.{total_earned, total_owed}
 use Rattle.tso_bound.specs.Ends.{most_steps, end_of}
 use Rattle.tso_bound.proofs.Capacity.{capacity_kept, total_earned_le}
-use Rattle.machine_bound.proofs.Ends.{IsFirst, first_is}
+use Rattle.machine_bound.proofs.Firsts.{FailsBefore, fails_before, first_passes, first_within, one_first}
 use Rattle.tso_bound.proofs.Ports.{still_port}
 use Rattle.tso_bound.proofs.Steps.{earns}
 use Rattle.tso_bound.proofs.Sums.{sum_at_most}
@@ -115,19 +113,18 @@ paid_all n (t ∷ cores) =
 
 -- ---- along a run
 
--- the parameters for which each state of a run has the invariant
-pub record InRange (params : Params) : Type 0 where
-  pub cores : params.cores ≤ CORES_MAX
-  pub limit : params.limit < 2 ^ 32
-
 -- where some move is enabled, a choice takes one
 chosen_none : (ms : List Move) (choice : ℕ) {X : Type 0} → 0 < length ms → chosen_of ms choice ≡ None → X
 chosen_none [] choice some e = absurd (omega arith)
 chosen_none (m ∷ ms) choice some e = absurd (cc)
 
+-- each core has ended after t choices
+abbrev pub is_over : Contents → Params → (choices : ℕ → ℕ) → (t : ℕ) → Bool
+is_over image params choices t = all_done (run image params choices t)
+
 -- the run is not yet at its end at any moment before this one
 abbrev pub NotBefore : Contents → Params → (choices : ℕ → ℕ) → (t : ℕ) → Type 0
-NotBefore image params choices t = (u : ℕ) → u < t → all_done (run image params choices u) ≡ false
+NotBefore image params choices t = FailsBefore (is_over image params choices) t
 
 pub run_holds : (image : Contents) (params : Params) (choices : ℕ → ℕ) (t : ℕ) → InRange params →
     TsoHolds none_riding none_carrying (run image params choices t)
@@ -227,36 +224,22 @@ ended_worth s h done =
 
 -- ---- the end
 
-found : (image : Contents) (params : Params) (choices : ℕ → ℕ) →
-    IsFirst (most_steps params) (λ t. all_done (run image params choices t)) 0 (end_of image params choices)
-unfolding end_of
-found image params choices = first_is (most_steps params) (λ t. all_done (run image params choices t)) 0
-
 end_first : (image : Contents) (params : Params) (choices : ℕ → ℕ) →
     NotBefore image params choices (end_of image params choices)
-end_first image params choices u lt = (found image params choices).before u (omega arith) lt
+unfolding end_of
+end_first image params choices = fails_before (most_steps params) (is_over image params choices)
 
 pub end_within : (image : Contents) (params : Params) (choices : ℕ → ℕ) →
     end_of image params choices ≤ most_steps params
-end_within image params choices = let le = (found image params choices).within in omega arith
+unfolding end_of
+end_within image params choices = first_within (most_steps params) (is_over image params choices)
 
 pub end_done : (image : Contents) (params : Params) (choices : ℕ → ℕ) → InRange params →
     all_done (run image params choices (end_of image params choices)) ≡ true
-end_done image params choices fits = by_test (all_done (run image params choices e)) refl
-  where
-    e : ℕ
-    e = end_of image params choices
-
-    still_more : all_done (run image params choices e) ≡ false → NotBefore image params choices (suc e)
-    still_more is u lt = elim (cases_eq u e)
-        [ inl same ↦ rw same is | inr other ↦ end_first image params choices u (omega arith) ]
-
-    by_test : (b : Bool) → all_done (run image params choices e) ≡ b → all_done (run image params choices e) ≡ true
-    by_test true is = is
-    by_test false is =
-        let le : suc e + left (run image params choices (suc e)) ≤ most_steps params =
-        left_within image params choices (suc e) fits (still_more is) in
-        (found image params choices).found (omega arith)
+unfolding end_of
+end_done image params choices fits =
+    first_passes (most_steps params) (is_over image params choices)
+    (λ t more. (let le = left_within image params choices t fits more in omega arith))
 
 pub run_ends : (image : Contents) (params : Params) (choices : ℕ → ℕ) → InRange params →
     IsRunEnd image params choices (end_of image params choices)
@@ -264,19 +247,12 @@ run_ends image params choices fits =
     record { done = end_done image params choices fits; first = end_first image params choices }
 
 -- a run has one end
-ends_alike : (image : Contents) (params : Params) (choices : ℕ → ℕ) (t u : ℕ) → IsRunEnd image params choices t →
-    IsRunEnd image params choices u → t ≤ u
-ends_alike image params choices t u one other =
-    elim (cases_lt u t) [ inr le ↦ le | inl lt ↦ absurd (let more = one.first u lt in let done = other.done in cc) ]
-
 pub one_end : (image : Contents) (params : Params) (choices : ℕ → ℕ) (t : ℕ) → InRange params →
     IsRunEnd image params choices t →
     t ≡ end_of image params choices
 one_end image params choices t fits end =
-    let it = run_ends image params choices fits in
-    let le = ends_alike image params choices t (end_of image params choices) end it in
-    let ge = ends_alike image params choices (end_of image params choices) t it end in
-    omega arith
+    one_first (is_over image params choices) t (end_of image params choices) end.done end.first
+    (end_done image params choices fits) (end_first image params choices)
 
 pub end_in_time : (image : Contents) (params : Params) (choices : ℕ → ℕ) → InRange params →
     end_of image params choices ≤ (2 * params.cores + 5) * executed
@@ -301,9 +277,4 @@ left_until_end image params choices t fits le =
     left_within image params choices t fits (λ u lt. end_first image params choices u (omega arith))
 
 pub most_steps_few : (params : Params) → Fits params → most_steps params < 2 ^ 32
-most_steps_few params fits =
-    let few = fits.cores in
-    let steps : most_steps params ≤ (2 * CORES_MAX + 5) * INSTRUCTIONS_MAX =
-    mul-le (2 * params.cores + 5) (params.cores * params.limit) (2 * CORES_MAX + 5) INSTRUCTIONS_MAX (omega arith)
-    fits.instructions in
-    omega arith
+most_steps_few params fits = few_steps 5 params fits (omega arith)

@@ -19,7 +19,6 @@ use Rattle.tso_state.specs.Steps.{acts_told}
 use Rattle.tso_core.specs.Machineries.{IsThere}
 use Rattle.tso_core.specs.Workings.{HasDone, HasLeft, HasTold, locals_of, popped, rider_in}
 use Rattle.tso_core.proofs.AtPort.{acts_here, port_acts, telling_here}
-use Rattle.tso_core.proofs.Telling.{carried}
 
 module _ {R K : Type 0} where
   -- ---- instructions without data leave what the cache holds
@@ -123,14 +122,11 @@ module _ {R K : Type 0} where
         }) left
 
   -- ---- what the clerk is told
-  told_carry : (riding : Riding R) (carrying : Carrying K) (c : ℕ) (rider : R) (list : List Told) (p : Port R K) →
-      (port_acts riding carrying (acts_told c rider list) p).carry ≡ carried carrying p.carry list
-  told_carry riding carrying c rider [] p = refl
-  told_carry riding carrying c rider (Alone at ∷ list) p =
-      told_carry riding carrying c rider list (port_retiring carrying p at)
-  told_carry riding carrying c rider (Ordered a ∷ list) p = told_carry riding carrying c rider list _
-  told_carry riding carrying c rider (Logged at word value ∷ list) p =
-      told_carry riding carrying c rider list (port_retiring carrying p at)
+  told_carry : (riding : Riding R) (carrying : Carrying K) (c : ℕ) (rider : R) (e : Told) (p : Port R K) →
+      (port_acts riding carrying (acts_told c rider (e ∷ [])) p).carry ≡ carrying.retired p.carry (instr_told e)
+  told_carry riding carrying c rider (Alone at) p = refl
+  told_carry riding carrying c rider (Ordered a) p = refl
+  told_carry riding carrying c rider (Logged at word value) p = refl
 
   carry_told : (riding : Riding R) (carrying : Carrying K) (old first next : State R K) (c : ℕ) (rider : R)
       (e : Told) → HasLeft old first c →
@@ -146,7 +142,7 @@ module _ {R K : Type 0} where
       ∙ ap (λ (n : Memory R K). (port_at carrying n.ports c).carry) (acts_here riding carrying m c
       (acts_told c rider (e ∷ [])) (telling_here c rider (e ∷ [])) there)
       ∙ ap (λ (q : Port R K). q.carry) (port_there carrying m c p there)
-      ∙ told_carry riding carrying c rider (e ∷ []) (port_at carrying m.ports c)
+      ∙ told_carry riding carrying c rider e (port_at carrying m.ports c)
       ∙ ap (λ (n : Memory R K). carrying.retired (port_at carrying n.ports c).carry (instr_told e)) same
 
   -- ---- what it is told behind the access that left

@@ -1,6 +1,6 @@
 -- What each move leaves of cores, ports and what is noted beside them.
 use Rattle.std.proofs.Common.{◌≡◌, ◌≢◌, ◌∙◌, refl, sym, subst, ap, ℕ, ◌<◌, ◌≤◌, true, List, length, get_or}
-use Rattle.std.proofs.Common.{arith}
+use Rattle.std.proofs.Common.{◌++◌, arith, Option}
 use Rattle.std.specs.Prelude.{slice_set}
 use Rattle.std.proofs.lemmas.List.{get_or_read, set-get_or}
 use Rattle.access_times.specs.Riding.{Riding, Carrying}
@@ -17,7 +17,8 @@ use Rattle.tso_state.specs.declared.moves.Move.TheVariants.{Request as RequestMo
 use Rattle.tso_state.specs.declared.moves.Move.TheVariants.{FromHome as MessageMove}
 use Rattle.tso_state.specs.Moves.{core_of}
 use Rattle.tso_state.specs.States.{BufferedCore, State, buffered_start, core_at}
-use Rattle.tso_state.specs.Steps.{acts, acts_told, can_order, core_left, enabled, event, head_access, step, told}
+use Rattle.tso_state.specs.Steps.{acts, acts_asking, acts_told, can_order, core_left, enabled, event, head_access, step}
+use Rattle.tso_state.specs.Steps.{told}
 use Rattle.tso_invariant.specs.Holds.{TsoHolds, is_asking}
 use Rattle.tso_invariant.proofs.Kept.{core_port, enabled_core, holds_kept, step_cores}
 use Rattle.tso_core.specs.declared.marks.Marks.{Marks}
@@ -29,6 +30,7 @@ use Rattle.tso_core.specs.Standings.{IsAtPort, NotesFit, OwnMarked, StandingsFit
 use Rattle.tso_core.specs.Workings.{MayAsk}
 use Rattle.rtr_types.specs.CoreSets.{has}
 use Rattle.rtr_types.specs.declared.TheConstants.{CORES_MAX}
+use Rattle.rtr_types.specs.declared.access.Kind.{Kind}
 use Rattle.move_marks.specs.declared.marks.MoveKind.{MoveKind}
 use Rattle.move_marks.specs.declared.marks.MoveKind.TheVariants.{Own, Response, FromHome}
 use Rattle.move_marks.specs.declared.marks.MoveMarks.{MoveMarks}
@@ -122,27 +124,31 @@ module _ {R K : Type 0} where
     pub moved : MovedAt s t c
     pub same : links moved.memory.ports.one ≡ links (port_at carrying s.memory.ports c)
 
+  own_moved : (riding : Riding R) (carrying : Carrying K) (rider : R) (s t : State R K) (m : Move)
+      (wanted : Option (Kind × ℕ)) (moved : MovedAt s t (core_of m)) →
+      moved.memory.ports.one ≡ port_acts riding carrying (acts_asking (core_of m) wanted (event riding carrying s m)
+      ++ acts_told (core_of m) rider (told riding carrying s m)) (port_at carrying s.memory.ports (core_of m)) →
+      OwnMoved carrying s t (core_of m)
+  own_moved riding carrying rider s t m wanted moved is =
+      record {
+        moved = moved;
+        same = ap links is ∙ own_links riding carrying (core_of m) rider wanted (event riding carrying s m)
+            (told riding carrying s m) (port_at carrying s.memory.ports (core_of m));
+      }
+
   pub core_moved : (riding : Riding R) (carrying : Carrying K) (rider : R) (s t : State R K) (c : ℕ) →
       c < length s.memory.ports → t ≡ step riding carrying rider s (CoreMove c) → OwnMoved carrying s t c
   unfolding core_moves moves_by
   core_moved riding carrying rider s t c port is =
-      record {
-        moved = core_moves riding carrying rider s t c port is;
-        same = own_links riding carrying c rider (need_access (need s.image (core_at s.cores c).core))
-            (event riding carrying s (CoreMove c)) (told riding carrying s (CoreMove c))
-            (port_at carrying s.memory.ports c);
-      }
+      own_moved riding carrying rider s t (CoreMove c) (need_access (need s.image (core_at s.cores c).core))
+      (core_moves riding carrying rider s t c port is) refl
 
   pub order_moved : (riding : Riding R) (carrying : Carrying K) (rider : R) (s t : State R K) (c : ℕ) →
       c < length s.memory.ports → t ≡ step riding carrying rider s (OrderMove c) → OwnMoved carrying s t c
   unfolding order_moves moves_by
   order_moved riding carrying rider s t c port is =
-      record {
-        moved = order_moves riding carrying rider s t c port is;
-        same = own_links riding carrying c rider (head_access (core_at s.cores c).queue)
-            (event riding carrying s (OrderMove c)) (told riding carrying s (OrderMove c))
-            (port_at carrying s.memory.ports c);
-      }
+      own_moved riding carrying rider s t (OrderMove c) (head_access (core_at s.cores c).queue)
+      (order_moves riding carrying rider s t c port is) refl
 
   -- ---- a move changes no requests but those of its own core
   requests_stay : (riding : Riding R) (carrying : Carrying K) (rider : R) (s : State R K) (m : Move) (d : ℕ) →

@@ -182,6 +182,7 @@ impl<R: Rider, K: Carry> BufferedMachine<R, K> {
     }
 
     /// The marks of the moves that can be made.
+    #[inline(always)]
     fn all_marks(&self) -> Marks
         ensures all { AllMarked R.riding K.carrying self.now.state result }
         ensures moves { marked result ≡ moves R.riding K.carrying self.now.state }

@@ -177,6 +177,7 @@ impl<R: Rider, K: Carry> Parts<R, K> {
     }
 
     /// The oldest pending access of core `c` leaves the queue with this access, which its port allows.
+    #[inline(always)]
     fn drain<C: TsoClerk<R, K>>(&mut self, c: u8, access: Access, clerk: &mut C)
         requires there { IsThere self.old.state c }
         requires allowed { IsTrue (allows R.riding (port_at K.carrying self.old.state.memory.ports c)

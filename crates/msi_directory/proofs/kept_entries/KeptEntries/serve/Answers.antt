@@ -4,15 +4,12 @@ use Rattle.msi_directory.proofs.Keeping.{changed_counted, done_at}
 use Rattle.msi_directory.proofs.kept_entries.KeptEntries.serve.Goals as goal
 
 pub invariant_of-self : goal.invariant_of-self
-invariant_of-self g c = (
-  changed_counted c.self.inside.stages c.self.inside.copies.items c.args.place _ c.serve-answer.new.self
-      c.self.invariant.0,
-  c.self.invariant.1,
-)
+invariant_of-self g c =
+    changed_counted c.self.inside.stages c.self.inside.copies.items c.args.place _ _ c.self.invariant
 
 pub returns : goal.returns
 returns g c =
-    done_at c.self.inside.stages c.self.inside.copies.items _ c.self.view_is c.args.place _ _
-    c.index_mut-stage.ensures.value (rw (← c.self.view_is) at c.requires.copy) c.index_mut.ensures.value
-    (request_deed g.R.Rider.riding c.args.from (request_seen c.args.request)) _ _ _ _
-    c.serve-answer.ensures.entry c.serve-answer.ensures.answer c.is_free-free.ensures
+    done_at (request_deed g.R.Rider.riding c.args.from (request_seen c.args.request)) c.self.inside.stages c.self.inside.copies.items _
+    c.self.view_is c.args.place _ _ c.index_mut-stage.ensures.value (rw (← c.self.view_is) at c.requires.copy)
+    c.index_mut.ensures.value _ _ _ _ c.serve-answer.ensures.entry c.serve-answer.ensures.answer
+    c.is_free-free.ensures

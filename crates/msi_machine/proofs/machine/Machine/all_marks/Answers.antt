@@ -1,9 +1,9 @@
 -- The request of the core that asked is looked at, and then all moves that can be made are marked.
 use Rattle.std.proofs.Common.{◌∙◌, subst}
 use Rattle.move_marks.specs.Ports.{PortsMarked}
-use Rattle.machine_invariant.specs.Holds.{MachineHolds}
 use Rattle.msi_state.specs.States.{Machinery}
 use Rattle.msi_machine.specs.Marks.{AllMarked}
+use Rattle.msi_machine.proofs.Choosing.{seen_holds}
 use Rattle.msi_machine.proofs.Renewed.{all_moves}
 use Rattle.msi_machine.proofs.machine.Machine.all_marks.Goals as goal
 
@@ -31,5 +31,4 @@ returns-clause-all g c =
 pub returns-clause-moves : goal.returns-clause-moves
 returns-clause-moves g c =
     all_moves g.R.Rider.riding g.K.Carry.carrying c.args.self.now.state _
-    (subst (λ (m : Machinery g.row.R.Denot g.row.K.Denot). MachineHolds g.R.Rider.riding g.K.Carry.carrying m.state)
-    c.self.view_is c.self.invariant.holds) (returns-clause-all g c)
+    (seen_holds g.R.Rider.riding g.K.Carry.carrying c.self.view_is c.self.invariant.holds) (returns-clause-all g c)

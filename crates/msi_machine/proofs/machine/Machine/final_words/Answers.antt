@@ -1,12 +1,12 @@
-use Rattle.std.proofs.Common.{◌≡◌, ◌∙◌, ap, sym, subst, ℕ, List}
+use Rattle.std.proofs.Common.{◌∙◌, ap, ℕ, List}
 use Rattle.std.specs.Prelude.{slice_index}
-use Rattle.machine_data.specs.Coherent.{Coherent}
 use Rattle.machine_data.proofs.Final.{final_current}
 use Rattle.machine_plain.proofs.Shows.{plain_words}
 use Rattle.machine_invariant.proofs.Ended.{links_left}
 use Rattle.msi_state.specs.FinalMemory.{final_words}
-use Rattle.msi_state.specs.States.{Machinery, State, all_done}
+use Rattle.msi_state.specs.States.{Machinery, all_done}
 use Rattle.msi_machine.proofs.AtHand.{ends_at_hand}
+use Rattle.msi_machine.proofs.Choosing.{seen_holds}
 use Rattle.msi_machine.proofs.machine.Machine.final_words.Goals as goal
 
 pub final_words-requires-clause-at_hand : goal.final_words-requires-clause-at_hand
@@ -31,17 +31,8 @@ returns-clause-plain g c = λ slot low.
 
 pub returns-clause-last : goal.returns-clause-last
 returns-clause-last g c = λ memory k slot low.
-    let same : c.self.inside.parts.state ≡ c.args.self.now.state =
-    ap (λ (m : Machinery g.row.R.Denot g.row.K.Denot). m.state) c.self.view_is in
-    let old : Coherent g.R.Rider.riding g.K.Carry.carrying c.self.inside.parts.state memory =
-    subst (λ (s : State g.row.R.Denot g.row.K.Denot). Coherent g.R.Rider.riding g.K.Carry.carrying s memory) (sym same)
-    k in
-    c.final_words.ensures slot low
-    ∙ ap (λ (m : Machinery g.row.R.Denot g.row.K.Denot). slice_index (final_words g.R.Rider.riding g.K.Carry.carrying
-    m.state c.args.block) slot)
-    c.parts.view_is
+    let holds = seen_holds g.R.Rider.riding g.K.Carry.carrying c.self.view_is c.self.invariant.holds in
+    returns-clause-value g c slot low
     ∙ ap (λ (words : List ℕ). slice_index words slot)
-    (final_current g.R.Rider.riding g.K.Carry.carrying c.self.inside.parts.state memory c.self.invariant.holds
-    (links_left g.R.Rider.riding g.K.Carry.carrying c.self.inside.parts.state c.self.invariant.holds (ap all_done same
-    ∙ c.requires.done)) old
-    c.args.block)
+    (final_current g.R.Rider.riding g.K.Carry.carrying c.args.self.now.state memory holds
+    (links_left g.R.Rider.riding g.K.Carry.carrying c.args.self.now.state holds c.requires.done) k c.args.block)

@@ -20,16 +20,14 @@ use Rattle.msi_state.specs.Steps.{enabled, event, moves, rider_left, step}
 use Rattle.msi_machine.specs.declared.standing.Standing.{Standing}
 use Rattle.msi_machine.specs.Steppings.{HasMoved, KeepsPromises}
 use Rattle.msi_machine.proofs.AtHand.{one_writer}
-use Rattle.msi_machine.proofs.Choosing.{found_enabled, numbered, plainly_chosen, taken_enabled}
+use Rattle.msi_machine.proofs.Choosing.{found_enabled, numbered, plainly_chosen, seen_holds, taken_enabled}
 use Rattle.msi_machine.proofs.Moves.{notes_kept}
 use Rattle.msi_machine.proofs.Standings.{standings_long}
 use Rattle.msi_machine.proofs.machine.Machine.step.Goals as goal
 
 pub nonzero_rem-choice : goal.nonzero_rem-choice
 nonzero_rem-choice g c =
-    let holds : MachineHolds g.R.Rider.riding g.K.Carry.carrying c.args.self.now.state =
-    subst (λ (m : Machinery g.row.R.Denot g.row.K.Denot). MachineHolds g.R.Rider.riding g.K.Carry.carrying m.state)
-    c.self.view_is c.self.invariant.holds in
+    let holds = seen_holds g.R.Rider.riding g.K.Carry.carrying c.self.view_is c.self.invariant.holds in
     subst (λ (n : ℕ). 0 < n) (sym (c.count.ensures ∙ ap length c.all_marks-marks.ensures.moves))
     (some_move g.R.Rider.riding g.K.Carry.carrying c.args.self.now.state holds c.requires.more)
 
@@ -71,9 +69,7 @@ invariant_of-self g c =
 pub returns-clause-taken : goal.returns-clause-taken
 returns-clause-taken g c =
     let s : State g.row.R.Denot g.row.K.Denot = c.args.self.now.state in
-    let holds : MachineHolds g.R.Rider.riding g.K.Carry.carrying s =
-    subst (λ (m : Machinery g.row.R.Denot g.row.K.Denot). MachineHolds g.R.Rider.riding g.K.Carry.carrying m.state)
-    c.self.view_is c.self.invariant.holds in
+    let holds = seen_holds g.R.Rider.riding g.K.Carry.carrying c.self.view_is c.self.invariant.holds in
     let some : 0 < length (moves g.R.Rider.riding g.K.Carry.carrying s) =
     some_move g.R.Rider.riding g.K.Carry.carrying s holds c.requires.more in
     let is : IsNumbered (moves g.R.Rider.riding g.K.Carry.carrying s) c.args.choice c.pick-taken.result =

@@ -1,41 +1,27 @@
 -- The home takes the request, and its answer goes on its way.
-use Rattle.std.proofs.Common.{arith, ◌∙◌, ap, List}
-use Rattle.msi_memory.specs.Acts.{take_request}
-use Rattle.msi_memory.specs.Memories.{Memory}
-use Rattle.msi_memory.specs.declared.port.Port.{Port}
-use Rattle.msi_memory.proofs.HomeTurns.{sends_for_request, took_request}
+use Rattle.std.proofs.Common.{arith, ◌∙◌, refl}
+use Rattle.msi_memory.proofs.HomeTurns.{oldest_request, sends, took}
 use Rattle.msi_memory.proofs.Served.{take_front}
 use Rattle.msi_memory.proofs.memory.MemorySystem.take_request.Goals as goal
 
 pub deliver-requires : goal.deliver-requires
 deliver-requires g c =
-    let sends =
-    sends_for_request g.R.Rider.riding g.K.Carry.carrying c.self.inside.ports.items c.self.inside.home _ _ _ _ _
-    c.args.core c.args.self.now c.index_mut.result.now c.serve-turn.new.requests _ c.self.view_is
-    c.index_mut.ensures.value c.as_mut_slice.ensures.value c.serve-turn.ensures.done c.requires.few c.requires.here
-    c.requires.names c.requires.row c.requires.room in
-    record { cores = sends.cores; room = sends.room; to = sends.to }
+    let can =
+    sends c.self.inside.ports.items c.self.inside.home _ _ _ _ _ c.args.self.now _ _ _ c.self.view_is
+    (oldest_request g.R.Rider.riding g.K.Carry.carrying _ c.args.core _ c.requires.row) c.requires.here
+    c.index_mut.ensures.value c.as_mut_slice.ensures.value c.serve-turn.ensures.done refl
+    c.requires.few c.requires.names c.requires.room in
+    record { cores = can.cores; room = can.room; to = can.to }
 
 pub returns : goal.returns
 returns g c =
-    let front = take_front c.self.inside.ports.len c.deliver.new.ports _ (omega (
+    let is =
+    took c.self.inside.ports.items c.self.inside.home _ _ _ _ _ c.args.self.now _ _ _ c.self.view_is
+    (oldest_request g.R.Rider.riding g.K.Carry.carrying _ c.args.core _ c.requires.row) c.requires.here
+    c.index_mut.ensures.value c.as_mut_slice.ensures.value c.serve-turn.ensures.done
+    (take_front c.self.inside.ports.len c.deliver.new.ports _ (omega (
       arith,
       c.as_mut_slice.ensures.len,
       c.deliver.auto.ports,
-    )) in
-    let with_ports : List (Port g.row.R.Denot g.row.K.Denot) → Memory g.row.R.Denot g.row.K.Denot =
-    λ ns. record { ports = ns; home = c.serve-turn.new.home.entries; carry = c.serve-turn.new.carry } in
-    let took =
-    took_request g.R.Rider.riding g.K.Carry.carrying c.self.inside.ports.items c.self.inside.home
-    c.serve-turn.new.home c.self.inside.carry c.serve-turn.new.carry c.serve-turn.new.hand c.serve-turn.result
-    c.args.core c.args.self.now c.index_mut.result.now c.serve-turn.new.requests c.as_mut_slice.result.now
-    c.self.view_is c.index_mut.ensures.value c.serve-turn.ensures.room c.serve-turn.ensures.items
-    c.as_mut_slice.ensures.value c.serve-turn.ensures.done c.requires.here c.requires.row in
-    record {
-      memory = ◌∙◌ {
-          c = take_request g.R.Rider.riding g.K.Carry.carrying c.args.self.now.memory c.args.core
-          } (ap with_ports (front ∙ c.deliver.ensures)) took.memory;
-      rooms = took.rooms;
-      turn = took.turn;
-      free = took.free;
-    }
+    )) ∙ c.deliver.ensures) c.serve-turn.ensures.room c.serve-turn.ensures.items in
+    record { memory = is.memory; rooms = is.rooms; turn = is.turn; free = is.free }

@@ -1,21 +1,17 @@
 -- No move can be made exactly where each core has ended.
-use Rattle.std.proofs.Common.{◌∙◌, sym, ap, length, subst}
+use Rattle.std.proofs.Common.{◌∙◌, sym, ap, length}
 use Rattle.rtr_types.proofs.Truths.{true_is}
 use Rattle.msi_laws.proofs.Final.{final_current}
 use Rattle.tso_state.specs.States.{State}
-use Rattle.tso_invariant.specs.Holds.{TsoHolds}
 use Rattle.tso_invariant.proofs.Ending.{links_left}
 use Rattle.tso_plain.proofs.Steps.{plain_done}
-use Rattle.tso_core.specs.Machineries.{Machinery}
-use Rattle.tso_core.proofs.Ended.{ends_by}
+use Rattle.tso_core.proofs.Ended.{ends_by, holds_seen}
 use Rattle.tso_core.proofs.machine.BufferedMachine.done.Goals as goal
 
 pub returns-clause-done : goal.returns-clause-done
 returns-clause-done g c =
     let s : State g.row.R.Denot g.row.K.Denot = c.args.self.now.state in
-    let holds : TsoHolds g.R.Rider.riding g.K.Carry.carrying s =
-    subst (λ (m : Machinery g.row.R.Denot g.row.K.Denot). TsoHolds g.R.Rider.riding g.K.Carry.carrying m.state)
-    c.self.view_is c.self.invariant.holds in
+    let holds = holds_seen g.R.Rider.riding g.K.Carry.carrying c.self.view_is c.self.invariant.holds in
     ends_by g.R.Rider.riding g.K.Carry.carrying s c.count.result holds (c.count.ensures
     ∙ ap length c.all_marks.ensures.moves)
 
@@ -25,16 +21,12 @@ returns-clause-plain g c = returns-clause-done g c ∙ plain_done c.args.self.no
 pub returns-clause-links : goal.returns-clause-links
 returns-clause-links g c = λ e.
     let s : State g.row.R.Denot g.row.K.Denot = c.args.self.now.state in
-    let holds : TsoHolds g.R.Rider.riding g.K.Carry.carrying s =
-    subst (λ (m : Machinery g.row.R.Denot g.row.K.Denot). TsoHolds g.R.Rider.riding g.K.Carry.carrying m.state)
-    c.self.view_is c.self.invariant.holds in
+    let holds = holds_seen g.R.Rider.riding g.K.Carry.carrying c.self.view_is c.self.invariant.holds in
     links_left g.R.Rider.riding g.K.Carry.carrying s holds (sym (returns-clause-done g c) ∙ true_is _ e)
 
 pub returns-clause-last : goal.returns-clause-last
 returns-clause-last g c = λ memory e k b.
     let s : State g.row.R.Denot g.row.K.Denot = c.args.self.now.state in
-    let holds : TsoHolds g.R.Rider.riding g.K.Carry.carrying s =
-    subst (λ (m : Machinery g.row.R.Denot g.row.K.Denot). TsoHolds g.R.Rider.riding g.K.Carry.carrying m.state)
-    c.self.view_is c.self.invariant.holds in
+    let holds = holds_seen g.R.Rider.riding g.K.Carry.carrying c.self.view_is c.self.invariant.holds in
     final_current g.R.Rider.riding g.K.Carry.carrying s.memory memory holds.memory
     (links_left g.R.Rider.riding g.K.Carry.carrying s holds (sym (returns-clause-done g c) ∙ true_is _ e)) k b

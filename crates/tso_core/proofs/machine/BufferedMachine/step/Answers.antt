@@ -22,6 +22,7 @@ use Rattle.tso_state.specs.Steps.{enabled, event, moves, step}
 use Rattle.tso_core.specs.declared.standing.Standing.{Standing}
 use Rattle.tso_core.specs.Steppings.{HasMoved, KeepsPromises}
 use Rattle.tso_core.proofs.AtHand.{one_writer}
+use Rattle.tso_core.proofs.Ended.{holds_seen}
 use Rattle.tso_core.proofs.Choosing.{found_chosen, found_enabled, numbered, plainly_chosen, taken_enabled}
 use Rattle.tso_core.proofs.Moves.{notes_kept}
 use Rattle.tso_core.proofs.Standings.{standings_long}
@@ -29,9 +30,7 @@ use Rattle.tso_core.proofs.machine.BufferedMachine.step.Goals as goal
 
 pub nonzero_rem-choice : goal.nonzero_rem-choice
 nonzero_rem-choice g c =
-    let holds : TsoHolds g.R.Rider.riding g.K.Carry.carrying c.args.self.now.state =
-    subst (λ (m : Machinery g.row.R.Denot g.row.K.Denot). TsoHolds g.R.Rider.riding g.K.Carry.carrying m.state)
-    c.self.view_is c.self.invariant.holds in
+    let holds = holds_seen g.R.Rider.riding g.K.Carry.carrying c.self.view_is c.self.invariant.holds in
     subst (λ (n : ℕ). 0 < n) (sym (c.count.ensures ∙ ap length c.all_marks-marks.ensures.moves))
     (some_move g.R.Rider.riding g.K.Carry.carrying c.args.self.now.state holds c.requires.more)
 
@@ -85,9 +84,7 @@ invariant_of-self g c =
 pub returns-clause-taken : goal.returns-clause-taken
 returns-clause-taken g c =
     let s : State g.row.R.Denot g.row.K.Denot = c.args.self.now.state in
-    let holds : TsoHolds g.R.Rider.riding g.K.Carry.carrying s =
-    subst (λ (m : Machinery g.row.R.Denot g.row.K.Denot). TsoHolds g.R.Rider.riding g.K.Carry.carrying m.state)
-    c.self.view_is c.self.invariant.holds in
+    let holds = holds_seen g.R.Rider.riding g.K.Carry.carrying c.self.view_is c.self.invariant.holds in
     let some : 0 < length (moves g.R.Rider.riding g.K.Carry.carrying s) =
     some_move g.R.Rider.riding g.K.Carry.carrying s holds c.requires.more in
     let is : IsNumbered (moves g.R.Rider.riding g.K.Carry.carrying s) c.args.choice c.pick-taken.result =

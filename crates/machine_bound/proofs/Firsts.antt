@@ -1,0 +1,81 @@
+-- The first moment at which a test passes: where it can't fail for long, there is one, and there is only one.
+use Rattle.std.proofs.Common.{◌≡◌, refl, ℕ, ◌+◌, ◌<◌, ◌≤◌, Bool, true, false, zero, suc, arith, inl, inr}
+use Rattle.std.specs.Prelude.{if◌then◌else◌}
+use Rattle.std.proofs.lemmas.Bool.{cases_eq, cases_lt}
+use Rattle.machine_bound.specs.Ends.{first_among}
+
+-- ---- the first number that passes a test
+
+record IsFirst (n : ℕ) (test : ℕ → Bool) (t u : ℕ) : Type 0 where
+  from : t ≤ u
+  within : u ≤ t + n
+  before : (v : ℕ) → t ≤ v → v < u → test v ≡ false
+  found : u < t + n → test u ≡ true
+
+first_is : (n : ℕ) (test : ℕ → Bool) (t : ℕ) → IsFirst n test t (first_among n test t)
+first_is zero test t = record {
+  from = omega arith;
+  within = omega arith;
+  before = λ v past lt. absurd (omega arith);
+  found = λ lt. absurd (omega arith);
+}
+first_is (suc n) test t = by_test (test t) refl (first_is n test (t + 1))
+  where
+    by_test : (b : Bool) → test t ≡ b → IsFirst n test (t + 1) (first_among n test (t + 1)) →
+        IsFirst (suc n) test t (if b then t else first_among n test (t + 1))
+    by_test true e rest = record {
+      from = omega arith;
+      within = omega arith;
+      before = λ v past lt. absurd (omega arith);
+      found = λ lt. e;
+    }
+    by_test false e rest =
+        record {
+          from = let le = rest.from in omega arith;
+          within = let le = rest.within in omega arith;
+          before = λ v past lt. elim (cases_eq v t) [
+            | inl same ↦ rw same e
+            | inr other ↦ rest.before v (omega arith) lt
+          ];
+          found = λ lt. rest.found (omega arith);
+        }
+
+-- ---- from the start on
+
+-- it passes at no moment before this one
+abbrev pub FailsBefore : (test : ℕ → Bool) → (t : ℕ) → Type 0
+FailsBefore test t = (u : ℕ) → u < t → test u ≡ false
+
+module _ (n : ℕ) (test : ℕ → Bool) where
+  pub fails_before : FailsBefore test (first_among n test 0)
+  fails_before u lt = (first_is n test 0).before u (omega arith) lt
+
+  pub first_within : first_among n test 0 ≤ n
+  first_within = let le = (first_is n test 0).within in omega arith
+
+  -- a test that fails at no more than n moments passes then
+  pub first_passes : ((t : ℕ) → FailsBefore test t → t ≤ n) → test (first_among n test 0) ≡ true
+  first_passes few = by_test (test e) refl
+    where
+      e : ℕ
+      e = first_among n test 0
+
+      still : test e ≡ false → FailsBefore test (suc e)
+      still is u lt = elim (cases_eq u e)
+          [ inl same ↦ rw same is | inr other ↦ fails_before u (omega arith) ]
+
+      by_test : (b : Bool) → test e ≡ b → test e ≡ true
+      by_test true is = is
+      by_test false is = let le = few (suc e) (still is) in (first_is n test 0).found (omega arith)
+
+not_after : (test : ℕ → Bool) (t u : ℕ) → FailsBefore test t → test u ≡ true → t ≤ u
+not_after test t u before passes =
+    elim (cases_lt u t) [ inr le ↦ le | inl lt ↦ absurd (let fails = before u lt in cc) ]
+
+-- two moments at which it first passes are one
+pub one_first : (test : ℕ → Bool) (t u : ℕ) → test t ≡ true → FailsBefore test t → test u ≡ true →
+    FailsBefore test u → t ≡ u
+one_first test t u passes before passes_too before_too =
+    let le = not_after test t u before passes_too in
+    let ge = not_after test u t before_too passes in
+    omega arith
