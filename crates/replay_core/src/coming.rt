@@ -12,7 +12,7 @@ ghost use Rattle.race_log.specs.Validity.{Valid};
 ghost use Rattle.replay_core.specs.Sources.{AreSources, sources_in};
 ghost use Rattle.replay_core.specs.Coming.{IsComing, IsNextInto, IsSource, IsSourceIn, IsStillNext, edge_of};
 
-use crate::next_edge::next_edge;
+use crate::next_edge::{Log, next_edge};
 use clock_core::Clock;
 use race_log::Recording;
 use rtr_types::{CORES_MAX, Instr, Which};
@@ -63,7 +63,7 @@ impl Coming {
             clear(sources);
             return;
         }
-        *sources = Some(self.pass(recording, which, at));
+        *sources = Some(self.pass(Log { recording, which }, at));
     }
 
     /// No edge to this count or a later one.
@@ -124,20 +124,22 @@ impl Coming {
 
     /// The sources of the instruction, each core's in turn. The edges go on to those to later ones.
     #[inline(never)]
-    fn pass(&mut self, recording: &Recording, which: Which, at: Instr) -> Clock
-        requires valid { Valid recording.now }
-        requires core { at.core < recording.now.params.cores }
+    fn pass(&mut self, log: Log, at: Instr) -> Clock
+        requires valid { Valid log.recording.now }
+        requires core { at.core < log.recording.now.params.cores }
         requires count { at.count < 2 ^ 32 - 1 }
-        requires coming { IsComing (log_edges which recording.now) at.core recording.now.params.cores self.old }
-        ensures sources { AreSources (log_edges which recording.now) at result }
-        ensures coming { IsComing (log_edges which recording.now) at.core recording.now.params.cores self.new }
+        requires coming { IsComing (log_edges log.which log.recording.now) at.core
+            log.recording.now.params.cores self.old }
+        ensures sources { AreSources (log_edges log.entry.which log.entry.recording.now) at result }
+        ensures coming { IsComing (log_edges log.entry.which log.entry.recording.now) at.core
+            log.entry.recording.now.params.cores self.new }
     {
         let mut found = Clock::zero();
         self.due = u32::MAX;
-        for of in 0..recording.params.cores {
+        for of in 0..log.recording.params.cores {
             if of != at.core {
                 let mut place = self.places[of as usize];
-                let Step { source, next } = self.step(recording, which, of, at, &mut place);
+                let Step { source, next } = self.step(log, of, at, &mut place);
                 self.put(of, next, place);
                 match source {
                     Some(count) => found.set(of, count),
@@ -150,30 +152,24 @@ impl Coming {
     }
 
     /// The instruction's source on a core, and the core's next edge to a later instruction, with the guess.
-    fn step(
-        &self,
-        recording: &Recording,
-        which: Which,
-        of: u8,
-        at: Instr,
-        place: &mut usize,
-    ) -> Step
-        requires valid { Valid recording.now }
-        requires pair { IsPair recording.now.params.cores of at.core }
+    fn step(&self, log: Log, of: u8, at: Instr, place: &mut usize) -> Step
+        requires valid { Valid log.recording.now }
+        requires pair { IsPair log.recording.now.params.cores of at.core }
         requires count { at.count < 2 ^ 32 - 1 }
-        requires coming { IsNextInto (log_edges which recording.now) of (instr at.core self.now.from)
+        requires coming { IsNextInto (log_edges log.which log.recording.now) of (instr at.core self.now.from)
             (edge_of self.now of) }
-        ensures source { IsSource (log_edges which recording.now) of at result.source }
-        ensures next { IsNextInto (log_edges which recording.now) of (instr at.core (at.count + 1)) result.next }
+        ensures source { IsSource (log_edges log.entry.which log.entry.recording.now) of at result.source }
+        ensures next { IsNextInto (log_edges log.entry.which log.entry.recording.now) of
+            (instr at.core (at.count + 1)) result.next }
     {
-        let next = self.next(recording, which, of, at, place);
+        let next = self.next(log, of, at, place);
         match source_in(next, at.count) {
             Some(count) => {
                 let later = Instr {
                     core: at.core,
                     count: at.count + 1,
                 };
-                let next = next_edge(recording, which, of, later, place);
+                let next = next_edge(log, of, later, place);
                 Step {
                     source: Some(count),
                     next,
@@ -185,23 +181,16 @@ impl Coming {
 
     /// The first edge from a core to the instruction or a later one: the one that is known, if it is still
     /// to come.
-    fn next(
-        &self,
-        recording: &Recording,
-        which: Which,
-        of: u8,
-        at: Instr,
-        place: &mut usize,
-    ) -> Option<(u32, u32)>
-        requires valid { Valid recording.now }
-        requires pair { IsPair recording.now.params.cores of at.core }
-        requires coming { IsNextInto (log_edges which recording.now) of (instr at.core self.now.from)
+    fn next(&self, log: Log, of: u8, at: Instr, place: &mut usize) -> Option<(u32, u32)>
+        requires valid { Valid log.recording.now }
+        requires pair { IsPair log.recording.now.params.cores of at.core }
+        requires coming { IsNextInto (log_edges log.which log.recording.now) of (instr at.core self.now.from)
             (edge_of self.now of) }
-        ensures { IsNextInto (log_edges which recording.now) of at result }
+        ensures { IsNextInto (log_edges log.entry.which log.entry.recording.now) of at result }
     {
         match self.known(of, at.count) {
             Some(edge) => edge,
-            None => next_edge(recording, which, of, at, place),
+            None => next_edge(log, of, at, place),
         }
     }
 }

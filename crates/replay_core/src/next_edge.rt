@@ -13,23 +13,24 @@ use race_log::Recording;
 use rtr_types::{Instr, Which};
 use stride_vector::StrideVector;
 
+/// One of a recording's logs.
+#[derive(Clone, Copy)]
+pub(crate) struct Log<'a> {
+    pub(crate) recording: &'a Recording,
+    pub(crate) which: Which,
+}
+
 /// The first edge of the log from core `of` to `at` or a later instruction of its core: the source's count
 /// and the target's. It is looked up in the pair's list, whose counts rise. An edge of the reduced log is
 /// looked for at a guess first, which becomes the place after it.
-pub fn next_edge(
-    recording: &Recording,
-    which: Which,
-    of: u8,
-    at: Instr,
-    guess: &mut usize,
-) -> Option<(u32, u32)>
-    requires valid { Valid recording.now }
-    requires pair { IsPair recording.now.params.cores of at.core }
-    ensures { IsNextInto (log_edges which recording.now) of at result }
+pub(crate) fn next_edge(log: Log, of: u8, at: Instr, guess: &mut usize) -> Option<(u32, u32)>
+    requires valid { Valid log.recording.now }
+    requires pair { IsPair log.recording.now.params.cores of at.core }
+    ensures { IsNextInto (log_edges log.entry.which log.entry.recording.now) of at result }
 {
-    match which {
-        Which::Reduced => first_edge(recording.reduced_between(of, at.core), at.count, guess),
-        Which::Regulated => first_position(recording.regulated_between(of, at.core), at.count),
+    match log.which {
+        Which::Reduced => first_edge(log.recording.reduced_between(of, at.core), at.count, guess),
+        Which::Regulated => first_position(log.recording.regulated_between(of, at.core), at.count),
     }
 }
 

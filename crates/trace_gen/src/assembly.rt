@@ -1,5 +1,6 @@
 //! The instructions that the programs are made of, written as an assembler writes them.
 ghost use Rattle.std.specs.Prelude.{◌≡◌};
+ghost use Rattle.rv_decode.specs.declared.op.Op.TheVariants.{AluImm, Branch, Store};
 ghost use Rattle.trace_gen.specs.Assembly as spec;
 
 use rv_decode::{Alu, Cond, Op, Width};
@@ -38,36 +39,21 @@ pub const X13: u8 = 13;
 pub fn addi(rd: u8, rs1: u8, imm: i32) -> Op
     ensures { result ≡ spec.addi rd rs1 imm }
 {
-    Op::AluImm {
-        alu: Alu::Add,
-        rd,
-        rs1,
-        imm,
-    }
+    alu_immediate(Alu::Add, rd, rs1, imm)
 }
 
 /// XORI: `rd` becomes `rs1` combined with `imm`, -2048 to 2047, by exclusive or.
 pub fn xori(rd: u8, rs1: u8, imm: i32) -> Op
     ensures { result ≡ spec.xori rd rs1 imm }
 {
-    Op::AluImm {
-        alu: Alu::Xor,
-        rd,
-        rs1,
-        imm,
-    }
+    alu_immediate(Alu::Xor, rd, rs1, imm)
 }
 
 /// SLLI: `rd` becomes `rs1` shifted left by `imm`, 0 to 31.
 pub fn slli(rd: u8, rs1: u8, imm: i32) -> Op
     ensures { result ≡ spec.slli rd rs1 imm }
 {
-    Op::AluImm {
-        alu: Alu::Sll,
-        rd,
-        rs1,
-        imm,
-    }
+    alu_immediate(Alu::Sll, rd, rs1, imm)
 }
 
 /// LW: `rd` becomes the word at `rs1` plus `imm`.
@@ -86,44 +72,55 @@ pub fn lw(rd: u8, imm: i32, rs1: u8) -> Op
 pub fn sw(rs2: u8, imm: i32, rs1: u8) -> Op
     ensures { result ≡ spec.sw rs2 imm rs1 }
 {
-    Op::Store {
-        width: Width::Word,
-        rs1,
-        rs2,
-        imm,
-    }
+    store(Width::Word, rs2, imm, rs1)
 }
 
 /// SB: the byte at `rs1` plus `imm` becomes the lowest of `rs2`.
 pub fn sb(rs2: u8, imm: i32, rs1: u8) -> Op
     ensures { result ≡ spec.sb rs2 imm rs1 }
 {
-    Op::Store {
-        width: Width::Byte,
-        rs1,
-        rs2,
-        imm,
-    }
+    store(Width::Byte, rs2, imm, rs1)
 }
 
 /// BEQ: to the instruction `offset` bytes on where the two registers are equal.
 pub fn beq(rs1: u8, rs2: u8, offset: i32) -> Op
     ensures { result ≡ spec.beq rs1 rs2 offset }
 {
-    Op::Branch {
-        cond: Cond::Eq,
-        rs1,
-        rs2,
-        offset,
-    }
+    branch(Cond::Eq, rs1, rs2, offset)
 }
 
 /// BNE: to the instruction `offset` bytes on where the two registers differ.
 pub fn bne(rs1: u8, rs2: u8, offset: i32) -> Op
     ensures { result ≡ spec.bne rs1 rs2 offset }
 {
+    branch(Cond::Ne, rs1, rs2, offset)
+}
+
+/// `rd` becomes `rs1` combined with `imm`.
+fn alu_immediate(alu: Alu, rd: u8, rs1: u8, imm: i32) -> Op
+    ensures { result ≡ AluImm alu rd rs1 imm }
+{
+    Op::AluImm { alu, rd, rs1, imm }
+}
+
+/// The lowest bytes of `rs2` are stored at `rs1` plus `imm`.
+fn store(width: Width, rs2: u8, imm: i32, rs1: u8) -> Op
+    ensures { result ≡ Store width rs1 rs2 imm }
+{
+    Op::Store {
+        width,
+        rs1,
+        rs2,
+        imm,
+    }
+}
+
+/// To the instruction `offset` bytes on where the two registers stand so to each other.
+fn branch(cond: Cond, rs1: u8, rs2: u8, offset: i32) -> Op
+    ensures { result ≡ Branch cond rs1 rs2 offset }
+{
     Op::Branch {
-        cond: Cond::Ne,
+        cond,
         rs1,
         rs2,
         offset,

@@ -9,18 +9,18 @@ use Rattle.replay_core.proofs.next_edge.next_edge.Goals as goal
 
 pub returns-in-Reduced : goal.returns-in-Reduced
 returns-in-Reduced c =
-    let place = pair_place c.args.recording.now.params.cores c.args.of c.args.at.core in
-    next_into c.args.which c.args.recording.now c.args.of c.args.at c.reduced_between.result.now c.first_edge.result
-    c.requires.pair
+    let place = pair_place c.args.log.recording.now.params.cores c.args.of c.args.at.core in
+    next_into c.args.log.which c.args.log.recording.now c.args.of c.args.at c.reduced_between.result.now
+    c.first_edge.result c.requires.pair
     (c.reduced_between.ensures.edges
-    ∙ sym (ap (λ (w : Which). edges_of_pair w c.args.recording.now place) c.in-Reduced.is))
+    ∙ sym (ap (λ (w : Which). edges_of_pair w c.args.log.recording.now place) c.in-Reduced.is))
     c.first_edge.ensures
 
 pub returns-in-Regulated : goal.returns-in-Regulated
 returns-in-Regulated c =
-    let place = pair_place c.args.recording.now.params.cores c.args.of c.args.at.core in
-    next_into c.args.which c.args.recording.now c.args.of c.args.at
+    let place = pair_place c.args.log.recording.now.params.cores c.args.of c.args.at.core in
+    next_into c.args.log.which c.args.log.recording.now c.args.of c.args.at
     (flat_map edges_of c.regulated_between.result.now) c.first_position.result c.requires.pair
     (c.regulated_between.ensures.edges
-    ∙ sym (ap (λ (w : Which). edges_of_pair w c.args.recording.now place) c.in-Regulated.is))
+    ∙ sym (ap (λ (w : Which). edges_of_pair w c.args.log.recording.now place) c.in-Regulated.is))
     c.first_position.ensures

@@ -9,19 +9,19 @@ use Rattle.replay_core.proofs.coming.Coming.pass.Goals as goal
 use Rattle.replay_core.proofs.coming.Coming.pass.Goals.{then-of-at+in-Some, then-of-at+in-None, else-of-at}
 
 pub loop-of-init : goal.loop-of-init
-loop-of-init c = pass_start (log_edges c.args.which c.args.recording.now) c.args.at c.zero-found.result c.args.self.now
-    _ c.zero-found.ensures refl refl
+loop-of-init c = pass_start (log_edges c.args.log.which c.args.log.recording.now) c.args.at c.zero-found.result
+    c.args.self.now _ c.zero-found.ensures refl refl
 
 pub step-source-requires-clause-coming : goal.step-source-requires-clause-coming
 step-source-requires-clause-coming c =
-    pass_known c.args.which c.args.recording.now c.requires.valid c.args.at c.loop-of.of c.loop-of.found c.args.self.now
-    c.loop-of.self c.loop-of.invariant
-    c.requires.coming (omega (arith, c.loop-of-test.true)) c.if-of-at.true
+    pass_known c.args.log.which c.args.log.recording.now c.requires.valid c.args.at c.loop-of.of c.loop-of.found
+    c.args.self.now c.loop-of.self c.loop-of.invariant c.requires.coming
+    (omega (arith, c.loop-of-test.true)) c.if-of-at.true
 
 pub loop-of-preserved : goal.loop-of-preserved
 loop-of-preserved c =
-    let which = c.args.which in
-    let r = c.args.recording.now in
+    let which = c.args.log.which in
+    let r = c.args.log.recording.now in
     let valid = c.requires.valid in
     let old = c.args.self.now in
     let moved = λ (s t : List ℕ) (k m : Coming) (s_is : s ≡ t)
@@ -54,12 +54,12 @@ loop-of-preserved c =
 
 pub returns-clause-sources : goal.returns-clause-sources
 returns-clause-sources c =
-    passed_sources c.args.which c.args.recording.now c.requires.valid c.args.at c.loop-of.of c.loop-of.found
+    passed_sources c.args.log.which c.args.log.recording.now c.requires.valid c.args.at c.loop-of.of c.loop-of.found
     c.args.self.now c.loop-of.self
     c.loop-of.invariant (let f = c.loop-of-test.false in omega arith)
 
 pub returns-clause-coming : goal.returns-clause-coming
 returns-clause-coming c =
-    passed_coming c.args.which c.args.recording.now c.requires.valid c.args.at c.loop-of.of c.loop-of.found
+    passed_coming c.args.log.which c.args.log.recording.now c.requires.valid c.args.at c.loop-of.of c.loop-of.found
     c.args.self.now c.loop-of.self
     c.loop-of.invariant (let f = c.loop-of-test.false in omega arith)

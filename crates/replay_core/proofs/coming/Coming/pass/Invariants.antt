@@ -4,4 +4,4 @@ use Rattle.replay_core.proofs.Awaited.{PassedTo}
 use Rattle.replay_core.proofs.coming.Coming.pass.Given as goal
 
 abbrev pub invariant-loop-of : goal.invariant-loop-of
-invariant-loop-of l = PassedTo (log_edges l.fn.which l.recording) l.fn.at l.of l.found l.fn.self l.self
+invariant-loop-of l = PassedTo (log_edges l.fn.log.which l.fn.log.recording.now) l.fn.at l.of l.found l.fn.self l.self
