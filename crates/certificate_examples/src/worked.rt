@@ -9,16 +9,10 @@ use min_certificate::{
     spell_certificate,
 };
 use replay_audit::{AuditFault, Audited, audit};
+use row_texts::HANDED_OVER_REDUCED;
 use rtr_types::{Edge, Instr, Which};
 use std::alloc::Global;
 use std::test::Fail;
-
-/// Two cores that store to word 16 and load it in turn: 0:3 before 1:2, and 1:3 before 0:4.
-const IN_TURN: &[u8] = &[
-    0x52, 0x54, 0x52, 1, 2, 0x90, 0x4e, 0x20, 0x20, 0x63, 0x1a, 5, 0, 0x93, 2, 0x70, 0, 0x23, 0x20,
-    0x50, 4, 3, 0x23, 0, 4, 0x73, 0, 0, 0, 0x83, 0x23, 0, 4, 0x23, 0x20, 0xa0, 4, 0x73, 0, 0, 0, 5,
-    4, 1, 2, 3, 1, 4, 3, 0, 0,
-];
 
 /// Three cores: 1:3 loads word 16, 1:4 stores word 32, 2:4 loads word 32, 2:5 loads word 16, 0:4 stores
 /// word 16. The edge from 1:3 to 0:4 is implied by those from 1:4 to 2:4 and from 2:5 to 0:4.
@@ -69,7 +63,7 @@ struct Certified {
 
 static CERTIFIED: [Certified; 3] = [
     Certified {
-        recording: IN_TURN,
+        recording: &HANDED_OVER_REDUCED,
         answer: Ok(&[2, 3, 0, 4, 3, 2, 3, 2, 3, 3]),
     },
     Certified {
@@ -127,12 +121,12 @@ struct Checked {
 
 static CHECKED: [Checked; 4] = [
     Checked {
-        recording: IN_TURN,
+        recording: &HANDED_OVER_REDUCED,
         clocks: &[2, 3, 0, 4, 3, 2, 3, 2, 3, 3],
         answer: Ok(()),
     },
     Checked {
-        recording: IN_TURN,
+        recording: &HANDED_OVER_REDUCED,
         clocks: &[2, 3, 0, 4, 2, 2, 3, 2, 3, 3],
         answer: Err(CheckFault::Failed(CheckFailure::BadClock { core: 0, entry: 2 })),
     },

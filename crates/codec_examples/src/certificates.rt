@@ -6,6 +6,7 @@ use crate::bytes::joined;
 use certificate_codec::{CLOCKS, Certificate, END, EdgeEnds, read_certificate, spell_certificate};
 use log_codec::{CodecFault, REGULATED, fits_old, spell, spell_v1};
 use race_log::Recording;
+use row_texts::HANDED_OVER_REDUCED;
 use rtr_types::{Edge, Instr};
 use std::alloc::{AllocError, Global};
 use std::test::Fail;
@@ -123,15 +124,7 @@ fn where_edges_end(rt: HostRuntime) -> Result<(), Fail> {
     Ok(())
 }
 
-/// Two cores that hand a word over and back, in version 1: 0:3 stores to word 16 before 1:2 loads it, and 1:3
-/// stores to it before 0:4 loads it.
-const HANDED_OVER_OLD: &[u8] = &[
-    0x52, 0x54, 0x52, 1, 2, 0x90, 0x4e, 0x20, 0x20, 0x63, 0x1a, 5, 0, 0x93, 2, 0x70, 0, 0x23, 0x20,
-    0x50, 4, 3, 0x23, 0, 4, 0x73, 0, 0, 0, 0x83, 0x23, 0, 4, 0x23, 0x20, 0xa0, 4, 0x73, 0, 0, 0, 5,
-    4, 1, 2, 3, 1, 4, 3, 0, 0,
-];
-
-/// The same in version 2.
+/// `HANDED_OVER_REDUCED`, a recording in version 1, in version 2.
 const HANDED_OVER: &[u8] = &[
     0x52, 0x54, 0x52, 2, 2, 0x90, 0x4e, 0x20, 0x20, 0x63, 0x1a, 5, 0, 0x93, 2, 0x70, 0, 0x23, 0x20,
     0x50, 4, 3, 0x23, 0, 4, 0x73, 0, 0, 0, 0x83, 0x23, 0, 4, 0x23, 0x20, 0xa0, 4, 0x73, 0, 0, 0, 5,
@@ -162,11 +155,11 @@ fn has_both_spellings(
 #[test]
 fn a_certificate_in_version_1(rt: HostRuntime) -> Result<(), Fail> {
     let alloc = rt.alloc();
-    let old = joined(alloc, HANDED_OVER_OLD, HANDED_OVER_CLOCKS)?;
+    let old = joined(alloc, &HANDED_OVER_REDUCED, HANDED_OVER_CLOCKS)?;
     let new = joined(alloc, HANDED_OVER, HANDED_OVER_CLOCKS)?;
     let certificate = read_certificate(alloc, &old)?;
     assert!(rt; is_spelled(alloc, &certificate, &new)?);
     let recording = &certificate.recording;
-    assert!(rt; has_both_spellings(alloc, recording, HANDED_OVER_OLD, HANDED_OVER)?);
+    assert!(rt; has_both_spellings(alloc, recording, &HANDED_OVER_REDUCED, HANDED_OVER)?);
     Ok(())
 }

@@ -144,8 +144,7 @@ fn spelled(alloc: Global, version: u8, row: &Worked) -> Result<Vec<u8>, AllocErr
 fn is_new(alloc: Global, recording: &Recording, bytes: &[u8]) -> Result<bool, AllocError>
     requires { Valid recording.now }
 {
-    let again = spell(alloc, recording)?;
-    Ok(again.as_slice() == bytes)
+    Ok(spell(alloc, recording)?.as_slice() == bytes)
 }
 
 // Whether the recording is within the limits of version 1 and spelled so in it.
@@ -155,8 +154,7 @@ fn is_old(alloc: Global, recording: &Recording, bytes: &[u8]) -> Result<bool, Al
     if !fits_old(&recording.params) {
         return Ok(false);
     }
-    let again = spell_v1(alloc, recording)?;
-    Ok(again.as_slice() == bytes)
+    Ok(spell_v1(alloc, recording)?.as_slice() == bytes)
 }
 
 // Whether what is read from bytes is spelled so in version 2.

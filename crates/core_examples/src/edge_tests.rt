@@ -20,28 +20,52 @@ const EDGES: [u32; 5] = [0, 1, ONES, MOST, TOP];
 // What an operation leaves, by its left and then by its right operand.
 type Table = [[u32; 5]; 5];
 
-macro_rules! edges {
-    ($op:path: $([$($word:tt)+])+) => { ($op, [$([$($word),+]),+]) };
+macro_rules! table {
+    ($([$($word:tt)+])+) => { [$([$($word),+]),+] };
 }
 
-const RESULTS: [(Alu, Table); 10] = [
-    edges!(Alu::Add: [0 1 ONES MOST TOP] [1 2 0 TOP 0x8000_0001] [ONES 0 0xffff_fffe 0x7fff_fffe MOST]
+// What the arithmetic or logical instruction leaves in x3, by x1 and then by x2.
+macro_rules! results {
+    ($alu:ident: $($rows:tt)+) => {
+        (Op::AluReg { alu: Alu::$alu, rd: 3, rs1: 1, rs2: 2 }, table!($($rows)+))
+    };
+}
+
+// What the atomic memory operation leaves in its word, by the word's old value and then by x2.
+macro_rules! exchanges {
+    ($op:ident: $($rows:tt)+) => {
+        (Op::Amo { op: AmoOp::$op, rd: 3, rs1: 1, rs2: 2 }, table!($($rows)+))
+    };
+}
+
+const RESULTS: [(Op, Table); 10] = [
+    results!(Add: [0 1 ONES MOST TOP] [1 2 0 TOP 0x8000_0001] [ONES 0 0xffff_fffe 0x7fff_fffe MOST]
         [MOST TOP 0x7fff_fffe 0xffff_fffe ONES] [TOP 0x8000_0001 MOST ONES 0]),
-    edges!(Alu::Sub: [0 ONES 1 0x8000_0001 TOP] [1 0 2 0x8000_0002 0x8000_0001] [ONES 0xffff_fffe 0 TOP MOST]
+    results!(Sub: [0 ONES 1 0x8000_0001 TOP] [1 0 2 0x8000_0002 0x8000_0001] [ONES 0xffff_fffe 0 TOP MOST]
         [MOST 0x7fff_fffe TOP 0 ONES] [TOP MOST 0x8000_0001 1 0]),
-    edges!(Alu::Sll: [0 0 0 0 0] [1 2 TOP TOP 1] [ONES 0xffff_fffe TOP TOP ONES] [MOST 0xffff_fffe TOP TOP MOST]
+    results!(Sll: [0 0 0 0 0] [1 2 TOP TOP 1] [ONES 0xffff_fffe TOP TOP ONES] [MOST 0xffff_fffe TOP TOP MOST]
         [TOP 0 0 0 TOP]),
-    edges!(Alu::Slt: [0 1 0 1 0] [0 0 0 1 0] [1 1 0 1 0] [0 0 0 0 0] [1 1 1 1 0]),
-    edges!(Alu::Sltu: [0 1 1 1 1] [0 0 1 1 1] [0 0 0 0 0] [0 0 1 0 1] [0 0 1 0 0]),
-    edges!(Alu::Xor: [0 1 ONES MOST TOP] [1 0 0xffff_fffe 0x7fff_fffe 0x8000_0001] [ONES 0xffff_fffe 0 TOP MOST]
+    results!(Slt: [0 1 0 1 0] [0 0 0 1 0] [1 1 0 1 0] [0 0 0 0 0] [1 1 1 1 0]),
+    results!(Sltu: [0 1 1 1 1] [0 0 1 1 1] [0 0 0 0 0] [0 0 1 0 1] [0 0 1 0 0]),
+    results!(Xor: [0 1 ONES MOST TOP] [1 0 0xffff_fffe 0x7fff_fffe 0x8000_0001] [ONES 0xffff_fffe 0 TOP MOST]
         [MOST 0x7fff_fffe TOP 0 ONES] [TOP 0x8000_0001 MOST ONES 0]),
-    edges!(Alu::Srl: [0 0 0 0 0] [1 0 0 0 1] [ONES MOST 1 1 ONES] [MOST 0x3fff_ffff 0 0 MOST]
+    results!(Srl: [0 0 0 0 0] [1 0 0 0 1] [ONES MOST 1 1 ONES] [MOST 0x3fff_ffff 0 0 MOST]
         [TOP 0x4000_0000 1 1 TOP]),
-    edges!(Alu::Sra: [0 0 0 0 0] [1 0 0 0 1] [ONES ONES ONES ONES ONES] [MOST 0x3fff_ffff 0 0 MOST]
+    results!(Sra: [0 0 0 0 0] [1 0 0 0 1] [ONES ONES ONES ONES ONES] [MOST 0x3fff_ffff 0 0 MOST]
         [TOP 0xc000_0000 ONES ONES TOP]),
-    edges!(Alu::Or: [0 1 ONES MOST TOP] [1 1 ONES MOST 0x8000_0001] [ONES ONES ONES ONES ONES]
+    results!(Or: [0 1 ONES MOST TOP] [1 1 ONES MOST 0x8000_0001] [ONES ONES ONES ONES ONES]
         [MOST MOST ONES MOST ONES] [TOP 0x8000_0001 ONES ONES TOP]),
-    edges!(Alu::And: [0 0 0 0 0] [0 1 1 1 0] [0 1 ONES MOST TOP] [0 1 MOST MOST 0] [0 0 TOP 0 TOP]),
+    results!(And: [0 0 0 0 0] [0 1 1 1 0] [0 1 ONES MOST TOP] [0 1 MOST MOST 0] [0 0 TOP 0 TOP]),
+];
+
+const EXCHANGES: [(Op, Table); 4] = [
+    exchanges!(Min: [0 0 ONES 0 TOP] [0 1 ONES 1 TOP] [ONES ONES ONES ONES TOP] [0 1 ONES MOST TOP]
+        [TOP TOP TOP TOP TOP]),
+    exchanges!(Max: [0 1 0 MOST 0] [1 1 1 MOST 1] [0 1 ONES MOST ONES] [MOST MOST MOST MOST MOST]
+        [0 1 ONES MOST TOP]),
+    exchanges!(Minu: [0 0 0 0 0] [0 1 1 1 1] [0 1 ONES MOST TOP] [0 1 MOST MOST MOST] [0 1 TOP MOST TOP]),
+    exchanges!(Maxu: [0 1 ONES MOST TOP] [1 1 ONES MOST TOP] [ONES ONES ONES ONES ONES] [MOST MOST ONES MOST TOP]
+        [TOP TOP ONES TOP TOP]),
 ];
 
 // The image of this instruction alone.
@@ -67,43 +91,6 @@ fn result_of(rt: &impl Abort, image: &Image, x1: u32, x2: u32) -> u32 {
     core.reg(3)
 }
 
-fn results_are(rt: &impl Abort, image: &Image, results: &Table) {
-    for (left, row) in EDGES.iter().zip(results.iter()) {
-        for (right, want) in EDGES.iter().zip(row.iter()) {
-            assert_eq!(rt;
-                result_of(rt, image, *left, *right),
-                *want,
-                "{left:x} and {right:x}"
-            );
-        }
-    }
-}
-
-#[test]
-fn operations_at_the_edges(rt: HostRuntime) -> Result<(), Fail> {
-    for (alu, results) in RESULTS.iter() {
-        let op = Op::AluReg {
-            alu: *alu,
-            rd: 3,
-            rs1: 1,
-            rs2: 2,
-        };
-        results_are(&rt, &image_of(&rt, rt.alloc(), &op)?, results);
-    }
-    Ok(())
-}
-
-// What an atomic memory operation leaves, by the word's old value and then by rs2.
-const EXCHANGES: [(AmoOp, Table); 4] = [
-    edges!(AmoOp::Min: [0 0 ONES 0 TOP] [0 1 ONES 1 TOP] [ONES ONES ONES ONES TOP] [0 1 ONES MOST TOP]
-        [TOP TOP TOP TOP TOP]),
-    edges!(AmoOp::Max: [0 1 0 MOST 0] [1 1 1 MOST 1] [0 1 ONES MOST ONES] [MOST MOST MOST MOST MOST]
-        [0 1 ONES MOST TOP]),
-    edges!(AmoOp::Minu: [0 0 0 0 0] [0 1 1 1 1] [0 1 ONES MOST TOP] [0 1 MOST MOST MOST] [0 1 TOP MOST TOP]),
-    edges!(AmoOp::Maxu: [0 1 ONES MOST TOP] [1 1 ONES MOST TOP] [ONES ONES ONES ONES ONES] [MOST MOST ONES MOST TOP]
-        [TOP TOP ONES TOP TOP]),
-];
-
 // What the operation leaves in the word at 4 that had `old`, where x2 is the value.
 fn left_of(rt: &impl Abort, image: &Image, old: u32, value: u32) -> u32 {
     let mut core = core_with(4, value);
@@ -113,28 +100,32 @@ fn left_of(rt: &impl Abort, image: &Image, old: u32, value: u32) -> u32 {
     left
 }
 
-fn exchanges_are(rt: &impl Abort, image: &Image, exchanges: &Table) {
-    for (old, row) in EDGES.iter().zip(exchanges.iter()) {
-        for (value, want) in EDGES.iter().zip(row.iter()) {
-            assert_eq!(rt;
-                left_of(rt, image, *old, *value),
-                *want,
-                "{old:x} and {value:x}"
-            );
+fn table_is(rt: &impl Abort, alloc: Global, op: &Op, table: &Table) -> Result<(), Fail> {
+    let image = image_of(rt, alloc, op)?;
+    for (left, row) in EDGES.iter().zip(table.iter()) {
+        for (right, want) in EDGES.iter().zip(row.iter()) {
+            let found = match op {
+                Op::Amo { .. } => left_of(rt, &image, *left, *right),
+                _ => result_of(rt, &image, *left, *right),
+            };
+            assert_eq!(rt; found, *want, "{left:x} and {right:x}");
         }
     }
+    Ok(())
+}
+
+#[test]
+fn operations_at_the_edges(rt: HostRuntime) -> Result<(), Fail> {
+    for (op, results) in RESULTS.iter() {
+        table_is(&rt, rt.alloc(), op, results)?;
+    }
+    Ok(())
 }
 
 #[test]
 fn exchanges_at_the_edges(rt: HostRuntime) -> Result<(), Fail> {
     for (op, exchanges) in EXCHANGES.iter() {
-        let amo = Op::Amo {
-            op: *op,
-            rd: 3,
-            rs1: 1,
-            rs2: 2,
-        };
-        exchanges_are(&rt, &image_of(&rt, rt.alloc(), &amo)?, exchanges);
+        table_is(&rt, rt.alloc(), op, exchanges)?;
     }
     Ok(())
 }

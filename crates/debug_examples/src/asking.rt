@@ -1,10 +1,11 @@
 //! What is asked of the word that three cores hand on.
-use crate::recordings::{Counts, cut_of, three};
+use crate::recordings::{cut_of, three};
 use cut_replay::has_instr;
 use race_queries::{
     conflicts_of, edges_into, edges_out_of, history, last_write, leads_to, reads_since,
 };
 use replay_audit::Audited;
+use row_texts::Counts;
 use rtr_types::{Access, Instr, Which};
 use std::alloc::{AllocError, Global};
 use std::test::Fail;

@@ -6,7 +6,7 @@ ghost use Rattle.cut_replay.specs.ClosedCuts.{IsCutOf};
 use log_codec::read;
 use race_log::Recording;
 use replay_audit::{Audited, audit};
-use row_texts::HANDED_ON;
+use row_texts::{Counts, HANDED_ON};
 use rtr_types::{CORES_MAX, Cut, Which};
 use std::alloc::Global;
 use std::test::Fail;
@@ -17,34 +17,6 @@ const PLACES: usize = CORES_MAX as usize;
 /// The three cores' recording, audited by one of its logs.
 pub(crate) fn three(alloc: Global, which: Which) -> Result<Audited, Fail> {
     Ok(audit(alloc, read(alloc, &HANDED_ON)?, which)?)
-}
-
-/// How many instructions of each of three cores a cut has.
-#[derive(Clone, Copy, PartialEq, Eq)]
-pub(crate) struct Counts {
-    pub(crate) first: u32,
-    pub(crate) second: u32,
-    pub(crate) third: u32,
-}
-
-impl Counts {
-    /// These counts.
-    pub(crate) fn new(first: u32, second: u32, third: u32) -> Counts {
-        Counts {
-            first,
-            second,
-            third,
-        }
-    }
-
-    /// The cut's counts.
-    pub(crate) fn of(cut: &Cut) -> Counts {
-        Counts {
-            first: cut.counts[0],
-            second: cut.counts[1],
-            third: cut.counts[2],
-        }
-    }
 }
 
 /// The cut with these counts, closed or not, where the recording is of three cores and they are within its totals.

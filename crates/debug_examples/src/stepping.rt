@@ -1,9 +1,10 @@
 //! Moves of three cores.
-use crate::recordings::{Counts, cut_of, three};
+use crate::recordings::{cut_of, three};
 use cut_moves::{earliest, hull, intersection, latest, step, step_back, union};
 use replay_audit::Audited;
+use row_texts::Counts;
 use rtr_types::Which;
-use std::alloc::AllocError;
+use std::alloc::{AllocError, Global};
 use std::test::Fail;
 
 /// The least closed cut with these counts, by its counts.
@@ -71,34 +72,64 @@ fn hulls(rt: HostRuntime) -> Result<(), Fail> {
     Ok(())
 }
 
-// A step alone, one that another core has to go before, and one that two have to.
+/// Which way a core goes.
+enum Way {
+    Forward,
+    Backward,
+}
+
+/// A step of a core by one of the logs: from which counts, and to which, if the core can take it.
+struct Move {
+    which: Which,
+    way: Way,
+    core: u8,
+    from: Counts,
+    to: Option<Counts>,
+}
+
+macro_rules! counts {
+    ($first:literal $second:literal $third:literal) => {
+        Counts { first: $first, second: $second, third: $third }
+    };
+}
+
+macro_rules! step {
+    ($which:ident $way:ident $core:literal from $from:expr => $to:expr) => {
+        Move { which: Which::$which, way: Way::$way, core: $core, from: $from, to: $to }
+    };
+}
+
+static STEPS: [Move; 10] = [
+    // A step alone, one that another core has to go before, and one that two have to.
+    step!(Reduced Forward 0 from counts!(0 1 1) => Some(counts!(1 1 1))),
+    step!(Reduced Forward 1 from counts!(0 1 1) => Some(counts!(3 2 1))),
+    step!(Reduced Forward 1 from counts!(3 2 0) => Some(counts!(3 3 2))),
+    step!(Reduced Forward 0 from counts!(5 0 0) => None),
+    // A step back alone, and one that others have to go back for.
+    step!(Reduced Backward 0 from counts!(5 4 4) => Some(counts!(4 4 4))),
+    step!(Reduced Backward 1 from counts!(5 4 4) => Some(counts!(5 3 4))),
+    step!(Reduced Backward 0 from counts!(3 2 1) => Some(counts!(2 1 1))),
+    step!(Reduced Backward 0 from counts!(0 1 1) => None),
+    // The regulated log asks for more.
+    step!(Regulated Backward 1 from counts!(5 4 4) => Some(counts!(4 3 4))),
+    step!(Regulated Forward 0 from counts!(4 3 3) => Some(counts!(5 4 4))),
+];
+
+/// Whether the step of the row comes to where the row says.
+fn is_taken(alloc: Global, row: &Move) -> Result<bool, Fail> {
+    let audited = three(alloc, row.which)?;
+    let to = match row.way {
+        Way::Forward => forward(&audited, row.from, row.core)?,
+        Way::Backward => backward(&audited, row.from, row.core)?,
+    };
+    Ok(to == row.to)
+}
+
 #[test]
 fn steps(rt: HostRuntime) -> Result<(), Fail> {
-    let audited = three(rt.alloc(), Which::Reduced)?;
-    assert!(rt; forward(&audited, Counts::new(0, 1, 1), 0)? == at(1, 1, 1));
-    assert!(rt; forward(&audited, Counts::new(0, 1, 1), 1)? == at(3, 2, 1));
-    assert!(rt; forward(&audited, Counts::new(3, 2, 0), 1)? == at(3, 3, 2));
-    assert!(rt; forward(&audited, Counts::new(5, 0, 0), 0)? == None);
-    Ok(())
-}
-
-// A step back alone, and one that others have to go back for.
-#[test]
-fn steps_back(rt: HostRuntime) -> Result<(), Fail> {
-    let audited = three(rt.alloc(), Which::Reduced)?;
-    assert!(rt; backward(&audited, Counts::new(5, 4, 4), 0)? == at(4, 4, 4));
-    assert!(rt; backward(&audited, Counts::new(5, 4, 4), 1)? == at(5, 3, 4));
-    assert!(rt; backward(&audited, Counts::new(3, 2, 1), 0)? == at(2, 1, 1));
-    assert!(rt; backward(&audited, Counts::new(0, 1, 1), 0)? == None);
-    Ok(())
-}
-
-// The regulated log asks for more.
-#[test]
-fn by_the_regulated_log(rt: HostRuntime) -> Result<(), Fail> {
-    let audited = three(rt.alloc(), Which::Regulated)?;
-    assert!(rt; backward(&audited, Counts::new(5, 4, 4), 1)? == at(4, 3, 4));
-    assert!(rt; forward(&audited, Counts::new(4, 3, 3), 0)? == at(5, 4, 4));
+    for row in &STEPS {
+        assert!(rt; is_taken(rt.alloc(), row)?);
+    }
     Ok(())
 }
 

@@ -3,10 +3,11 @@ ghost use Rattle.std.specs.Prelude.{◌≡◌, IfOk, IfSome};
 ghost use Rattle.replay_core.specs.Plans.{plan_of};
 ghost use Rattle.cut_replay.specs.ClosedCuts.{IsClosed};
 
-use crate::recordings::{Counts, cut_of, three};
+use crate::recordings::{cut_of, three};
 use cut_moves::{hull, step, timeline, way};
 use replay_audit::Audited;
 use replay_core::{Advanced, Replay};
+use row_texts::Counts;
 use rtr_types::{Cut, Kind, Which};
 use std::alloc::{AllocError, Global};
 use std::test::Fail;
@@ -23,26 +24,16 @@ fn rounds(rt: HostRuntime) -> Result<(), Fail> {
     Ok(())
 }
 
-/// Whether the core, which is ready, retires its next instruction.
-fn retires(replay: &mut Replay, core: u8) -> Result<bool, AllocError>
-    ensures { replay.new.plan ≡ replay.old.plan }
-{
-    if core >= replay.cores() {
-        return Ok(false);
-    }
-    replay.make_room()?;
-    if !replay.has_room() || !replay.ready(core) {
-        return Ok(false);
-    }
-    Ok(replay.advance(core) != Advanced::Short)
-}
-
 /// Whether the cores, each of them ready in its turn, retire their next instructions in this order.
 fn retire(replay: &mut Replay, order: &[u8]) -> Result<bool, AllocError>
     ensures { replay.new.plan ≡ replay.old.plan }
 {
     for &core in order {
-        if !retires(replay, core)? {
+        replay.make_room()?;
+        if core >= replay.cores() || !replay.has_room() || !replay.ready(core) {
+            return Ok(false);
+        }
+        if replay.advance(core) == Advanced::Short {
             return Ok(false);
         }
     }

@@ -13,4 +13,6 @@ mod plain_rows;
 #[cfg(test)]
 mod reply_tests;
 #[cfg(test)]
+mod rows;
+#[cfg(test)]
 mod server_tests;

@@ -1,204 +1,53 @@
 //! Packets whose meaning has a list: threads that go on, and commands.
+use crate::rows::{Asked, Row};
 use gdb_packets::{Action, Thread};
 
-/// A packet's payload, and the actions that it asks for.
-pub struct Resume {
-    pub payload: &'static str,
-    pub actions: &'static [Action],
+/// A packet with the actions that it asks for: each whether it is one step, and who takes it.
+macro_rules! resumes {
+    ($payload:literal => $(($step:literal, $who:expr)),*) => {
+        Row { payload: $payload, asks: Asked::Resume(&[$(Action { step: $step, who: $who }),*]) }
+    };
 }
 
-/// A packet's payload, and the command that it has.
-pub struct Command {
-    pub payload: &'static str,
-    pub text: &'static str,
+/// A packet with its command.
+macro_rules! commands {
+    ($payload:literal => $text:literal) => {
+        Row { payload: $payload, asks: Asked::Command($text) }
+    };
 }
 
 /// What the sessions have, each once, and one more.
-pub static RESUMES: [Resume; 10] = [
-    Resume {
-        payload: "vCont;C0b:2;c",
-        actions: &[
-            Action {
-                step: false,
-                who: Thread::Core(1),
-            },
-            Action {
-                step: false,
-                who: Thread::All,
-            },
-        ],
-    },
-    Resume {
-        payload: "vCont;c",
-        actions: &[Action {
-            step: false,
-            who: Thread::All,
-        }],
-    },
-    Resume {
-        payload: "vCont;c:2",
-        actions: &[Action {
-            step: false,
-            who: Thread::Core(1),
-        }],
-    },
-    Resume {
-        payload: "vCont;s:1",
-        actions: &[Action {
-            step: true,
-            who: Thread::Core(0),
-        }],
-    },
-    Resume {
-        payload: "vCont;s:1;c",
-        actions: &[
-            Action {
-                step: true,
-                who: Thread::Core(0),
-            },
-            Action {
-                step: false,
-                who: Thread::All,
-            },
-        ],
-    },
-    Resume {
-        payload: "vCont;s:2",
-        actions: &[Action {
-            step: true,
-            who: Thread::Core(1),
-        }],
-    },
-    Resume {
-        payload: "vCont;s:2;c",
-        actions: &[
-            Action {
-                step: true,
-                who: Thread::Core(1),
-            },
-            Action {
-                step: false,
-                who: Thread::All,
-            },
-        ],
-    },
-    Resume {
-        payload: "vCont;s:3",
-        actions: &[Action {
-            step: true,
-            who: Thread::Core(2),
-        }],
-    },
-    Resume {
-        payload: "vCont;s:4",
-        actions: &[Action {
-            step: true,
-            who: Thread::Core(3),
-        }],
-    },
-    Resume {
-        payload: "vCont;S05:-1;c:2",
-        actions: &[
-            Action {
-                step: true,
-                who: Thread::All,
-            },
-            Action {
-                step: false,
-                who: Thread::Core(1),
-            },
-        ],
-    },
-];
-
-/// Packets that ask for neither, though they begin so.
-pub static MALFORMED: [&str; 12] = [
-    "vCont;",
-    "vCont;;c",
-    "vCont;c;",
-    "vCont;t",
-    "vCont;r10,20",
-    "vCont;C",
-    "vCont;Cx",
-    "vCont;c:",
-    "vCont;s:x",
-    "qRcmd,6",
-    "qRcmd,6x",
-    "qRcmd,6c6}",
+pub static RESUMES: [Row; 10] = [
+    resumes!("vCont;C0b:2;c" => (false, Thread::Core(1)), (false, Thread::All)),
+    resumes!("vCont;c" => (false, Thread::All)),
+    resumes!("vCont;c:2" => (false, Thread::Core(1))),
+    resumes!("vCont;s:1" => (true, Thread::Core(0))),
+    resumes!("vCont;s:1;c" => (true, Thread::Core(0)), (false, Thread::All)),
+    resumes!("vCont;s:2" => (true, Thread::Core(1))),
+    resumes!("vCont;s:2;c" => (true, Thread::Core(1)), (false, Thread::All)),
+    resumes!("vCont;s:3" => (true, Thread::Core(2))),
+    resumes!("vCont;s:4" => (true, Thread::Core(3))),
+    resumes!("vCont;S05:-1;c:2" => (true, Thread::All), (false, Thread::Core(1))),
 ];
 
 /// The commands that the sessions have, each once.
-pub static COMMANDS: [Command; 18] = [
-    Command {
-        payload: "qRcmd,636f6e666c6963747320323a3333",
-        text: "conflicts 2:33",
-    },
-    Command {
-        payload: "qRcmd,637574",
-        text: "cut",
-    },
-    Command {
-        payload: "qRcmd,6561726c696573742032",
-        text: "earliest 2",
-    },
-    Command {
-        payload: "qRcmd,656467657320323a3333",
-        text: "edges 2:33",
-    },
-    Command {
-        payload: "qRcmd,656467657320333a313031",
-        text: "edges 3:101",
-    },
-    Command {
-        payload: "qRcmd,676f746f20312031203230302031",
-        text: "goto 1 1 200 1",
-    },
-    Command {
-        payload: "qRcmd,676f746f203120322033",
-        text: "goto 1 2 3",
-    },
-    Command {
-        payload: "qRcmd,676f746f20333a313030",
-        text: "goto 3:100",
-    },
-    Command {
-        payload: "qRcmd,686973746f727920307831303938",
-        text: "history 0x1098",
-    },
-    Command {
-        payload: "qRcmd,6c61746573742032",
-        text: "latest 2",
-    },
-    Command {
-        payload: "qRcmd,6c6561642031",
-        text: "lead 1",
-    },
-    Command {
-        payload: "qRcmd,6c65616420616c6c",
-        text: "lead all",
-    },
-    Command {
-        payload: "qRcmd,6e6f6e73656e7365",
-        text: "nonsense",
-    },
-    Command {
-        payload: "qRcmd,6f7264657220303a333020313a3630",
-        text: "order 0:30 1:60",
-    },
-    Command {
-        payload: "qRcmd,6f7264657220313a3820303a3535",
-        text: "order 1:8 0:55",
-    },
-    Command {
-        payload: "qRcmd,726561646572732034333434",
-        text: "readers 4344",
-    },
-    Command {
-        payload: "qRcmd,77726974657220307831306630",
-        text: "writer 0x10f0",
-    },
-    Command {
-        payload: "qRcmd,7772697465722034333434",
-        text: "writer 4344",
-    },
+pub static COMMANDS: [Row; 18] = [
+    commands!("qRcmd,636f6e666c6963747320323a3333" => "conflicts 2:33"),
+    commands!("qRcmd,637574" => "cut"),
+    commands!("qRcmd,6561726c696573742032" => "earliest 2"),
+    commands!("qRcmd,656467657320323a3333" => "edges 2:33"),
+    commands!("qRcmd,656467657320333a313031" => "edges 3:101"),
+    commands!("qRcmd,676f746f20312031203230302031" => "goto 1 1 200 1"),
+    commands!("qRcmd,676f746f203120322033" => "goto 1 2 3"),
+    commands!("qRcmd,676f746f20333a313030" => "goto 3:100"),
+    commands!("qRcmd,686973746f727920307831303938" => "history 0x1098"),
+    commands!("qRcmd,6c61746573742032" => "latest 2"),
+    commands!("qRcmd,6c6561642031" => "lead 1"),
+    commands!("qRcmd,6c65616420616c6c" => "lead all"),
+    commands!("qRcmd,6e6f6e73656e7365" => "nonsense"),
+    commands!("qRcmd,6f7264657220303a333020313a3630" => "order 0:30 1:60"),
+    commands!("qRcmd,6f7264657220313a3820303a3535" => "order 1:8 0:55"),
+    commands!("qRcmd,726561646572732034333434" => "readers 4344"),
+    commands!("qRcmd,77726974657220307831306630" => "writer 0x10f0"),
+    commands!("qRcmd,7772697465722034333434" => "writer 4344"),
 ];

@@ -1,83 +1,80 @@
 //! What packets ask.
-use crate::list_rows::{COMMANDS, MALFORMED, RESUMES};
-use crate::plain_rows::{OTHERS, Row, SESSIONS};
-use gdb_packets::{Action, Ask, Plain, ask_of};
+use crate::list_rows::{COMMANDS, RESUMES};
+use crate::plain_rows::{MALFORMED, OTHERS, POINTS, SESSIONS, UNKNOWN};
+use crate::rows::{Asked, Row};
+use gdb_packets::{Ask, Plain, Span, ask_of};
 use std::alloc::{AllocError, Global};
 use std::test::Fail;
 
-/// Whether the packet of a row asks what the row says.
-fn is_right(alloc: Global, row: &Row) -> Result<bool, AllocError> {
-    Ok(match ask_of(alloc, row.payload.as_bytes())? {
-        Ask::Plain(asks) => asks == row.asks,
-        Ask::Resume(_) | Ask::Command(_) => false,
+/// Whether the packet asks this.
+fn is_right(alloc: Global, payload: &str, asks: &Asked) -> Result<bool, AllocError> {
+    Ok(match (ask_of(alloc, payload.as_bytes())?, asks) {
+        (Ask::Plain(found), Asked::Plain(wanted)) => found == *wanted,
+        (Ask::Resume(found), Asked::Resume(actions)) => found.as_slice() == *actions,
+        (Ask::Command(found), Asked::Command(text)) => found.as_slice() == text.as_bytes(),
+        _ => false,
     })
 }
 
-/// Whether the packet asks for these actions.
-fn acts(alloc: Global, payload: &str, actions: &[Action]) -> Result<bool, AllocError> {
-    Ok(match ask_of(alloc, payload.as_bytes())? {
-        Ask::Resume(found) => found.as_slice() == actions,
-        Ask::Command(_) | Ask::Plain(_) => false,
-    })
-}
-
-/// Whether the packet has this command.
-fn commands(alloc: Global, payload: &str, text: &str) -> Result<bool, AllocError> {
-    Ok(match ask_of(alloc, payload.as_bytes())? {
-        Ask::Command(found) => found.as_slice() == text.as_bytes(),
-        Ask::Resume(_) | Ask::Plain(_) => false,
-    })
-}
-
-/// Whether the packet is malformed.
-fn is_malformed(alloc: Global, payload: &str) -> Result<bool, AllocError> {
-    Ok(matches!(
-        ask_of(alloc, payload.as_bytes())?,
-        Ask::Plain(Plain::Malformed)
-    ))
+/// The first packet that asks something else than its row says.
+fn first_wrong(alloc: Global, rows: &[Row]) -> Result<&'static str, AllocError> {
+    for row in rows {
+        if !is_right(alloc, row.payload, &row.asks)? {
+            return Ok(row.payload);
+        }
+    }
+    Ok("none")
 }
 
 #[test]
-fn the_packets_of_the_sessions_ask_what_gdb_means(rt: HostRuntime) -> Result<(), Fail> {
-    for row in &SESSIONS {
-        let right = is_right(rt.alloc(), row)?;
-        assert!(rt; right, "{}", row.payload);
+fn packets_ask_what_gdb_means(rt: HostRuntime) -> Result<(), Fail> {
+    assert_eq!(rt; first_wrong(rt.alloc(), &SESSIONS)?, "none");
+    assert_eq!(rt; first_wrong(rt.alloc(), &OTHERS)?, "none");
+    // Threads go on by their actions, and commands are their digits.
+    assert_eq!(rt; first_wrong(rt.alloc(), &RESUMES)?, "none");
+    assert_eq!(rt; first_wrong(rt.alloc(), &COMMANDS)?, "none");
+    Ok(())
+}
+
+#[test]
+fn packets_may_be_malformed_or_unknown(rt: HostRuntime) -> Result<(), Fail> {
+    let malformed = Asked::Plain(Plain::Malformed);
+    for payload in MALFORMED {
+        assert!(rt; is_right(rt.alloc(), payload, &malformed)?, "{payload}");
+    }
+    let unknown = Asked::Plain(Plain::Unknown);
+    for payload in UNKNOWN {
+        assert!(rt; is_right(rt.alloc(), payload, &unknown)?, "{payload}");
     }
     Ok(())
 }
 
 #[test]
-fn other_packets_are_known_malformed_or_unknown(rt: HostRuntime) -> Result<(), Fail> {
-    for row in &OTHERS {
-        let right = is_right(rt.alloc(), row)?;
-        assert!(rt; right, "{}", row.payload);
-    }
-    Ok(())
-}
-
-#[test]
-fn threads_go_on_by_their_actions(rt: HostRuntime) -> Result<(), Fail> {
-    for row in &RESUMES {
-        let right = acts(rt.alloc(), row.payload, row.actions)?;
-        assert!(rt; right, "{}", row.payload);
-    }
-    Ok(())
-}
-
-#[test]
-fn commands_are_their_digits(rt: HostRuntime) -> Result<(), Fail> {
-    for row in &COMMANDS {
-        let right = commands(rt.alloc(), row.payload, row.text)?;
-        assert!(rt; right, "{}", row.payload);
-    }
-    Ok(())
-}
-
-#[test]
-fn actions_and_commands_may_be_malformed(rt: HostRuntime) -> Result<(), Fail> {
-    for payload in &MALFORMED {
-        let malformed = is_malformed(rt.alloc(), payload)?;
-        assert!(rt; malformed, "{payload}");
+fn points_are_set_and_cleared(rt: HostRuntime) -> Result<(), Fail> {
+    let alloc = rt.alloc();
+    for point in &POINTS {
+        let span = Span {
+            at: point.at,
+            len: 4,
+        };
+        let set = format!(in alloc; "Z{}", point.packet)?;
+        assert!(rt;
+            is_right(
+                alloc,
+                &set,
+                &Asked::Plain(Plain::SetPoint(point.kind, span))
+            )?,
+            "{set}"
+        );
+        let cleared = format!(in alloc; "z{}", point.packet)?;
+        assert!(rt;
+            is_right(
+                alloc,
+                &cleared,
+                &Asked::Plain(Plain::ClearPoint(point.kind, span))
+            )?,
+            "{cleared}"
+        );
     }
     Ok(())
 }

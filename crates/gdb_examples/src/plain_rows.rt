@@ -1,20 +1,9 @@
 //! Packets that were sent in real sessions of gdb 13.1, and a few beside them, with what they ask.
+use crate::rows::{Asked, Point, Row, asks};
 use gdb_packets::{Plain, PointKind, Span, Thread, Watch};
 
-/// A packet's payload, and what it asks.
-pub struct Row {
-    pub payload: &'static str,
-    pub asks: Plain,
-}
-
-macro_rules! asks {
-    ($payload:literal => $asks:expr) => {
-        Row { payload: $payload, asks: $asks }
-    };
-}
-
-/// What the sessions have, each once, but for commands and for threads that go on.
-pub static SESSIONS: [Row; 100] = [
+/// What the sessions have, each once, but for points, for commands and for threads that go on.
+pub static SESSIONS: [Row; 74] = [
     asks!("?" => Plain::LastStop),
     asks!("D" => Plain::Detach),
     asks!("Hc-1" => Plain::MoveWith(Thread::All)),
@@ -40,27 +29,14 @@ pub static SESSIONS: [Row; 100] = [
     asks!("Hgd" => Plain::LookAt(Thread::Core(12))),
     asks!("Hge" => Plain::LookAt(Thread::Core(13))),
     asks!("Hgf" => Plain::LookAt(Thread::Core(14))),
-    asks!("P20=64000000" => Plain::Write),
-    asks!("Pa=07000000" => Plain::Write),
-    asks!("QStartNoAckMode" => Plain::StopAcks),
     asks!("T1" => Plain::IsThere(Thread::Core(0))),
     asks!("T2" => Plain::IsThere(Thread::Core(1))),
     asks!("T4" => Plain::IsThere(Thread::Core(3))),
     asks!("T9" => Plain::IsThere(Thread::Core(8))),
+    asks!("P20=64000000" => Plain::Write),
+    asks!("Pa=07000000" => Plain::Write),
     asks!("X10f0,0:" => Plain::Write),
-    asks!("Z0,14c,4" => Plain::SetPoint(PointKind::Software, Span { at: 0x14c, len: 0x4 })),
-    asks!("Z0,2c,4" => Plain::SetPoint(PointKind::Software, Span { at: 0x2c, len: 0x4 })),
-    asks!("Z0,40,4" => Plain::SetPoint(PointKind::Software, Span { at: 0x40, len: 0x4 })),
-    asks!("Z0,64,4" => Plain::SetPoint(PointKind::Software, Span { at: 0x64, len: 0x4 })),
-    asks!("Z0,6c,4" => Plain::SetPoint(PointKind::Software, Span { at: 0x6c, len: 0x4 })),
-    asks!("Z0,78,4" => Plain::SetPoint(PointKind::Software, Span { at: 0x78, len: 0x4 })),
-    asks!("Z0,88,4" => Plain::SetPoint(PointKind::Software, Span { at: 0x88, len: 0x4 })),
-    asks!("Z0,98,4" => Plain::SetPoint(PointKind::Software, Span { at: 0x98, len: 0x4 })),
-    asks!("Z2,1098,4" => Plain::SetPoint(PointKind::Watch(Watch::Write), Span { at: 0x1098, len: 0x4 })),
-    asks!("Z2,10f0,4" => Plain::SetPoint(PointKind::Watch(Watch::Write), Span { at: 0x10f0, len: 0x4 })),
-    asks!("Z2,10fc,4" => Plain::SetPoint(PointKind::Watch(Watch::Write), Span { at: 0x10fc, len: 0x4 })),
-    asks!("Z3,10f0,4" => Plain::SetPoint(PointKind::Watch(Watch::Read), Span { at: 0x10f0, len: 0x4 })),
-    asks!("Z4,10f0,4" => Plain::SetPoint(PointKind::Watch(Watch::Access), Span { at: 0x10f0, len: 0x4 })),
+    asks!("QStartNoAckMode" => Plain::StopAcks),
     asks!("bc" => Plain::GoBack),
     asks!("bs" => Plain::StepBack),
     asks!("g" => Plain::Registers),
@@ -104,23 +80,33 @@ pub static SESSIONS: [Row; 100] = [
     asks!("vCont?" => Plain::ResumeKinds),
     asks!("vKill;a410" => Plain::Kill),
     asks!("vMustReplyEmpty" => Plain::Unknown),
-    asks!("z0,14c,4" => Plain::ClearPoint(PointKind::Software, Span { at: 0x14c, len: 0x4 })),
-    asks!("z0,2c,4" => Plain::ClearPoint(PointKind::Software, Span { at: 0x2c, len: 0x4 })),
-    asks!("z0,40,4" => Plain::ClearPoint(PointKind::Software, Span { at: 0x40, len: 0x4 })),
-    asks!("z0,64,4" => Plain::ClearPoint(PointKind::Software, Span { at: 0x64, len: 0x4 })),
-    asks!("z0,6c,4" => Plain::ClearPoint(PointKind::Software, Span { at: 0x6c, len: 0x4 })),
-    asks!("z0,78,4" => Plain::ClearPoint(PointKind::Software, Span { at: 0x78, len: 0x4 })),
-    asks!("z0,88,4" => Plain::ClearPoint(PointKind::Software, Span { at: 0x88, len: 0x4 })),
-    asks!("z0,98,4" => Plain::ClearPoint(PointKind::Software, Span { at: 0x98, len: 0x4 })),
-    asks!("z2,1098,4" => Plain::ClearPoint(PointKind::Watch(Watch::Write), Span { at: 0x1098, len: 0x4 })),
-    asks!("z2,10f0,4" => Plain::ClearPoint(PointKind::Watch(Watch::Write), Span { at: 0x10f0, len: 0x4 })),
-    asks!("z2,10fc,4" => Plain::ClearPoint(PointKind::Watch(Watch::Write), Span { at: 0x10fc, len: 0x4 })),
-    asks!("z3,10f0,4" => Plain::ClearPoint(PointKind::Watch(Watch::Read), Span { at: 0x10f0, len: 0x4 })),
-    asks!("z4,10f0,4" => Plain::ClearPoint(PointKind::Watch(Watch::Access), Span { at: 0x10f0, len: 0x4 })),
 ];
 
-/// Other packets, and malformed and unknown ones.
-pub static OTHERS: [Row; 45] = [
+macro_rules! point {
+    ($packet:literal => $kind:expr, $at:literal) => {
+        Point { packet: $packet, kind: $kind, at: $at }
+    };
+}
+
+/// The points that the sessions have, each set once and cleared once.
+pub static POINTS: [Point; 13] = [
+    point!("0,14c,4" => PointKind::Software, 0x14c),
+    point!("0,2c,4" => PointKind::Software, 0x2c),
+    point!("0,40,4" => PointKind::Software, 0x40),
+    point!("0,64,4" => PointKind::Software, 0x64),
+    point!("0,6c,4" => PointKind::Software, 0x6c),
+    point!("0,78,4" => PointKind::Software, 0x78),
+    point!("0,88,4" => PointKind::Software, 0x88),
+    point!("0,98,4" => PointKind::Software, 0x98),
+    point!("2,1098,4" => PointKind::Watch(Watch::Write), 0x1098),
+    point!("2,10f0,4" => PointKind::Watch(Watch::Write), 0x10f0),
+    point!("2,10fc,4" => PointKind::Watch(Watch::Write), 0x10fc),
+    point!("3,10f0,4" => PointKind::Watch(Watch::Read), 0x10f0),
+    point!("4,10f0,4" => PointKind::Watch(Watch::Access), 0x10f0),
+];
+
+/// Other packets that are known.
+pub static OTHERS: [Row; 12] = [
     asks!("qC" => Plain::ToldThread),
     asks!("k" => Plain::Quit),
     asks!("qfThreadInfo" => Plain::ThreadsFirst),
@@ -133,37 +119,57 @@ pub static OTHERS: [Row; 45] = [
     asks!("qThreadExtraInfo,3" => Plain::ThreadText(Thread::Core(2))),
     asks!("qXfer:features:read:other.xml:0,ffb" => Plain::OtherPart),
     asks!("qXfer:auxv:read::0,1000" => Plain::OtherPart),
-    asks!("Hc" => Plain::Malformed),
-    asks!("Hg-2" => Plain::Malformed),
-    asks!("Hgx" => Plain::Malformed),
-    asks!("T" => Plain::Malformed),
-    asks!("p" => Plain::Malformed),
-    asks!("p0x1" => Plain::Malformed),
-    asks!("p10000000000000000" => Plain::Malformed),
-    asks!("m10" => Plain::Malformed),
-    asks!("m10," => Plain::Malformed),
-    asks!("m,4" => Plain::Malformed),
-    asks!("m10,4,4" => Plain::Malformed),
-    asks!("Z0,2c" => Plain::Malformed),
-    asks!("Z02c,4" => Plain::Malformed),
-    asks!("Z5,2c,4" => Plain::Unknown),
-    asks!("Z" => Plain::Unknown),
-    asks!("z" => Plain::Unknown),
-    asks!("qXfer:" => Plain::Malformed),
-    asks!("qXfer:features:read:target.xml:0" => Plain::Malformed),
-    asks!("qXfer:a:b:c:0" => Plain::Malformed),
-    asks!("qThreadExtraInfo," => Plain::Malformed),
-    asks!("" => Plain::Unknown),
-    asks!("gg" => Plain::Unknown),
-    asks!("Hx1" => Plain::Unknown),
-    asks!("s" => Plain::Unknown),
-    asks!("c" => Plain::Unknown),
-    asks!("R" => Plain::Unknown),
-    asks!("!" => Plain::Unknown),
-    asks!("vRun" => Plain::Unknown),
-    asks!("vKill" => Plain::Unknown),
-    asks!("Dx" => Plain::Unknown),
-    asks!("bsx" => Plain::Unknown),
-    asks!("vCont" => Plain::Unknown),
-    asks!("qThreadExtraInfo" => Plain::Unknown),
+];
+
+/// Malformed packets; the last ones begin as threads that go on and as commands do.
+pub static MALFORMED: [&str; 29] = [
+    "Hc",
+    "Hg-2",
+    "Hgx",
+    "T",
+    "p",
+    "p0x1",
+    "p10000000000000000",
+    "m10",
+    "m10,",
+    "m,4",
+    "m10,4,4",
+    "Z0,2c",
+    "Z02c,4",
+    "qXfer:",
+    "qXfer:features:read:target.xml:0",
+    "qXfer:a:b:c:0",
+    "qThreadExtraInfo,",
+    "vCont;",
+    "vCont;;c",
+    "vCont;c;",
+    "vCont;t",
+    "vCont;r10,20",
+    "vCont;C",
+    "vCont;Cx",
+    "vCont;c:",
+    "vCont;s:x",
+    "qRcmd,6",
+    "qRcmd,6x",
+    "qRcmd,6c6}",
+];
+
+/// Packets that nothing is known of.
+pub static UNKNOWN: [&str; 16] = [
+    "Z5,2c,4",
+    "Z",
+    "z",
+    "",
+    "gg",
+    "Hx1",
+    "s",
+    "c",
+    "R",
+    "!",
+    "vRun",
+    "vKill",
+    "Dx",
+    "bsx",
+    "vCont",
+    "qThreadExtraInfo",
 ];

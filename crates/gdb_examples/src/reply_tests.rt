@@ -12,67 +12,23 @@ struct Row {
     text: &'static str,
 }
 
+macro_rules! stop {
+    ($signal:ident, $core:literal, $why:expr => $text:literal) => {
+        Row { signal: Signal::$signal, core: $core, why: $why, text: $text }
+    };
+}
+
 static STOPS: [Row; 10] = [
-    Row {
-        signal: Signal::Trap,
-        core: 0,
-        why: Why::Nothing,
-        text: "T05thread:1;",
-    },
-    Row {
-        signal: Signal::Trap,
-        core: 1,
-        why: Why::Breakpoint,
-        text: "T05thread:2;swbreak:;",
-    },
-    Row {
-        signal: Signal::Trap,
-        core: 0,
-        why: Why::Watched(Watch::Write, 0x1098),
-        text: "T05thread:1;watch:1098;",
-    },
-    Row {
-        signal: Signal::Trap,
-        core: 0,
-        why: Why::Watched(Watch::Read, 0x10f0),
-        text: "T05thread:1;rwatch:10f0;",
-    },
-    Row {
-        signal: Signal::Trap,
-        core: 1,
-        why: Why::Watched(Watch::Access, 0x10f0),
-        text: "T05thread:2;awatch:10f0;",
-    },
-    Row {
-        signal: Signal::Trap,
-        core: 1,
-        why: Why::End,
-        text: "T05thread:2;replaylog:end;",
-    },
-    Row {
-        signal: Signal::Trap,
-        core: 0,
-        why: Why::Begin,
-        text: "T05thread:1;replaylog:begin;",
-    },
-    Row {
-        signal: Signal::Segment,
-        core: 1,
-        why: Why::Nothing,
-        text: "T0bthread:2;",
-    },
-    Row {
-        signal: Signal::Misaligned,
-        core: 15,
-        why: Why::Nothing,
-        text: "T0athread:10;",
-    },
-    Row {
-        signal: Signal::Interrupt,
-        core: 9,
-        why: Why::Nothing,
-        text: "T02thread:a;",
-    },
+    stop!(Trap, 0, Why::Nothing => "T05thread:1;"),
+    stop!(Trap, 1, Why::Breakpoint => "T05thread:2;swbreak:;"),
+    stop!(Trap, 0, Why::Watched(Watch::Write, 0x1098) => "T05thread:1;watch:1098;"),
+    stop!(Trap, 0, Why::Watched(Watch::Read, 0x10f0) => "T05thread:1;rwatch:10f0;"),
+    stop!(Trap, 1, Why::Watched(Watch::Access, 0x10f0) => "T05thread:2;awatch:10f0;"),
+    stop!(Trap, 1, Why::End => "T05thread:2;replaylog:end;"),
+    stop!(Trap, 0, Why::Begin => "T05thread:1;replaylog:begin;"),
+    stop!(Segment, 1, Why::Nothing => "T0bthread:2;"),
+    stop!(Misaligned, 15, Why::Nothing => "T0athread:10;"),
+    stop!(Interrupt, 9, Why::Nothing => "T02thread:a;"),
 ];
 
 /// Whether the answer is spelled so.
@@ -97,64 +53,50 @@ fn stops_say_the_signal_the_thread_and_why(rt: HostRuntime) -> Result<(), Fail> 
             core: row.core,
             why: row.why,
         };
-        let right = is_spelled(rt.alloc(), Reply::Stopped(stop), row.text)?;
-        assert!(rt; right, "{}", row.text);
+        assert!(rt;
+            is_spelled(rt.alloc(), Reply::Stopped(stop), row.text)?,
+            "{}",
+            row.text
+        );
     }
     Ok(())
 }
 
 #[test]
 fn short_answers_are_words(rt: HostRuntime) -> Result<(), Fail> {
-    let unknown = is_spelled(rt.alloc(), Reply::Unknown, "")?;
-    assert!(rt; unknown);
-    let done = is_spelled(rt.alloc(), Reply::Done, "OK")?;
-    assert!(rt; done);
-    let refused = is_spelled(rt.alloc(), Reply::Refused, "E01")?;
-    assert!(rt; refused);
-    let absent = is_spelled(rt.alloc(), Reply::Absent, "E00")?;
-    assert!(rt; absent);
-    let kinds = is_spelled(rt.alloc(), Reply::ResumeKinds, "vCont;c;C;s;S")?;
-    assert!(rt; kinds);
-    let attached = is_spelled(rt.alloc(), Reply::Attached, "1")?;
-    assert!(rt; attached);
+    assert!(rt; is_spelled(rt.alloc(), Reply::Unknown, "")?);
+    assert!(rt; is_spelled(rt.alloc(), Reply::Done, "OK")?);
+    assert!(rt; is_spelled(rt.alloc(), Reply::Refused, "E01")?);
+    assert!(rt; is_spelled(rt.alloc(), Reply::Absent, "E00")?);
+    assert!(rt; is_spelled(rt.alloc(), Reply::ResumeKinds, "vCont;c;C;s;S")?);
+    assert!(rt; is_spelled(rt.alloc(), Reply::Attached, "1")?);
     Ok(())
 }
 
 #[test]
 fn threads_are_counted_from_one(rt: HostRuntime) -> Result<(), Fail> {
-    let told = is_spelled(rt.alloc(), Reply::ToldThread(0), "QC1")?;
-    assert!(rt; told);
-    let one = is_spelled(rt.alloc(), Reply::ThreadsFirst(1), "m1")?;
-    assert!(rt; one);
-    let many = is_spelled(
-        rt.alloc(),
-        Reply::ThreadsFirst(11),
-        "m1,2,3,4,5,6,7,8,9,a,b",
-    )?;
-    assert!(rt; many);
-    let rest = is_spelled(rt.alloc(), Reply::ThreadsRest, "l")?;
-    assert!(rt; rest);
+    assert!(rt; is_spelled(rt.alloc(), Reply::ToldThread(0), "QC1")?);
+    assert!(rt; is_spelled(rt.alloc(), Reply::ThreadsFirst(1), "m1")?);
+    let eleven = "m1,2,3,4,5,6,7,8,9,a,b";
+    assert!(rt; is_spelled(rt.alloc(), Reply::ThreadsFirst(11), eleven)?);
+    assert!(rt; is_spelled(rt.alloc(), Reply::ThreadsRest, "l")?);
     Ok(())
 }
 
 #[test]
 fn bytes_and_texts_are_digits(rt: HostRuntime) -> Result<(), Fail> {
     let word = list(rt.alloc(), &[0x13, 0x11, 0xa5, 0x00])?;
-    let bytes = is_spelled(rt.alloc(), Reply::Bytes(word), "1311a500")?;
-    assert!(rt; bytes);
+    assert!(rt; is_spelled(rt.alloc(), Reply::Bytes(word), "1311a500")?);
     let cut = list(rt.alloc(), b"cut\n")?;
-    let output = is_spelled(rt.alloc(), Reply::Output(cut), "O6375740a")?;
-    assert!(rt; output);
+    assert!(rt; is_spelled(rt.alloc(), Reply::Output(cut), "O6375740a")?);
     Ok(())
 }
 
 #[test]
 fn documents_come_in_parts(rt: HostRuntime) -> Result<(), Fail> {
     let front = list(rt.alloc(), b"<thr")?;
-    let part = is_spelled(rt.alloc(), Reply::Part(front), "m<thr")?;
-    assert!(rt; part);
+    assert!(rt; is_spelled(rt.alloc(), Reply::Part(front), "m<thr")?);
     let rest = list(rt.alloc(), b"eads>")?;
-    let last = is_spelled(rt.alloc(), Reply::LastPart(rest), "leads>")?;
-    assert!(rt; last);
+    assert!(rt; is_spelled(rt.alloc(), Reply::LastPart(rest), "leads>")?);
     Ok(())
 }

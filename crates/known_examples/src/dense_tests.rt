@@ -42,9 +42,11 @@ const STEPS: u32 = (2 * CORES as u32 + 4) * RETIRED * CORES as u32;
 /// The generator's states at the beginning of the runs.
 static SEEDS: [u64; 3] = [1, 20_261_127, u64::MAX];
 
-/// A history, and how many retirements of each core it has.
+/// What was known at each retirement of a run, in their order, its history, and how many retirements of each core that
+/// has.
 #[derive(Drop)]
 struct Noted {
+    rows: Vec<(Instr, Known)>,
     history: History,
     counts: [u32; PLACES],
 }
@@ -68,14 +70,14 @@ fn is_next(count: u32, next: u32) -> bool
     count < next && next - count == 1
 }
 
-/// The history of the retirements.
+/// The retirements with their history.
 #[tactic(auto, using(crate::proofs::Counted::begun, crate::proofs::Counted::noted, crate::proofs::Counted::next_one))]
-fn note_all(alloc: Global, rows: &[(Instr, Known)]) -> Result<Noted, AllocError>
+fn note_all(alloc: Global, rows: Vec<(Instr, Known)>) -> Result<Noted, AllocError>
     ensures { IfOk result (λ noted. AreCounted noted.history.notes noted.counts) }
 {
     let mut history = History::new(alloc, CORES)?;
     let mut counts = [0; PLACES];
-    for (at, known) in rows {
+    for (at, known) in &rows {
         if at.core < CORES {
             if is_next(counts[at.core as usize], at.count) {
                 history.ready()?;
@@ -84,7 +86,18 @@ fn note_all(alloc: Global, rows: &[(Instr, Known)]) -> Result<Noted, AllocError>
             }
         }
     }
-    Ok(Noted { history, counts })
+    Ok(Noted {
+        rows,
+        history,
+        counts,
+    })
+}
+
+/// A run under the seed with its history.
+fn noted_under(alloc: Global, seed: u64) -> Result<Noted, Fail>
+    ensures { IfOk result (λ noted. AreCounted noted.history.notes noted.counts) }
+{
+    Ok(note_all(alloc, known_under(alloc, seed)?)?)
 }
 
 /// The most that was known of core `of` at the core's retirements up to this count.
@@ -102,7 +115,7 @@ fn most_known(rows: &[(Instr, Known)], core: u8, count: u32, of: u8) -> u32
 
 /// Whether the history says at each of the core's retirements how much was known of core `of`, and counts
 /// how often that rose.
-fn is_dense(noted: &Noted, rows: &[(Instr, Known)], core: u8, of: u8) -> bool
+fn is_dense(noted: &Noted, core: u8, of: u8) -> bool
     requires counted { AreCounted noted.now.history.notes noted.now.counts }
     requires core { core < 8 }
     requires place { of < 8 }
@@ -111,7 +124,7 @@ fn is_dense(noted: &Noted, rows: &[(Instr, Known)], core: u8, of: u8) -> bool
     let mut last = 0;
     let mut changes = 0;
     for before in 0..noted.counts[core as usize] {
-        let known = most_known(rows, core, before + 1, of);
+        let known = most_known(&noted.rows, core, before + 1, of);
         if noted.history.at(core, before + 1, of) != known {
             return false;
         }
@@ -124,12 +137,12 @@ fn is_dense(noted: &Noted, rows: &[(Instr, Known)], core: u8, of: u8) -> bool
 }
 
 /// The same of all other cores.
-fn is_dense_of(noted: &Noted, rows: &[(Instr, Known)], core: u8) -> bool
+fn is_dense_of(noted: &Noted, core: u8) -> bool
     requires counted { AreCounted noted.now.history.notes noted.now.counts }
     requires core { core < 8 }
 {
     for of in 0..CORES {
-        if of != core && !is_dense(noted, rows, core, of) {
+        if of != core && !is_dense(noted, core, of) {
             return false;
         }
     }
@@ -147,16 +160,12 @@ fn is_told_nothing(noted: &Noted, of: u8) -> bool
 #[test]
 fn histories_say_what_was_known(rt: HostRuntime) -> Result<(), Fail> {
     for seed in &SEEDS {
-        let rows = known_under(rt.alloc(), *seed)?;
-        let noted = note_all(rt.alloc(), &rows)?;
+        let noted = noted_under(rt.alloc(), *seed)?;
         for core in 0..CORES - 1 {
             assert_eq!(rt; noted.counts[core as usize], RETIRED);
-            assert!(rt;
-                is_dense_of(&noted, &rows, core),
-                "seed {seed}, core {core}"
-            );
+            assert!(rt; is_dense_of(&noted, core), "seed {seed}, core {core}");
         }
-        assert!(rt; is_dense_of(&noted, &rows, 7), "seed {seed}");
+        assert!(rt; is_dense_of(&noted, 7), "seed {seed}");
         assert!(rt; noted.history.changes(0, 1) > 1, "seed {seed}");
     }
     Ok(())
@@ -166,8 +175,7 @@ fn histories_say_what_was_known(rt: HostRuntime) -> Result<(), Fail> {
 #[test]
 fn a_core_that_is_told_nothing(rt: HostRuntime) -> Result<(), Fail> {
     for seed in &SEEDS {
-        let rows = known_under(rt.alloc(), *seed)?;
-        let noted = note_all(rt.alloc(), &rows)?;
+        let noted = noted_under(rt.alloc(), *seed)?;
         for of in 0..CORES - 1 {
             assert!(rt; is_told_nothing(&noted, of), "seed {seed}, core {of}");
         }

@@ -1,5 +1,6 @@
 //! Cores that write one word, over any choices.
-ghost use Rattle.std.specs.Prelude.{◌≡◌, length};
+ghost use Rattle.std.specs.Prelude.{◌≡◌, IfOk, length};
+ghost use Rattle.rtr_types.specs.Parameters.{Fits};
 
 use access_times::{Carry, Clerk, NoCarry, NoRider, Rider};
 use image_mem::Image;
@@ -28,6 +29,26 @@ impl<R: Rider, K: Carry> Clerk<R, K> for Counter {
     fn touched(&mut self, _access: Access, _rider: &mut R, _carry: &K) {
         self.told = self.told.saturating_add(1);
     }
+}
+
+/// A machine with the program over so many words, at its start: so many cores of at most ten instructions.
+fn machine_of(
+    alloc: Global,
+    program: &[u8],
+    cores: u8,
+    words: u32,
+) -> Result<Machine<NoRider, NoCarry>, Fail>
+    requires { Fits (record { cores = cores; limit = 10; words = words }) }
+    ensures words { IfOk result (λ machine. machine.state.image.words ≡ words) }
+    ensures cores { IfOk result (λ machine. length machine.state.cores ≡ cores) }
+{
+    let image = Image::flat(program.to_vec(alloc)?, words)?;
+    let params = Params {
+        cores,
+        limit: 10,
+        words,
+    };
+    Ok(Machine::new(alloc, image, params)?)
 }
 
 /// addi x5,x10,5; sw x5,32(x0); ecall
@@ -91,13 +112,7 @@ static RUNS: [Run; 4] = [
 /// Runs both cores to their ends, or through all the choices: how many steps were made, how many
 /// retirements there were, and the word.
 fn written(alloc: Global, run: &Run) -> Result<(u32, u32, u32), Fail> {
-    let image = Image::flat(run.image.to_vec(alloc)?, 16)?;
-    let params = Params {
-        cores: 2,
-        limit: 10,
-        words: 16,
-    };
-    let mut machine = Machine::<NoRider, NoCarry>::new(alloc, image, params)?;
+    let mut machine = machine_of(alloc, run.image, 2, 16)?;
     let mut clerk = Counter { told: 0 };
     let mut steps = 0u32;
     for choice in &run.choices {
@@ -129,13 +144,7 @@ fn two_writes_take_their_steps_and_a_choice_decides_which_is_last(
 // Each core adds its number and one to the word, which ends as the sum of these numbers from 1 on.
 #[test]
 fn every_core_that_there_may_be_adds_to_one_word(rt: HostRuntime) -> Result<(), Fail> {
-    let image = Image::flat(SUM.to_vec(rt.alloc())?, 16)?;
-    let params = Params {
-        cores: CORES_MAX,
-        limit: 10,
-        words: 16,
-    };
-    let mut machine = Machine::<NoRider, NoCarry>::new(rt.alloc(), image, params)?;
+    let mut machine = machine_of(rt.alloc(), &SUM, CORES_MAX, 16)?;
     let mut clerk = Counter { told: 0 };
     for choice in 0..1_000 {
         machine.make_room()?;
@@ -157,13 +166,7 @@ const LAST_WORD: [u8; 12] = [
 
 #[test]
 fn one_store_touches_one_block_of_the_largest_memory(rt: HostRuntime) -> Result<(), Fail> {
-    let image = Image::flat(LAST_WORD.to_vec(rt.alloc())?, 262_144)?;
-    let params = Params {
-        cores: 1,
-        limit: 10,
-        words: 262_144,
-    };
-    let mut machine = Machine::<NoRider, NoCarry>::new(rt.alloc(), image, params)?;
+    let mut machine = machine_of(rt.alloc(), &LAST_WORD, 1, 262_144)?;
     let mut clerk = Counter { told: 0 };
     assert_eq!(rt; machine.touched(), 0);
     for _step in 0..5 {
@@ -180,13 +183,7 @@ fn one_store_touches_one_block_of_the_largest_memory(rt: HostRuntime) -> Result<
 #[test]
 fn the_first_step_is_the_chosen_cores(rt: HostRuntime) -> Result<(), Fail> {
     // ecall
-    let image = Image::flat([0x73, 0, 0, 0].to_vec(rt.alloc())?, 4)?;
-    let params = Params {
-        cores: 2,
-        limit: 10,
-        words: 4,
-    };
-    let mut machine = Machine::<NoRider, NoCarry>::new(rt.alloc(), image, params)?;
+    let mut machine = machine_of(rt.alloc(), &[0x73, 0, 0, 0], 2, 4)?;
     let mut clerk = Counter { told: 0 };
     machine.make_room()?;
     assert!(rt; !machine.done() && machine.has_room());

@@ -112,173 +112,78 @@ fn owner_data(word: u32, trail: u32) -> Said {
     }))
 }
 
+/// A copy that may only be read.
 const SHARED: [Step; 2] = [Step::Load(4), Step::Data(1)];
 
+/// That copy, whose core wants to write.
+const UPGRADED: [Step; 3] = [Step::Load(4), Step::Data(1), Step::Store(4)];
+
+/// That copy, which goes back.
+const SHARED_PUT: [Step; 3] = [Step::Load(4), Step::Data(1), Step::Load(20)];
+
+/// A copy that may be written.
 const OWNED: [Step; 2] = [Step::Store(4), Step::Data(1)];
+
+/// That copy, which goes back.
+const OWNED_PUT: [Step; 3] = [Step::Store(4), Step::Data(1), Step::Load(20)];
+
+/// Rows of the table: the path, the step, what it answers, and the line's state, word and trail.
+macro_rules! rows {
+    ($rt:ident: $($path:expr, $step:expr => $said:expr, $state:ident $word:literal $trail:literal;)+) => {
+        $(row(&$rt, $rt.alloc(), &$path, $step, $said, (State::$state, $word, $trail))?;)+
+    };
+}
 
 #[test]
 fn asks_home_for_what_an_access_needs(rt: HostRuntime) -> Result<(), Fail> {
-    let get_s = asked(Request::GetS { block: 4 });
-    row(
-        &rt,
-        rt.alloc(),
-        &[],
-        Step::Load(4),
-        get_s,
-        (State::IsD, 0, 0),
-    )?;
-    let put_s = asked(Request::PutS {
-        block: 4,
-        rider: Trail { digits: 1 },
-    });
-    row(
-        &rt,
-        rt.alloc(),
-        &SHARED,
-        Step::Store(20),
-        put_s,
-        (State::SiA, 1, 1),
-    )?;
-    let put_m = asked(Request::PutM {
-        block: 4,
-        words: [1; 4],
-        rider: Trail { digits: 1 },
-    });
-    row(
-        &rt,
-        rt.alloc(),
-        &OWNED,
-        Step::Load(20),
-        put_m,
-        (State::MiA, 1, 1),
-    )
+    let rider = Trail { digits: 1 };
+    let words = [1; 4];
+    rows! { rt:
+        [], Step::Load(4) => asked(Request::GetS { block: 4 }), IsD 0 0;
+        SHARED, Step::Store(20) => asked(Request::PutS { block: 4, rider }), SiA 1 1;
+        OWNED, Step::Load(20) => asked(Request::PutM { block: 4, words, rider }), MiA 1 1;
+    }
+    Ok(())
 }
 
 // Of the kinds of access only the load asks for less than the right to write.
 #[test]
 fn asks_to_own_what_it_is_to_write(rt: HostRuntime) -> Result<(), Fail> {
-    let alloc = rt.alloc();
     for step in [Step::Store(4), Step::Amo(4)] {
-        let get_m = asked(Request::GetM { block: 4 });
-        row(&rt, alloc, &[], step, get_m, (State::ImD, 0, 0))?;
-        let upgrade = asked(Request::GetM { block: 4 });
-        row(&rt, alloc, &SHARED, step, upgrade, (State::SmD, 1, 1))?;
+        rows! { rt:
+            [], step => asked(Request::GetM { block: 4 }), ImD 0 0;
+            SHARED, step => asked(Request::GetM { block: 4 }), SmD 1 1;
+        }
     }
     Ok(())
 }
 
 #[test]
 fn takes_data_and_acknowledgements(rt: HostRuntime) -> Result<(), Fail> {
-    let data = Step::Data(2);
-    row(
-        &rt,
-        rt.alloc(),
-        &[Step::Load(4)],
-        data,
-        silent(),
-        (State::S, 2, 2),
-    )?;
-    row(
-        &rt,
-        rt.alloc(),
-        &[Step::Store(4)],
-        data,
-        silent(),
-        (State::M, 2, 2),
-    )?;
-    let upgrade = [Step::Load(4), Step::Data(1), Step::Store(4)];
-    row(&rt, rt.alloc(), &upgrade, data, silent(), (State::M, 2, 21))?;
-    let put_s = [Step::Load(4), Step::Data(1), Step::Load(20)];
-    row(
-        &rt,
-        rt.alloc(),
-        &put_s,
-        Step::Ack,
-        silent(),
-        (State::I, 1, 1),
-    )?;
-    let put_m = [Step::Store(4), Step::Data(1), Step::Load(20)];
-    row(
-        &rt,
-        rt.alloc(),
-        &put_m,
-        Step::Ack,
-        silent(),
-        (State::I, 1, 1),
-    )?;
-    let stalled = [Step::Load(4), Step::Data(1), Step::Load(20), Step::Inv];
-    row(
-        &rt,
-        rt.alloc(),
-        &stalled,
-        Step::Ack,
-        silent(),
-        (State::I, 1, 0),
-    )
+    rows! { rt:
+        [Step::Load(4)], Step::Data(2) => silent(), S 2 2;
+        [Step::Store(4)], Step::Data(2) => silent(), M 2 2;
+        UPGRADED, Step::Data(2) => silent(), M 2 21;
+        SHARED_PUT, Step::Ack => silent(), I 1 1;
+        OWNED_PUT, Step::Ack => silent(), I 1 1;
+        [Step::Load(4), Step::Data(1), Step::Load(20), Step::Inv], Step::Ack => silent(), I 1 0;
+    }
+    Ok(())
 }
 
 // A copy that ends gives its rider away, and a copy that stays keeps it.
 #[test]
 fn gives_copies_up(rt: HostRuntime) -> Result<(), Fail> {
-    row(
-        &rt,
-        rt.alloc(),
-        &SHARED,
-        Step::Inv,
-        inv_ack(1),
-        (State::I, 1, 0),
-    )?;
-    let upgrade = [Step::Load(4), Step::Data(1), Step::Store(4)];
-    row(
-        &rt,
-        rt.alloc(),
-        &upgrade,
-        Step::Inv,
-        inv_ack(1),
-        (State::ImD, 1, 0),
-    )?;
-    let put_s = [Step::Load(4), Step::Data(1), Step::Load(20)];
-    row(
-        &rt,
-        rt.alloc(),
-        &put_s,
-        Step::Inv,
-        inv_ack(1),
-        (State::IiA, 1, 0),
-    )?;
-    let put_m = [Step::Store(4), Step::Data(1), Step::Load(20)];
-    row(
-        &rt,
-        rt.alloc(),
-        &OWNED,
-        Step::FwdGetS,
-        owner_data(1, 1),
-        (State::S, 1, 1),
-    )?;
-    row(
-        &rt,
-        rt.alloc(),
-        &put_m,
-        Step::FwdGetS,
-        owner_data(1, 1),
-        (State::SiA, 1, 1),
-    )?;
-    row(
-        &rt,
-        rt.alloc(),
-        &OWNED,
-        Step::FwdGetM,
-        owner_data(1, 1),
-        (State::I, 1, 0),
-    )?;
-    row(
-        &rt,
-        rt.alloc(),
-        &put_m,
-        Step::FwdGetM,
-        owner_data(1, 1),
-        (State::IiA, 1, 0),
-    )
+    rows! { rt:
+        SHARED, Step::Inv => inv_ack(1), I 1 0;
+        UPGRADED, Step::Inv => inv_ack(1), ImD 1 0;
+        SHARED_PUT, Step::Inv => inv_ack(1), IiA 1 0;
+        OWNED, Step::FwdGetS => owner_data(1, 1), S 1 1;
+        OWNED_PUT, Step::FwdGetS => owner_data(1, 1), SiA 1 1;
+        OWNED, Step::FwdGetM => owner_data(1, 1), I 1 0;
+        OWNED_PUT, Step::FwdGetM => owner_data(1, 1), IiA 1 0;
+    }
+    Ok(())
 }
 
 #[test]

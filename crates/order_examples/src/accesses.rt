@@ -1,4 +1,4 @@
-//! How the tests spell an access.
+//! How the tests spell accesses.
 
 /// An access to a word, as the core's instruction with this count. Values play no part.
 macro_rules! access {
@@ -16,4 +16,12 @@ macro_rules! access {
     };
 }
 
+/// Accesses in this order.
+macro_rules! accesses {
+    ($($core:literal : $count:literal $kind:ident $word:literal),+) => {
+        [$(access!($core: $count $kind $word)),+]
+    };
+}
+
 pub(crate) use access;
+pub(crate) use accesses;

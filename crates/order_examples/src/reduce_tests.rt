@@ -1,5 +1,5 @@
 //! Short runs, with the times that one block's words have in them.
-use crate::accesses::access;
+use crate::accesses::{access, accesses};
 use access_times::{Rider, Times};
 use conflict_edge::least_of;
 use online_reduce::{EDGES_ROOM, EdgePlaces, Reducer};
@@ -9,21 +9,11 @@ use std::process::Abort;
 use std::test::Fail;
 
 // Core 0's store of word 0 comes after the read 1:1 by way of word 1, so one edge into it is enough.
-static READERS: [Access; 5] = [
-    access!(1: 1 Load 0),
-    access!(1: 2 Store 1),
-    access!(2: 1 Load 1),
-    access!(2: 2 Load 0),
-    access!(0: 1 Store 0),
-];
+static READERS: [Access; 5] =
+    accesses![1: 1 Load 0, 1: 2 Store 1, 2: 1 Load 1, 2: 2 Load 0, 0: 1 Store 0];
 
 // Cores 0 and 1 add to word 0 before core 2 loads it, and core 0 adds once more.
-static ADDS: [Access; 4] = [
-    access!(0: 1 Amo 0),
-    access!(1: 1 Amo 0),
-    access!(2: 1 Load 0),
-    access!(0: 2 Amo 0),
-];
+static ADDS: [Access; 4] = accesses![0: 1 Amo 0, 1: 1 Amo 0, 2: 1 Load 0, 0: 2 Amo 0];
 
 // The edges that the list gets, in order, and the reducer after it.
 fn reduced(rt: &impl Abort, alloc: Global, list: &[Access]) -> Result<(Vec<Edge>, Reducer), Fail> {

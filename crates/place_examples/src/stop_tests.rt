@@ -1,13 +1,14 @@
 //! Ways on which a test stops a place.
-ghost use Rattle.std.specs.Prelude.{nat_eq};
+ghost use Rattle.std.specs.Prelude.{IfOk, IfSome, nat_eq};
+ghost use Rattle.cut_replay.specs.ClosedCuts.{IsClosed};
 ghost use Rattle.replay_core.specs.Play.{core_at};
 
 use crate::handed_over::{counts, handed_over};
-use cut_replay::cut_with;
+use cut_replay::{cut_with, has_instr};
 use debug_place::{Place, Stops};
 use replay_audit::Audited;
 use replay_core::Replay;
-use rtr_types::Instr;
+use rtr_types::{Cut, Instr};
 use std::alloc::{AllocError, Global};
 use std::test::Fail;
 
@@ -23,6 +24,17 @@ impl Stops for Breakpoint {
     }
 }
 
+/// The least cut with the last instruction of core 0.
+fn end(audited: &Audited) -> Result<Option<Cut>, AllocError>
+    ensures { IfOk result (λ cut. IfSome cut (IsClosed audited.now.which audited.now.recording)) }
+{
+    let last = Instr { core: 0, count: 5 };
+    if !has_instr(audited.recording(), last) {
+        return Ok(None);
+    }
+    Ok(Some(cut_with(audited, last)?))
+}
+
 /// Where the way to the last instruction of core 0 stops, and the counts there.
 fn stopped(
     alloc: Global,
@@ -30,10 +42,8 @@ fn stopped(
     point: u32,
 ) -> Result<(Option<u8>, (u32, u32)), AllocError> {
     let mut place = Place::begin(alloc, audited)?;
-    let totals = audited.recording().totals.as_slice();
     let mut core = None;
-    if totals.len() == 2 && totals[0] >= 5 {
-        let to = cut_with(audited, Instr { core: 0, count: 5 })?;
+    if let Some(to) = end(audited)? {
         core = place.go_to(alloc, &Breakpoint(point), &to)?;
     }
     Ok((core, counts(&place)))
@@ -66,10 +76,8 @@ fn went_back(
 ) -> Result<(Option<u8>, (u32, u32)), AllocError> {
     let mut place = Place::begin(alloc, audited)?;
     let nothing = place.cut();
-    let totals = audited.recording().totals.as_slice();
     let mut core = None;
-    if totals.len() == 2 && totals[0] >= 5 {
-        let to = cut_with(audited, Instr { core: 0, count: 5 })?;
+    if let Some(to) = end(audited)? {
         place.seek(alloc, &to)?;
         core = place.back(alloc, &Breakpoint(point), &nothing)?;
     }

@@ -1,12 +1,11 @@
 //! Runs whose accesses were worked out by hand, with the least set of each.
 ghost use Rattle.std.specs.Prelude.{◌≤◌};
 
-use crate::settings::{HANDED_OVER, IN_TURN, leaves, load, params_of};
+use crate::settings::{HANDED_OVER, IN_TURN, leaves, load, params_of, schedule_of};
 use known_examples::image_of;
 use race_log::Recording;
 use recorder::{Recorded, record_run};
 use rv_core::LoadNote;
-use schedule_pick::Schedule;
 use std::alloc::Global;
 use std::process::Abort;
 use std::test::Fail;
@@ -18,8 +17,8 @@ fn recorded(alloc: Global, code: &[u32], cores: u8, choices: &[u8]) -> Result<Re
     requires few { cores ≤ 3 }
 {
     let image = image_of(alloc, code, 64)?;
-    let schedule = Schedule::new(choices.to_vec(alloc)?, 0);
-    Ok(record_run(alloc, image, params_of(cores, 64), schedule)?)
+    let params = params_of(cores, 64);
+    Ok(record_run(alloc, image, params, schedule_of(alloc, choices)?)?)
 }
 
 /// The edges of the pair of cores at a place.

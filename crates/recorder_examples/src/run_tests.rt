@@ -1,11 +1,10 @@
 //! Runs that were worked out by hand.
 ghost use Rattle.std.specs.Prelude.{◌≤◌};
 
-use crate::settings::{HANDED_OVER, IN_TURN, leaves, load, params_of};
+use crate::settings::{HANDED_OVER, IN_TURN, leaves, load, params_of, schedule_of};
 use known_examples::image_of;
 use msi_run::{Ran, run_image};
 use rv_core::LoadNote;
-use schedule_pick::Schedule;
 use std::alloc::Global;
 use std::process::Abort;
 use std::test::Fail;
@@ -16,7 +15,7 @@ fn ran(alloc: Global, code: &[u32], cores: u8, choices: &[u8]) -> Result<Ran, Fa
     requires few { cores ≤ 2 }
 {
     let image = image_of(alloc, code, 32)?;
-    let schedule = Schedule::new(choices.to_vec(alloc)?, 0);
+    let schedule = schedule_of(alloc, choices)?;
     Ok(run_image(alloc, image, params_of(cores, 32), schedule)?)
 }
 

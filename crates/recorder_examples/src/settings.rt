@@ -3,6 +3,8 @@ ghost use Rattle.std.specs.Prelude.{◌≡◌};
 
 use rtr_types::Params;
 use rv_core::{LoadNote, Outcome};
+use schedule_pick::Schedule;
+use std::alloc::{AllocError, Global};
 use std::process::Abort;
 
 /// Core 0 stores 7 to word 16 as its third instruction and loads it as its fourth; core 1 loads the word
@@ -30,6 +32,11 @@ pub fn params_of(cores: u8, words: u32) -> Params
         limit: 100,
         words,
     }
+}
+
+/// These choices, and after them the generator's.
+pub fn schedule_of(alloc: Global, choices: &[u8]) -> Result<Schedule, AllocError> {
+    Ok(Schedule::new(choices.to_vec(alloc)?, 0))
 }
 
 /// The run leaves this value in the word.

@@ -1,23 +1,66 @@
 //! Cuts and the states at them, of recordings of two and of three cores.
-use crate::slow_cuts::{Counts, numbered, slow_with, slow_without};
+ghost use Rattle.std.specs.Prelude.{IfOk, IfSome};
+ghost use Rattle.cut_replay.specs.ClosedCuts.{IsClosed};
+
+use crate::slow_cuts::{numbered, slow_with, slow_without};
 use cut_replay::{cut_with, cut_without, has_instr, state_of};
 use log_codec::read;
 use replay_audit::{Audited, audit};
-use row_texts::{HANDED_ON, HANDED_OVER};
-use rtr_types::{Instr, Which};
+use row_texts::{Counts, HANDED_ON, HANDED_OVER};
+use rtr_types::{Cut, Instr, Which};
 use rv_core::{LoadNote, Outcome};
 use std::alloc::{AllocError, Global};
 use std::test::Fail;
 
+/// A cut beside an instruction.
+#[derive(Clone, Copy)]
+enum Side {
+    /// The least one with it.
+    With,
+    /// The greatest one without it.
+    Without,
+}
+
+/// The cut on this side of the instruction, if it is one.
+fn cut_at(audited: &Audited, at: Instr, side: Side) -> Result<Option<Cut>, AllocError>
+    ensures { IfOk result (λ cut. IfSome cut (IsClosed audited.now.which audited.now.recording)) }
+{
+    if !has_instr(audited.recording(), at) {
+        return Ok(None);
+    }
+    let cut = match side {
+        Side::With => cut_with(audited, at)?,
+        Side::Without => cut_without(audited, at)?,
+    };
+    Ok(Some(cut))
+}
+
+/// Its counts.
+fn counts_at(audited: &Audited, at: Instr, side: Side) -> Result<Option<Counts>, AllocError> {
+    Ok(match cut_at(audited, at, side)? {
+        Some(cut) => Some(Counts::of(&cut)),
+        None => None,
+    })
+}
+
+/// The state at it.
+fn state_at(
+    alloc: Global,
+    audited: &Audited,
+    at: Instr,
+    side: Side,
+) -> Result<Option<Outcome>, AllocError> {
+    Ok(match cut_at(audited, at, side)? {
+        Some(cut) => Some(state_of(alloc, audited, &cut)?),
+        None => None,
+    })
+}
+
 /// Whether the two cuts of the instruction are those that the slow search finds.
 fn is_found(audited: &Audited, at: Instr) -> Result<bool, AllocError> {
-    let totals = audited.recording().totals.as_slice();
-    if at.core as usize >= totals.len() || at.count == 0 || at.count > totals[at.core as usize] {
-        return Ok(false);
-    }
-    let with = cut_with(audited, at)?;
-    let without = cut_without(audited, at)?;
-    Ok(Counts::of(&with) == slow_with(at) && Counts::of(&without) == slow_without(at))
+    let with = counts_at(audited, at, Side::With)?;
+    let without = counts_at(audited, at, Side::Without)?;
+    Ok(with == Some(slow_with(at)) && without == Some(slow_without(at)))
 }
 
 // Each instruction of three cores.
@@ -30,30 +73,16 @@ fn each_instruction(rt: HostRuntime) -> Result<(), Fail> {
     Ok(())
 }
 
-/// The counts of the least cut with an instruction, if it is one.
-fn with(audited: &Audited, core: u8, count: u32) -> Result<Option<Counts>, AllocError> {
-    let totals = audited.recording().totals.as_slice();
-    if core as usize >= totals.len() || count == 0 || count > totals[core as usize] {
-        return Ok(None);
-    }
-    let cut = cut_with(audited, Instr { core, count })?;
-    Ok(Some(Counts::of(&cut)))
-}
-
 /// Whether the least cut with an instruction of the three cores has these counts, by the log.
 fn has_cut(alloc: Global, which: Which, at: Instr, counts: Counts) -> Result<bool, Fail> {
     let audited = audit(alloc, read(alloc, &HANDED_ON)?, which)?;
-    Ok(with(&audited, at.core, at.count)? == Some(counts))
+    Ok(counts_at(&audited, at, Side::With)? == Some(counts))
 }
 
 // An instruction without a source.
 #[test]
 fn without_a_source(rt: HostRuntime) -> Result<(), Fail> {
-    let own = Counts {
-        first: 0,
-        second: 1,
-        third: 0,
-    };
+    let own = Counts::new(0, 1, 0);
     assert!(rt; has_cut(rt.alloc(), Which::Reduced, Instr { core: 1, count: 1 }, own)?);
     Ok(())
 }
@@ -61,11 +90,7 @@ fn without_a_source(rt: HostRuntime) -> Result<(), Fail> {
 // The last instruction: by the regulated log all lead to it.
 #[test]
 fn the_last_one(rt: HostRuntime) -> Result<(), Fail> {
-    let all = Counts {
-        first: 5,
-        second: 4,
-        third: 4,
-    };
+    let all = Counts::new(5, 4, 4);
     assert!(rt;
         has_cut(
             rt.alloc(),
@@ -88,28 +113,10 @@ fn instructions(rt: HostRuntime) -> Result<(), Fail> {
     Ok(())
 }
 
-/// The state at the least cut with an instruction of core 1, if it is one.
-fn state_with(alloc: Global, audited: &Audited, count: u32) -> Result<Option<Outcome>, AllocError> {
-    let totals = audited.recording().totals.as_slice();
-    if totals.len() < 2 || count == 0 || count > totals[1] {
-        return Ok(None);
-    }
-    let cut = cut_with(audited, Instr { core: 1, count })?;
-    Ok(Some(state_of(alloc, audited, &cut)?))
-}
-
-/// The state at the greatest cut without it.
-fn state_without(
-    alloc: Global,
-    audited: &Audited,
-    count: u32,
-) -> Result<Option<Outcome>, AllocError> {
-    let totals = audited.recording().totals.as_slice();
-    if totals.len() < 2 || count == 0 || count > totals[1] {
-        return Ok(None);
-    }
-    let cut = cut_without(audited, Instr { core: 1, count })?;
-    Ok(Some(state_of(alloc, audited, &cut)?))
+/// The state beside the load of core 1, by the log.
+fn state_by(alloc: Global, which: Which, side: Side) -> Result<Option<Outcome>, Fail> {
+    let audited = audit(alloc, read(alloc, &HANDED_OVER)?, which)?;
+    Ok(state_at(alloc, &audited, Instr { core: 1, count: 2 }, side)?)
 }
 
 /// Whether core 0 has stored its word, and core 1 has come this far, with this register and these loads.
@@ -139,9 +146,7 @@ fn is_left(
 // Right after a load: core 0's store was before it.
 #[test]
 fn after_a_load(rt: HostRuntime) -> Result<(), Fail> {
-    let recording = read(rt.alloc(), &HANDED_OVER)?;
-    let audited = audit(rt.alloc(), recording, Which::Regulated)?;
-    let outcome = state_with(rt.alloc(), &audited, 2)?;
+    let outcome = state_by(rt.alloc(), Which::Regulated, Side::With)?;
     let load = LoadNote {
         count: 2,
         word: 16,
@@ -154,9 +159,7 @@ fn after_a_load(rt: HostRuntime) -> Result<(), Fail> {
 // As late as can be before it: the store is there too, and the load isn't.
 #[test]
 fn before_a_load(rt: HostRuntime) -> Result<(), Fail> {
-    let recording = read(rt.alloc(), &HANDED_OVER)?;
-    let audited = audit(rt.alloc(), recording, Which::Reduced)?;
-    let outcome = state_without(rt.alloc(), &audited, 2)?;
+    let outcome = state_by(rt.alloc(), Which::Reduced, Side::Without)?;
     assert!(rt; is_left(&outcome, 1, 0x14, 0, &[]));
     Ok(())
 }

@@ -1,5 +1,6 @@
 //! The closed cuts of a recording of three cores, found by a slow search through all its cuts.
-use rtr_types::{Cut, Edge, Instr};
+use row_texts::Counts;
+use rtr_types::{Edge, Instr};
 
 macro_rules! edge {
     ($from:literal : $before:literal to $to:literal : $after:literal) => {
@@ -19,52 +20,29 @@ const EDGES: [Edge; 5] = [
     edge!(2:3 to 0:4),
 ];
 
-/// A cut of three cores, without its other places.
-#[derive(Clone, Copy, PartialEq, Eq)]
-pub(crate) struct Counts {
-    pub(crate) first: u32,
-    pub(crate) second: u32,
-    pub(crate) third: u32,
+/// The cut with this number, of 150 within the totals 5, 4 and 4.
+fn cut_numbered(number: u32) -> Counts {
+    Counts::new(number % 6, number / 6 % 5, number / 30)
 }
 
-impl Counts {
-    /// The cut with this number, of 150 within the totals 5, 4 and 4.
-    fn numbered(number: u32) -> Counts {
-        Counts {
-            first: number % 6,
-            second: number / 6 % 5,
-            third: number / 30,
+/// Whether the cut holds the instruction.
+fn holds(cut: Counts, at: Instr) -> bool {
+    let count = match at.core {
+        0 => cut.first,
+        1 => cut.second,
+        _ => cut.third,
+    };
+    at.count <= count
+}
+
+/// Whether the cut holds each source of what it holds.
+fn is_closed(cut: Counts) -> bool {
+    for edge in &EDGES {
+        if holds(cut, edge.to) && !holds(cut, edge.from) {
+            return false;
         }
     }
-
-    /// The cut's counts.
-    pub(crate) fn of(cut: &Cut) -> Counts {
-        Counts {
-            first: cut.counts[0],
-            second: cut.counts[1],
-            third: cut.counts[2],
-        }
-    }
-
-    /// Whether the cut holds the instruction.
-    fn holds(self, at: Instr) -> bool {
-        let count = match at.core {
-            0 => self.first,
-            1 => self.second,
-            _ => self.third,
-        };
-        at.count <= count
-    }
-
-    /// Whether the cut holds each source of what it holds.
-    fn is_closed(self) -> bool {
-        for edge in &EDGES {
-            if self.holds(edge.to) && !self.holds(edge.from) {
-                return false;
-            }
-        }
-        true
-    }
+    true
 }
 
 /// The instruction with this number, of 13.
@@ -89,15 +67,15 @@ pub(crate) fn numbered(number: u32) -> Instr {
 
 /// The least counts of all closed cuts with the instruction.
 pub(crate) fn slow_with(at: Instr) -> Counts {
-    let mut least = Counts::numbered(149);
+    let mut least = cut_numbered(149);
     for number in 0..150 {
-        let cut = Counts::numbered(number);
-        if cut.holds(at) && cut.is_closed() {
-            least = Counts {
-                first: cut.first.min(least.first),
-                second: cut.second.min(least.second),
-                third: cut.third.min(least.third),
-            };
+        let cut = cut_numbered(number);
+        if holds(cut, at) && is_closed(cut) {
+            least = Counts::new(
+                cut.first.min(least.first),
+                cut.second.min(least.second),
+                cut.third.min(least.third),
+            );
         }
     }
     least
@@ -105,15 +83,15 @@ pub(crate) fn slow_with(at: Instr) -> Counts {
 
 /// The greatest counts of all closed cuts without it.
 pub(crate) fn slow_without(at: Instr) -> Counts {
-    let mut greatest = Counts::numbered(0);
+    let mut greatest = cut_numbered(0);
     for number in 0..150 {
-        let cut = Counts::numbered(number);
-        if !cut.holds(at) && cut.is_closed() {
-            greatest = Counts {
-                first: cut.first.max(greatest.first),
-                second: cut.second.max(greatest.second),
-                third: cut.third.max(greatest.third),
-            };
+        let cut = cut_numbered(number);
+        if !holds(cut, at) && is_closed(cut) {
+            greatest = Counts::new(
+                cut.first.max(greatest.first),
+                cut.second.max(greatest.second),
+                cut.third.max(greatest.third),
+            );
         }
     }
     greatest

@@ -1,9 +1,12 @@
-//! Bytes and words as the rows of tests spell them, and recordings that several crates' tests read.
+//! Bytes and words as the rows of tests spell them, recordings that several crates' tests read, and counts of
+//! three cores.
 #![tactic(auto)]
 
+mod counts;
 mod recordings;
 
-pub use recordings::{HANDED_ON, HANDED_OVER, STORES};
+pub use counts::Counts;
+pub use recordings::{HANDED_ON, HANDED_OVER, HANDED_OVER_REDUCED, STORES};
 use std::alloc::{AllocError, Global};
 
 /// The bytes that hexadecimal digits spell; spaces between them are passed over.

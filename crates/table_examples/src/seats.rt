@@ -1,9 +1,11 @@
 //! The seats of a table of two cores.
-ghost use Rattle.std.specs.Prelude.{◌≡◌, IfSome};
+ghost use Rattle.std.specs.Prelude.{◌≡◌, IfOk, IfSome};
+ghost use Rattle.race_log.specs.Validity.{Valid};
 ghost use Rattle.replay_table.specs.Seats.{AllAt};
 
 use race_log::Recording;
 use replay_table::{Closed, CoreSeat, Job, ReplayTable};
+use rtr_types::Which;
 use std::alloc::{AllocError, Global};
 
 /// The last two seats.
@@ -17,6 +19,24 @@ pub(crate) fn pair<J: Job>(
     let second = seats.pop()?;
     let first = seats.pop()?;
     Some((first, second))
+}
+
+/// The table of a recording of two cores, with both seats.
+pub(crate) fn table_of_two<'a, J: Job>(
+    alloc: Global,
+    recording: &'a Recording,
+    which: Which,
+) -> Result<Option<(ReplayTable<'a, J>, CoreSeat<J>, CoreSeat<J>)>, AllocError>
+    requires valid { Valid J.recording }
+    requires recording { recording.now ≡ J.recording }
+    requires which { which ≡ J.which }
+    ensures { IfOk result (λ made. IfSome made (λ two. (two.1.table_id ≡ two.0) × (two.2.table_id ≡ two.0))) }
+{
+    let (table, seats) = ReplayTable::<J>::make(alloc, recording, which)?;
+    let Some((first, second)) = pair(&table, seats) else {
+        return Ok(None);
+    };
+    Ok(Some((table, first, second)))
 }
 
 /// Closes the table of two seats that are at their totals.

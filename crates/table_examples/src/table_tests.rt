@@ -1,9 +1,10 @@
 //! Two seats, turn by turn, and in two threads.
 ghost use Rattle.std.specs.Prelude.{◌≡◌, ◌<◌, All, length};
 ghost use Rattle.race_log.specs.Validity.{Valid};
+ghost use Rattle.rtr_types.specs.declared.pairs.Which.TheVariants.{Reduced, Regulated};
 
 use crate::recordings::{IN_TURN, TWO_BYTES, TWO_SUMS};
-use crate::seats::{close_pair, pair};
+use crate::seats::{close_pair, pair, table_of_two};
 use log_codec::read;
 use race_log::Recording;
 use replay_table::{Closed, CoreSeat, Job, Raced, ReplayTable};
@@ -11,6 +12,7 @@ use rtr_types::Which;
 use rv_core::{Need, Outcome};
 use std::alloc::{AllocError, Global};
 use std::marker::Brand;
+use std::process::Abort;
 use std::test::Fail;
 use std::thread;
 use std::thread::Threads;
@@ -167,13 +169,10 @@ fn worked<J: Job + Send + Sync, R: Threads + Sync>(
     rt: &R,
     alloc: Global,
     recording: &Recording,
-    which: Which,
 ) -> Result<Option<Closed>, AllocError>
-    requires valid { Valid J.recording }
-    requires recording { recording.now ≡ J.recording }
-    requires which { which ≡ J.which }
+    requires { Valid J.recording × (recording.now ≡ J.recording) × (J.which ≡ Regulated) }
 {
-    let (table, mut seats) = ReplayTable::<J>::make(alloc, recording, which)?;
+    let (table, mut seats) = ReplayTable::<J>::make(alloc, recording, Which::Regulated)?;
     both_work(rt, &table, seats.as_mut_slice(), recording);
     let Some((first, second)) = pair(&table, seats) else {
         return Ok(None);
@@ -185,14 +184,11 @@ fn worked<J: Job + Send + Sync, R: Threads + Sync>(
 fn stored_then_loaded<J: Job>(
     alloc: Global,
     recording: &Recording,
-    which: Which,
 ) -> Result<Option<([u32; 2], [Did; 5])>, AllocError>
-    requires valid { Valid J.recording }
-    requires recording { recording.now ≡ J.recording }
-    requires which { which ≡ J.which }
+    requires { Valid J.recording × (recording.now ≡ J.recording) × (J.which ≡ Reduced) }
 {
-    let (table, seats) = ReplayTable::<J>::make(alloc, recording, which)?;
-    let Some((mut first, mut second)) = pair(&table, seats) else {
+    let made = table_of_two::<J>(alloc, recording, Which::Reduced)?;
+    let Some((table, mut first, mut second)) = made else {
         return Ok(None);
     };
     if recording.totals.len() == 0 {
@@ -206,54 +202,22 @@ fn stored_then_loaded<J: Job>(
 fn both_held<J: Job>(
     alloc: Global,
     recording: &Recording,
-    which: Which,
     two: bool,
 ) -> Result<Option<[Did; 6]>, AllocError>
-    requires valid { Valid J.recording }
-    requires recording { recording.now ≡ J.recording }
-    requires which { which ≡ J.which }
+    requires { Valid J.recording × (recording.now ≡ J.recording) × (J.which ≡ Reduced) }
 {
-    let (table, seats) = ReplayTable::<J>::make(alloc, recording, which)?;
-    let Some((mut first, mut second)) = pair(&table, seats) else {
+    let made = table_of_two::<J>(alloc, recording, Which::Reduced)?;
+    let Some((table, mut first, mut second)) = made else {
         return Ok(None);
     };
     let did = both_hold(&table, &mut first, &mut second, recording, two)?;
     Ok(Some(did))
 }
 
-fn stored_and_loaded(
-    alloc: Global,
-    recording: &Recording,
-) -> Result<Option<([u32; 2], [Did; 5])>, AllocError>
-    requires { Valid recording.now }
-{
-    stored_then_loaded::<Brand>(alloc, recording, Which::Reduced)
-}
-
-fn held_by_both(
-    alloc: Global,
-    recording: &Recording,
-    two: bool,
-) -> Result<Option<[Did; 6]>, AllocError>
-    requires { Valid recording.now }
-{
-    both_held::<Brand>(alloc, recording, Which::Reduced, two)
-}
-
-fn worked_by_two<R: Threads + Sync>(
-    rt: &R,
-    alloc: Global,
-    recording: &Recording,
-) -> Result<Option<Closed>, AllocError>
-    requires { Valid recording.now }
-{
-    worked::<Brand, R>(rt, alloc, recording, Which::Regulated)
-}
-
 #[test]
 fn what_is_published_is_loaded(rt: HostRuntime) -> Result<(), Fail> {
     let recording = read(rt.alloc(), &IN_TURN)?;
-    let done = stored_and_loaded(rt.alloc(), &recording)?;
+    let done = stored_then_loaded::<Brand>(rt.alloc(), &recording)?;
     let did = [
         Did::Local,
         Did::Local,
@@ -276,20 +240,22 @@ const ONE_LOSES: [Did; 6] = [
     Did::Lost { held: 0, found: 5 },
 ];
 
-#[test]
-fn a_held_byte_is_lost(rt: HostRuntime) -> Result<(), Fail> {
-    let bytes = read(rt.alloc(), &TWO_BYTES)?;
-    let did = held_by_both(rt.alloc(), &bytes, false)?;
+/// So it is in a replay of these bytes.
+fn one_loses(rt: &impl Abort, alloc: Global, bytes: &[u8], two: bool) -> Result<(), Fail> {
+    let recording = read(alloc, bytes)?;
+    let did = both_held::<Brand>(alloc, &recording, two)?;
     assert!(rt; did == Some(ONE_LOSES));
     Ok(())
 }
 
 #[test]
+fn a_held_byte_is_lost(rt: HostRuntime) -> Result<(), Fail> {
+    one_loses(&rt, rt.alloc(), &TWO_BYTES, false)
+}
+
+#[test]
 fn a_held_sum_is_lost(rt: HostRuntime) -> Result<(), Fail> {
-    let sums = read(rt.alloc(), &TWO_SUMS)?;
-    let did = held_by_both(rt.alloc(), &sums, true)?;
-    assert!(rt; did == Some(ONE_LOSES));
-    Ok(())
+    one_loses(&rt, rt.alloc(), &TWO_SUMS, true)
 }
 
 /// Word 16 was left by core 1, which had found 7 there; core 0 found that at last.
@@ -309,7 +275,7 @@ fn is_in_turn(outcome: &Outcome) -> bool {
 #[test]
 fn two_threads_share_a_table(rt: HostRuntime) -> Result<(), Fail> {
     let recording = read(rt.alloc(), &IN_TURN)?;
-    let closed = worked_by_two(&rt, rt.alloc(), &recording)?;
+    let closed = worked::<Brand, _>(&rt, rt.alloc(), &recording)?;
     let ended = match &closed {
         Some(closed) => is_in_turn(closed.outcome()) && closed.touched().len() == 2,
         None => false,

@@ -1,9 +1,10 @@
 //! The turns of two workers, one after the other on one thread, and at the same time on two.
-ghost use Rattle.std.specs.Prelude.{◌≡◌};
+ghost use Rattle.std.specs.Prelude.{◌≡◌, IfOk, IfSome};
 ghost use Rattle.race_log.specs.Validity.{Valid};
+ghost use Rattle.rtr_types.specs.declared.pairs.Which.TheVariants.{Reduced};
 
 use crate::recordings::{IN_TURN, MANY_SUMS, ONE_TOO_MANY};
-use crate::seats::{close_pair, pair};
+use crate::seats::{close_pair, table_of_two};
 use log_codec::read;
 use race_log::Recording;
 use replay_table::{Job, ReplayTable};
@@ -11,6 +12,7 @@ use replay_threads::{OpenGate, Turn, Worker};
 use rtr_types::Which;
 use std::alloc::{AllocError, Global};
 use std::marker::Brand;
+use std::process::Abort;
 use std::test::Fail;
 use std::thread;
 use std::thread::Threads;
@@ -66,37 +68,44 @@ fn take_turns<J: Job>(
     })
 }
 
-/// The turns of a recording's two workers.
-fn turns_by<J: Job>(
+/// The table of a recording of two cores, with their workers.
+fn workers_of_two<'a, J: Job>(
     alloc: Global,
-    recording: &Recording,
-    which: Which,
-) -> Result<Option<Turns>, AllocError>
-    requires valid { Valid J.recording }
-    requires recording { recording.now ≡ J.recording }
-    requires which { which ≡ J.which }
+    recording: &'a Recording,
+) -> Result<Option<(ReplayTable<'a, J>, Worker<'a, J>, Worker<'a, J>)>, AllocError>
+    requires { Valid J.recording × (recording.now ≡ J.recording) × (J.which ≡ Reduced) }
+    ensures { IfOk result (λ made. IfSome made (λ two. (two.1.table_id ≡ two.0) × (two.2.table_id ≡ two.0))) }
 {
-    let (table, seats) = ReplayTable::<J>::make(alloc, recording, which)?;
-    let Some((first, second)) = pair(&table, seats) else {
+    let Some((table, first, second)) = table_of_two::<J>(alloc, recording, Which::Reduced)? else {
         return Ok(None);
     };
-    let mut first = Worker::new(recording, which, first);
-    let mut second = Worker::new(recording, which, second);
+    let first = Worker::new(recording, Which::Reduced, first);
+    let second = Worker::new(recording, Which::Reduced, second);
+    Ok(Some((table, first, second)))
+}
+
+/// The turns of a recording's two workers.
+fn turns_by<J: Job>(alloc: Global, recording: &Recording) -> Result<Option<Turns>, AllocError>
+    requires { Valid J.recording × (recording.now ≡ J.recording) × (J.which ≡ Reduced) }
+{
+    let Some((table, mut first, mut second)) = workers_of_two::<J>(alloc, recording)? else {
+        return Ok(None);
+    };
     let turns = take_turns(&table, &mut first, &mut second)?;
     Ok(Some(turns))
 }
 
-fn turns_of(alloc: Global, recording: &Recording) -> Result<Option<Turns>, AllocError>
-    requires { Valid recording.now }
-{
-    turns_by::<Brand>(alloc, recording, Which::Reduced)
+/// The two workers of the recording with these bytes take such turns.
+fn turns_are(rt: &impl Abort, alloc: Global, bytes: &[u8], turns: Turns) -> Result<(), Fail> {
+    let recording = read(alloc, bytes)?;
+    let taken = turns_by::<Brand>(alloc, &recording)?;
+    assert!(rt; taken == Some(turns));
+    Ok(())
 }
 
 #[test]
 fn workers_wait_for_each_other(rt: HostRuntime) -> Result<(), Fail> {
-    let recording = read(rt.alloc(), &IN_TURN)?;
-    let turns = turns_of(rt.alloc(), &recording)?;
-    let expected = Turns {
+    let turns = Turns {
         before: [false, false],
         endings: [
             Ending::Waiting { core: 0, count: 3 },
@@ -106,21 +115,17 @@ fn workers_wait_for_each_other(rt: HostRuntime) -> Result<(), Fail> {
         ],
         after: [true, true],
     };
-    assert!(rt; turns == Some(expected));
-    Ok(())
+    turns_are(&rt, rt.alloc(), &IN_TURN, turns)
 }
 
 #[test]
 fn a_program_falls_short(rt: HostRuntime) -> Result<(), Fail> {
-    let recording = read(rt.alloc(), &ONE_TOO_MANY)?;
-    let turns = turns_of(rt.alloc(), &recording)?;
-    let expected = Turns {
+    let turns = Turns {
         before: [false, false],
         endings: [Ending::Ended, Ending::Short, Ending::Ended, Ending::Short],
         after: [false, true],
     };
-    assert!(rt; turns == Some(expected));
-    Ok(())
+    turns_are(&rt, rt.alloc(), &ONE_TOO_MANY, turns)
 }
 
 /// Turns until the worker's core is at its total: how many of them were raced. To each of those belongs a store of
@@ -175,18 +180,12 @@ fn race_by<J: Job + Send + Sync, R: Threads + Sync>(
     rt: &R,
     alloc: Global,
     recording: &Recording,
-    which: Which,
 ) -> Result<Option<Race>, AllocError>
-    requires valid { Valid J.recording }
-    requires recording { recording.now ≡ J.recording }
-    requires which { which ≡ J.which }
+    requires { Valid J.recording × (recording.now ≡ J.recording) × (J.which ≡ Reduced) }
 {
-    let (table, seats) = ReplayTable::<J>::make(alloc, recording, which)?;
-    let Some((first, second)) = pair(&table, seats) else {
+    let Some((table, mut first, mut second)) = workers_of_two::<J>(alloc, recording)? else {
         return Ok(None);
     };
-    let mut first = Worker::new(recording, which, first);
-    let mut second = Worker::new(recording, which, second);
     let raced = at_once(rt, &table, &mut first, &mut second)?;
     let closed = close_pair(
         alloc,
@@ -199,16 +198,6 @@ fn race_by<J: Job + Send + Sync, R: Threads + Sync>(
     Ok(Some(Race { raced, word }))
 }
 
-fn race_of<R: Threads + Sync>(
-    rt: &R,
-    alloc: Global,
-    recording: &Recording,
-) -> Result<Option<Race>, AllocError>
-    requires { Valid recording.now }
-{
-    race_by::<Brand, R>(rt, alloc, recording, Which::Reduced)
-}
-
 // Each of the 99,998 additions is of 5 and none is lost, however often a turn is raced and taken again. That one is
 // raced needs the other core's store between its two steps, which comes soon where both work at the same time.
 #[test]
@@ -216,7 +205,7 @@ fn a_raced_turn_is_taken_again(rt: HostRuntime) -> Result<(), Fail> {
     let recording = read(rt.alloc(), &MANY_SUMS)?;
     let mut raced = false;
     for _attempt in 0..200 {
-        let race = race_of(&rt, rt.alloc(), &recording)?;
+        let race = race_by::<Brand, _>(&rt, rt.alloc(), &recording)?;
         assert!(rt; race.and_then(|race| race.word) == Some(499_990));
         raced = race.is_some_and(|race| race.raced != [0, 0]);
         if raced {

@@ -13,8 +13,7 @@ use vector_reduce::{ThinCheckFault, Thinned, check_thin, read_thin, spell_thin};
 fn is_left(alloc: Global, recording: &Recording, bytes: &[u8]) -> Result<bool, AllocError>
     requires { Valid recording.now }
 {
-    let spelled = spell(alloc, recording)?;
-    Ok(spelled.as_slice() == bytes)
+    Ok(spell(alloc, recording)?.as_slice() == bytes)
 }
 
 /// Whether what is thinned is accepted, and is spelled so.

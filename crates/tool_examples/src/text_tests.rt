@@ -151,21 +151,19 @@ fn longest_exit(rt: HostRuntime) {
     assert_eq!(rt; text.bytes().len(), 13 + 11 * PLACES + 1);
 }
 
-// The most edges that a number of 64 bits tells.
+// The most edges, and the most vectors, that a number of 64 bits tells.
 #[test]
-fn a_check(rt: HostRuntime) -> Result<(), Fail> {
-    let text = check_text(rt.alloc(), u64::MAX)?;
-    let line = "least 18446744073709551615 edges\n";
-    assert_eq!(rt; text.as_slice(), line.as_bytes());
-    Ok(())
-}
-
-// The most vectors that a number of 64 bits tells.
-#[test]
-fn a_check_of_vectors(rt: HostRuntime) -> Result<(), Fail> {
-    let text = needed_text(rt.alloc(), u64::MAX)?;
-    let line = "needed 18446744073709551615 vectors\n";
-    assert_eq!(rt; text.as_slice(), line.as_bytes());
+fn greatest_checks(rt: HostRuntime) -> Result<(), Fail> {
+    let edges = check_text(rt.alloc(), u64::MAX)?;
+    assert_eq!(rt;
+        edges.as_slice(),
+        "least 18446744073709551615 edges\n".as_bytes()
+    );
+    let vectors = needed_text(rt.alloc(), u64::MAX)?;
+    assert_eq!(rt;
+        vectors.as_slice(),
+        "needed 18446744073709551615 vectors\n".as_bytes()
+    );
     Ok(())
 }
 

@@ -12,9 +12,28 @@ fn meaning_of(alloc: Global, line: &str) -> Result<Option<Command>, AllocError> 
     meaning(alloc, words.as_slice())
 }
 
+/// Each row's line means what the row says.
+macro_rules! each_means {
+    ($rt:ident, $rows:ident by $is_meant:ident) => {
+        for row in &$rows {
+            let command = meaning_of($rt.alloc(), row.line)?;
+            assert!($rt; $is_meant(command, row), "{}", row.line);
+        }
+    };
+}
+
+/// What is done with a run, of plain cores or of ones with store buffers.
+enum Verb {
+    Run,
+    Record,
+    TsoRun,
+    TsoRecord,
+}
+
 /// A line of words and the run that it means.
 struct Row {
     line: &'static str,
+    verb: Verb,
     cores: u8,
     limit: u32,
     words: u32,
@@ -24,9 +43,10 @@ struct Row {
     elf: bool,
 }
 
-/// A run whose words give nothing.
+/// A run whose words give nothing else.
 const PLAIN: Row = Row {
     line: "",
+    verb: Verb::Run,
     cores: 1,
     limit: 10_000,
     words: 16_384,
@@ -43,7 +63,7 @@ macro_rules! run {
     };
 }
 
-static ROWS: [Row; 9] = [
+static ROWS: [Row; 15] = [
     run!("run" =>),
     run!("run --loads --words 32" => words: 32, loads: true),
     run!("run --cores 16 --limit=1 --loads" => cores: 16, limit: 1, loads: true),
@@ -56,6 +76,14 @@ static ROWS: [Row; 9] = [
         cores: 2, choices: &[7], seed: 18_446_744_073_709_551_615),
     run!("run --elf --loads" => loads: true, elf: true),
     run!("run --words 32 --choices 07 --elf" => words: 32, choices: &[7], elf: true),
+    run!("record --elf --words 32 --choices=07" => verb: Verb::Record, words: 32, choices: &[7], elf: true),
+    run!("tsorun" => verb: Verb::TsoRun),
+    run!("tsorun --cores 2 --words=32 --choices 0000 --loads" =>
+        verb: Verb::TsoRun, cores: 2, words: 32, choices: &[0, 0], loads: true),
+    run!("tsorun --seed=9 --limit 250000 --cores=16" => verb: Verb::TsoRun, cores: 16, limit: 250_000, seed: 9),
+    run!("tsorecord" => verb: Verb::TsoRecord),
+    run!("tsorecord --choices=07ff --words 262144 --seed 18446744073709551615 --cores 2" =>
+        verb: Verb::TsoRecord, cores: 2, words: 262_144, choices: &[7, 255], seed: 18_446_744_073_709_551_615),
 ];
 
 /// Whether the words of a run are those of the row.
@@ -71,20 +99,23 @@ fn is_of_row(run: &RunWords, row: &Row) -> bool {
         && run.elf == row.elf
 }
 
-/// Whether the command is the run of the row.
+/// Whether the command does with the run of the row what the row says.
 fn is_run(command: Option<Command>, row: &Row) -> bool {
-    let Some(Command::Run { run, loads }) = command else {
-        return false;
-    };
-    is_of_row(&run, row) && loads == row.loads
+    match (command, &row.verb) {
+        (Some(Command::Run { run, loads }), Verb::Run) => is_of_row(&run, row)
+            && loads == row.loads,
+        (Some(Command::TsoRun { run, loads }), Verb::TsoRun) => {
+            is_of_row(&run, row) && loads == row.loads
+        }
+        (Some(Command::Record(run)), Verb::Record) => is_of_row(&run, row),
+        (Some(Command::TsoRecord(run)), Verb::TsoRecord) => is_of_row(&run, row),
+        _ => false,
+    }
 }
 
 #[test]
-fn words_that_mean_a_run(rt: HostRuntime) -> Result<(), Fail> {
-    for row in &ROWS {
-        let command = meaning_of(rt.alloc(), row.line)?;
-        assert!(rt; is_run(command, row), "{}", row.line);
-    }
+fn words_that_mean_a_run_or_its_record(rt: HostRuntime) -> Result<(), Fail> {
+    each_means!(rt, ROWS by is_run);
     Ok(())
 }
 
@@ -120,10 +151,7 @@ fn is_replay(command: Option<Command>, row: &ReplayRow) -> bool {
 
 #[test]
 fn words_that_mean_a_replay(rt: HostRuntime) -> Result<(), Fail> {
-    for row in &REPLAYS {
-        let command = meaning_of(rt.alloc(), row.line)?;
-        assert!(rt; is_replay(command, row), "{}", row.line);
-    }
+    each_means!(rt, REPLAYS by is_replay);
     Ok(())
 }
 
@@ -242,31 +270,6 @@ fn words_that_mean_nothing(rt: HostRuntime) -> Result<(), Fail> {
     Ok(())
 }
 
-#[test]
-fn words_without_options(rt: HostRuntime) -> Result<(), Fail> {
-    let alloc = rt.alloc();
-    assert!(rt; matches!(meaning_of(alloc, "print")?, Some(Command::Print)));
-    assert!(rt; matches!(meaning_of(alloc, "migrate")?, Some(Command::Migrate)));
-    assert!(rt; matches!(meaning_of(alloc, "certify")?, Some(Command::Certify)));
-    assert!(rt; matches!(meaning_of(alloc, "check")?, Some(Command::Check)));
-    Ok(())
-}
-
-/// Whether the command records the run of the row.
-fn is_record(command: Option<Command>, row: &Row) -> bool {
-    let Some(Command::Record(run)) = command else {
-        return false;
-    };
-    is_of_row(&run, row)
-}
-
-#[test]
-fn words_that_mean_a_record(rt: HostRuntime) -> Result<(), Fail> {
-    let command = meaning_of(rt.alloc(), "record --elf --words 32 --choices=07")?;
-    assert!(rt; is_record(command, &ROWS[8]));
-    Ok(())
-}
-
 /// A line of words and the image that it asks for.
 struct ImageRow {
     line: &'static str,
@@ -287,15 +290,15 @@ static IMAGES: [ImageRow; 4] = [
     image!("gen --number 18446744073709551615 --shape mix" => Mix, 18_446_744_073_709_551_615),
 ];
 
+/// Whether the command makes the row's image.
+fn is_image(command: Option<Command>, row: &ImageRow) -> bool {
+    matches!(command, Some(Command::Gen { shape, number })
+        if shape == row.shape && number == row.number)
+}
+
 #[test]
 fn words_that_mean_an_image(rt: HostRuntime) -> Result<(), Fail> {
-    for row in &IMAGES {
-        let meant = match meaning_of(rt.alloc(), row.line)? {
-            Some(Command::Gen { shape, number }) => shape == row.shape && number == row.number,
-            _ => false,
-        };
-        assert!(rt; meant, "{}", row.line);
-    }
+    each_means!(rt, IMAGES by is_image);
     Ok(())
 }
 
@@ -341,10 +344,7 @@ fn is_soak(command: Option<Command>, row: &SoakRow) -> bool {
 
 #[test]
 fn words_that_mean_a_soak(rt: HostRuntime) -> Result<(), Fail> {
-    for row in &SOAKS {
-        let command = meaning_of(rt.alloc(), row.line)?;
-        assert!(rt; is_soak(command, row), "{}", row.line);
-    }
+    each_means!(rt, SOAKS by is_soak);
     Ok(())
 }
 
@@ -384,92 +384,27 @@ fn is_at(command: Option<Command>, row: &AtRow) -> bool {
 
 #[test]
 fn words_that_mean_an_instruction(rt: HostRuntime) -> Result<(), Fail> {
-    for row in &INSTRUCTIONS {
-        let command = meaning_of(rt.alloc(), row.line)?;
-        assert!(rt; is_at(command, row), "{}", row.line);
-    }
+    each_means!(rt, INSTRUCTIONS by is_at);
     Ok(())
 }
 
-#[test]
-fn words_that_mean_fewer_vectors(rt: HostRuntime) -> Result<(), Fail> {
-    let alloc = rt.alloc();
-    assert!(rt;
-        matches!(
-            meaning_of(alloc, "thin")?,
-            Some(Command::Thin { certify: false })
-        )
-    );
-    assert!(rt;
-        matches!(
-            meaning_of(alloc, "thin --certify")?,
-            Some(Command::Thin { certify: true })
-        )
-    );
-    assert!(rt; matches!(meaning_of(alloc, "checkthin")?, Some(Command::CheckThin)));
-    Ok(())
-}
-
-static BUFFERED_RUNS: [Row; 3] = [
-    run!("tsorun" =>),
-    run!("tsorun --cores 2 --words=32 --choices 0000 --loads" => cores: 2, words: 32, choices: &[0, 0], loads: true),
-    run!("tsorun --seed=9 --limit 250000 --cores=16" => cores: 16, limit: 250_000, seed: 9),
-];
-
-/// Whether the command is the row's run of cores with store buffers.
-fn is_buffered_run(command: Option<Command>, row: &Row) -> bool {
-    let Some(Command::TsoRun { run, loads }) = command else {
-        return false;
+/// The line means a command of this form.
+macro_rules! means {
+    ($rt:ident, $line:literal => $($form:tt)*) => {
+        assert!($rt; matches!(meaning_of($rt.alloc(), $line)?, Some($($form)*)), $line);
     };
-    is_of_row(&run, row) && loads == row.loads
 }
 
 #[test]
-fn words_that_mean_a_run_of_buffered_cores(rt: HostRuntime) -> Result<(), Fail> {
-    for row in &BUFFERED_RUNS {
-        let command = meaning_of(rt.alloc(), row.line)?;
-        assert!(rt; is_buffered_run(command, row), "{}", row.line);
-    }
-    Ok(())
-}
-
-static BUFFERED_RECORDS: [Row; 2] = [
-    run!("tsorecord" =>),
-    run!("tsorecord --choices=07ff --words 262144 --seed 18446744073709551615 --cores 2" =>
-        cores: 2, words: 262_144, choices: &[7, 255], seed: 18_446_744_073_709_551_615),
-];
-
-/// Whether the command records the row's run of cores with store buffers.
-fn is_buffered_record(command: Option<Command>, row: &Row) -> bool {
-    let Some(Command::TsoRecord(run)) = command else {
-        return false;
-    };
-    is_of_row(&run, row)
-}
-
-#[test]
-fn words_that_mean_a_record_of_buffered_cores(rt: HostRuntime) -> Result<(), Fail> {
-    for row in &BUFFERED_RECORDS {
-        let command = meaning_of(rt.alloc(), row.line)?;
-        assert!(rt; is_buffered_record(command, row), "{}", row.line);
-    }
-    Ok(())
-}
-
-#[test]
-fn words_that_mean_a_replay_of_buffered_cores(rt: HostRuntime) -> Result<(), Fail> {
-    let alloc = rt.alloc();
-    assert!(rt;
-        matches!(
-            meaning_of(alloc, "tsoreplay")?,
-            Some(Command::TsoReplay { loads: false })
-        )
-    );
-    assert!(rt;
-        matches!(
-            meaning_of(alloc, "tsoreplay --loads")?,
-            Some(Command::TsoReplay { loads: true })
-        )
-    );
+fn words_with_one_option_at_most(rt: HostRuntime) -> Result<(), Fail> {
+    means!(rt, "print" => Command::Print);
+    means!(rt, "migrate" => Command::Migrate);
+    means!(rt, "certify" => Command::Certify);
+    means!(rt, "check" => Command::Check);
+    means!(rt, "thin" => Command::Thin { certify: false });
+    means!(rt, "thin --certify" => Command::Thin { certify: true });
+    means!(rt, "checkthin" => Command::CheckThin);
+    means!(rt, "tsoreplay" => Command::TsoReplay { loads: false });
+    means!(rt, "tsoreplay --loads" => Command::TsoReplay { loads: true });
     Ok(())
 }

@@ -9,7 +9,8 @@ use Rattle.tso_state.specs.States.{PlainState, all_done}
 use Rattle.tso_state.specs.FinalMemory.{final_memory}
 use Rattle.tso_state.specs.Runs.{accesses, outcome_at, run, totals, values_at}
 use Rattle.msi_examples.specs.Followed.{Seen, seen_in, then_zeros}
-use Rattle.tso_examples.specs.Images.{bytes_of_a_word, handed_over, mixed, store_buffering, sum}
+use Rattle.msi_examples.specs.Images.{bytes_of_a_word, handed_over, sum}
+use Rattle.tso_examples.specs.Images.{mixed, store_buffering}
 
 -- two cores, with a limit that none of the runs reaches
 abbrev pub two_cores : Contents → Params
