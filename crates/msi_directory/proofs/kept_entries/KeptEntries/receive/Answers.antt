@@ -8,7 +8,8 @@ invariant_of-self g c =
 
 pub returns : goal.returns
 returns g c =
-    done_at (response_deed g.R.Rider.riding c.args.from c.args.response.now) c.self.inside.stages c.self.inside.copies.items _
+    done_at (response_deed g.R.Rider.riding c.args.from c.args.response.now) c.self.inside.stages
+    c.self.inside.copies.items _
     c.self.view_is c.args.place _ _ c.index_mut-stage.ensures.value (rw (← c.self.view_is) at c.requires.copy)
     c.index_mut.ensures.value _ _ _ _ c.receive-answer.ensures.entry c.receive-answer.ensures.answer
     c.is_free-free.ensures

@@ -9,7 +9,8 @@ use Rattle.roomy_lists.proofs.Rooms.{others_but, others_more, others_none, pushe
 use Rattle.roomy_lists.proofs.Rooms.{still_ready, unknown}
 use Rattle.roomy_lists.proofs.all_lists.RoomyLists.push.Given.{Over}
 use Rattle.roomy_lists.proofs.all_lists.RoomyLists.push.Goals as goal
-use Rattle.roomy_lists.proofs.all_lists.RoomyLists.push.Goals.{After-push-ready, then-self, else-self, then-only, else-only}
+use Rattle.roomy_lists.proofs.all_lists.RoomyLists.push.Goals.{After-push-ready, else-only, else-self, then-only}
+use Rattle.roomy_lists.proofs.all_lists.RoomyLists.push.Goals.{then-self}
 
 -- after the item was put at the end of the list at its place
 module _ (g : Over) (c : After-push-ready g) where
