@@ -32,8 +32,8 @@ pub struct Row {
     pub shown: &'static [u8],
 }
 
-// In turn: 1:3 before 0:4 is implied by the two other vectors together and by neither alone; the same with two
-// positions of each of two vectors; the second position of the first vector isn't implied.
+/// In turn: 1:3 before 0:4 is implied by the two other vectors together and by neither alone; the same with two
+/// positions of each of two vectors; the second position of the first vector isn't implied.
 pub static ROWS: [Row; 3] = [
     Row {
         before: &[0, 0, 1, 1, 3, 4, 1, 1, 4, 4, 1, 1, 5, 4, 0],

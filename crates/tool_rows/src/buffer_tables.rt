@@ -26,6 +26,7 @@ macro_rules! logged {
 /// The recording of one ECALL, and what it comes to.
 pub const ONE_CALL: &str = "52545203 01 904e 808001 04 73000000 01 00";
 
+/// How a run of one ECALL ends.
 pub const ONE_CALL_TEXT: &str = "core 0 exit retired 1 pc 00000004\n";
 
 /// The part that other readers find no header in.

@@ -29,6 +29,7 @@ macro_rules! least {
 /// The clocks of `EACH_WAY`: each core has two edge ends.
 const CLOCKS: &str = "02 0300 0403 02 0302 0303";
 
+/// What `certify` and `check` make of recordings, and of certificates that were changed.
 pub static CERTIFICATES: [Row; 27] = [
     // One core has no edge, and so no clock.
     certified!("52545202 01 904e 808001 04 73000000 01", "00"),

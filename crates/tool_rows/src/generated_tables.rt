@@ -10,6 +10,7 @@ pub const LOCK_500: &str =
     "9302401f 13134500 93431500 13944300 93041000 23209310 23207012 83250410 63860500 \
     03260012 e30a76fe 83260013 93861600 2328d012 23200310 9382f2ff e39a02fc 73000000";
 
+/// What `gen` writes and `soak` tells, and what they refuse.
 pub static GENERATED: [Row; 11] = [
     made!("gen --shape lock --number 500", UNREAD, LOCK_500),
     refused!("gen --shape lock --number 0", UNREAD, 1, "rtr: usage\n"),
@@ -136,6 +137,7 @@ const LINKED: &str =
 const LINKED_ENDS: &str =
     "core 0 exit retired 5 pc 00000020\ncore 0 x5 00000001\nmem 00000044 00000001\n";
 
+/// What the commands make of ELF files and of flat images that look like them.
 pub static ELF_FILES: [Row; 12] = [
     told!("run --elf --words 8", PROGRAM, ENDS),
     told!("run --words 8", FLAT, ENDS),

@@ -152,6 +152,7 @@ pub static CUTS: [Cuts; 2] = [
     },
 ];
 
+/// What the commands make of flat images and of recordings, whole and damaged.
 pub static ROWS: [Row; 59] = [
     // A run of one core is recorded.
     made!(
