@@ -1,6 +1,7 @@
 -- What lies ahead, in either direction.
-use Rattle.std.proofs.Common.{◌≡◌, ℕ, sym, subst, arith}
-use Rattle.std.specs.Prelude.{Bool, IfSome, Option, Some, None}
+use Rattle.std.proofs.Common.{◌≡◌, ℕ, Result, sym, subst, arith}
+use Rattle.std.specs.Prelude.{Bool, IfOk, IfSome, Option, Some, None}
+use Rattle.std.proofs.lemmas.Result.{IfOk-weaker}
 use Rattle.rtr_types.specs.declared.core_set.CoreSet.{CoreSet}
 use Rattle.rtr_types.specs.declared.cut.Cut.{Cut}
 use Rattle.rtr_types.specs.declared.pairs.Which.{Which}
@@ -41,16 +42,26 @@ limit_ahead Forward r limit cut whole is_cut = in_whole r limit cut whole is_cut
 limit_ahead Back r limit cut none is_cut = λ core. let nothing = none core in omega arith
 
 -- the core at whose instruction something stopped the way has a next one there
-pub next_where : (direction : Direction) (test : Plan → Outcome → ℕ → Bool) (old mid : Placed) (to : Cut) →
-    Stands old → Valid old.recording → IsClosed old.which old.recording to → LiesAhead direction (cut_at old) to →
+next_at : (way : Direction) (test : Plan → Outcome → ℕ → Bool) (old mid : Placed) (to : Cut) →
+    Stands old → Valid old.recording → IsClosed old.which old.recording to → LiesAhead way (cut_at old) to →
     mid.recording ≡ old.recording → mid.which ≡ old.which → (stopped : Option ℕ) →
-    GoesTo direction test old to mid stopped →
+    GoesTo way test old to mid stopped →
     IfSome stopped (λ core. IsInstrOf mid.recording (next_in (cut_at mid) core))
-next_where direction test old mid to stands valid closed ahead recording which None goes = tt
-next_where Forward test old mid to stands valid closed ahead recording which (Some core) goes =
+next_at way test old mid to stands valid closed ahead recording which None goes = tt
+next_at Forward test old mid to stands valid closed ahead recording which (Some core) goes =
     next_forward test old mid to core stands valid closed ahead recording which goes
-next_where Back test old mid to stands valid closed ahead recording which (Some core) goes =
+next_at Back test old mid to stands valid closed ahead recording which (Some core) goes =
     next_backward test old mid to core stands valid closed ahead recording which goes
+
+-- so it has where a move in this direction was stopped
+pub next_where : {E : Type 0} (result : Result (Option ℕ) E) (direction way : Direction)
+    (test : Plan → Outcome → ℕ → Bool) (old mid : Placed) (to : Cut) → direction ≡ way →
+    Stands old → Valid old.recording → IsClosed old.which old.recording to → LiesAhead direction (cut_at old) to →
+    mid.recording ≡ old.recording → mid.which ≡ old.which → IfOk result (GoesTo way test old to mid) →
+    IfOk result (λ stopped. IfSome stopped (λ core. IsInstrOf mid.recording (next_in (cut_at mid) core)))
+next_where result direction way test old mid to is stands valid closed ahead recording which goes =
+    let lies = subst (λ (one : Direction). LiesAhead one (cut_at old) to) is ahead in
+    IfOk-weaker result _ _ (next_at way test old mid to stands valid closed lies recording which) goes
 
 -- where nothing stopped it, it came to the cut
 came : (direction : Direction) (test : Plan → Outcome → ℕ → Bool) (old new : Placed) (to : Cut) →
