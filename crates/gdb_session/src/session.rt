@@ -2,11 +2,10 @@
 ghost use Rattle.std.specs.Prelude.{◌≡◌, ◌∷◌, [], IfOk, IfSome, OnOk};
 ghost use Rattle.debug_place.specs.Places.{Stands, cut_at};
 ghost use Rattle.gdb_packets.specs.Replies.{spelled};
-ghost use Rattle.gdb_packets.specs.declared.replies.Reply.TheVariants.{Done};
 ghost use Rattle.gdb_monitor.specs.Moves.{IsKept};
 ghost use Rattle.gdb_session.specs.Answers.{AnswersPacket, AnswersPlain, AnswersWith, MovesBy, next_after};
 ghost use Rattle.gdb_session.specs.Orders.{IsWithin};
-ghost use Rattle.gdb_session.specs.Points.{takes, with_point, without_point};
+ghost use Rattle.gdb_session.specs.Points.{takes, with_point};
 ghost use Rattle.gdb_session.specs.Seats.{Begins, Sees, Sits, interrupted, seat_of};
 ghost use Rattle.gdb_session.specs.Told.{still_reply, there_reply};
 ghost use Rattle.gdb_session.specs.Wishes.{Fit, wishes_after};
@@ -178,11 +177,10 @@ impl Session<'_> {
                 self.moved(alloc, Some(order))
             }
             Plain::SetPoint(kind, span) => set_one(alloc, &mut self.points, point_of(kind, span)),
-            Plain::ClearPoint(kind, span) => clear_one(
-                alloc,
-                &mut self.points,
-                point_of(kind, span),
-            ),
+            Plain::ClearPoint(kind, span) => {
+                clear_point(alloc, &mut self.points, point_of(kind, span))?;
+                one(alloc, &Reply::Done)
+            }
             Plain::Quit => Ok(silent(alloc)),
             _ => answered_still(
                 alloc,
@@ -229,19 +227,6 @@ fn set_one(
 {
     let set = set_point(points, point)?;
     one(alloc, &there_reply(set))
-}
-
-/// Takes a point away.
-fn clear_one(
-    alloc: Global,
-    points: &mut Items<Point>,
-    point: Point,
-) -> Result<Items<Items<u8>>, AllocError>
-    ensures points { OnOk result (points.new ≡ without_point point points.old) }
-    ensures told { IfOk result (λ payloads. payloads ≡ spelled Done ∷ []) }
-{
-    clear_point(alloc, points, point)?;
-    one(alloc, &Reply::Done)
 }
 
 /// The payload that a packet is answered that moves nothing, sets no point and wants an answer.
