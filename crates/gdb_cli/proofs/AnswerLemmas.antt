@@ -22,19 +22,7 @@ as_printed : (moment : Moment) (input : List ℕ) (exit : Exit) (left left' got 
     → AnswersCommand (printed_by moment) exit left left' got got' → Answers moment exit left left' got got'
 as_printed moment input exits.Done left left' got got' h it = absurd h
 as_printed moment input exits.WriteFault left left' got got' h it = absurd h
-as_printed moment input exits.Usage left left' got got' h it = it
-as_printed moment input exits.TooLarge left left' got got' h it = it
-as_printed moment input exits.ReadFault left left' got got' h it = it
-as_printed moment input exits.OutOfMemory left left' got got' h it = it
-as_printed moment input (exits.Bad part) left left' got got' h it = it
-as_printed moment input (exits.Stuck cut) left left' got got' h it = it
-as_printed moment input (exits.Short core count) left left' got got' h it = it
-as_printed moment input (exits.Undetermined first second) left left' got got' h it = it
-as_printed moment input (exits.CheckFailed failure) left left' got got' h it = it
-as_printed moment input (exits.Elf fault) left left' got got' h it = it
-as_printed moment input (exits.NoInstr at) left left' got got' h it = it
-as_printed moment input (exits.TooMany vectors edges) left left' got got' h it = it
-as_printed moment input (exits.NotShown vector) left left' got got' h it = it
+as_printed moment input exit left left' got got' h it = it
 
 -- so it answers where the recording was taken and is refused
 pub refused_core : (moment : Moment) (input : List ℕ) (exit : Exit) (left left' got got' : Option (List ℕ))

@@ -23,19 +23,7 @@ declines : (which : Which) (input : List ℕ) (exit : Exit) (file file' : Option
     → Declines which exit file file'
 declines which input exits.Done file file' h it = absurd h
 declines which input exits.WriteFault file file' h it = absurd h
-declines which input exits.Usage file file' h it = it
-declines which input exits.TooLarge file file' h it = it
-declines which input exits.ReadFault file file' h it = it
-declines which input exits.OutOfMemory file file' h it = it
-declines which input (exits.Bad part) file file' h it = it
-declines which input (exits.Stuck cut) file file' h it = it
-declines which input (exits.Short core count) file file' h it = it
-declines which input (exits.Undetermined first second) file file' h it = it
-declines which input (exits.CheckFailed failure) file file' h it = it
-declines which input (exits.Elf fault) file file' h it = it
-declines which input (exits.NoInstr at) file file' h it = it
-declines which input (exits.TooMany vectors edges) file file' h it = it
-declines which input (exits.NotShown vector) file file' h it = it
+declines which input exit file file' h it = it
 
 pub refused_declines : (which : Which) (input : List ℕ) (exit : Exit) (file file' : Option (List ℕ))
     → IsTaken (most_of (replayed_by which)) file file' input → Refuses (replayed_by which) input exit
@@ -62,25 +50,7 @@ declined which exits.WriteFault file file' left left' got got' line greeted it =
 declined which exits.Usage file file' left left' got got' line greeted it = absurd it
 declined which exits.ReadFault file file' left left' got got' line greeted it = it.0
 declined which exits.OutOfMemory file file' left left' got got' line greeted it = it.0
-declined which exits.TooLarge file file' left left' got got' line greeted it =
-    record { line = line; greeted = greeted; declines = it }
-declined which (exits.Bad part) file file' left left' got got' line greeted it =
-    record { line = line; greeted = greeted; declines = it }
-declined which (exits.Stuck cut) file file' left left' got got' line greeted it =
-    record { line = line; greeted = greeted; declines = it }
-declined which (exits.Short core count) file file' left left' got got' line greeted it =
-    record { line = line; greeted = greeted; declines = it }
-declined which (exits.Undetermined first second) file file' left left' got got' line greeted it =
-    record { line = line; greeted = greeted; declines = it }
-declined which (exits.CheckFailed failure) file file' left left' got got' line greeted it =
-    record { line = line; greeted = greeted; declines = it }
-declined which (exits.Elf fault) file file' left left' got got' line greeted it =
-    record { line = line; greeted = greeted; declines = it }
-declined which (exits.NoInstr at) file file' left left' got got' line greeted it =
-    record { line = line; greeted = greeted; declines = it }
-declined which (exits.TooMany vectors edges) file file' left left' got got' line greeted it =
-    record { line = line; greeted = greeted; declines = it }
-declined which (exits.NotShown vector) file file' left left' got got' line greeted it =
+declined which exit file file' left left' got got' line greeted it =
     record { line = line; greeted = greeted; declines = it }
 
 -- a session that begins so and talks to its end
