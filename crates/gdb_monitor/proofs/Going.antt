@@ -13,12 +13,13 @@ use Rattle.rtr_types.specs.declared.pairs.Which.{Which}
 use Rattle.race_log.specs.declared.recording.Recording.{Recording}
 use Rattle.race_log.specs.Validity.{Valid}
 use Rattle.replay_audit.specs.Audits.{Findings, IsInstrOf}
-use Rattle.cut_replay.specs.ClosedCuts.{IsCutOf, IsGreatestWithout, IsLeastWith, count_in}
+use Rattle.cut_replay.specs.ClosedCuts.{IsCutOf, IsLeastWith, count_in}
 use Rattle.cut_replay.proofs.Unique.{one_cut}
-use Rattle.cut_moves.specs.Steps.{IsHull, last_in, next_in}
+use Rattle.cut_moves.specs.Steps.{IsHull}
 use Rattle.debug_place.specs.Places.{Placed, cut_at}
-use Rattle.gdb_monitor.specs.Moves.{AreCounts, Comes, GoesEarliest, GoesIfClosed, GoesLatest, GoesTo, GoesToCut}
-use Rattle.gdb_monitor.specs.Moves.{GoesWith, GoesWithout, IsOf, cut_with_counts}
+use Rattle.gdb_monitor.specs.declared.moves.Extreme.{Extreme}
+use Rattle.gdb_monitor.specs.Moves.{AreCounts, Comes, ComesWhere, GoesAround, GoesIfClosed, GoesTo, GoesToCut}
+use Rattle.gdb_monitor.specs.Moves.{IsExtreme, IsOf, cut_with_counts}
 use Rattle.gdb_monitor.specs.Texts.{open_text}
 
 -- two cuts that a test tells apart
@@ -36,43 +37,28 @@ cuts_differ x y off e = elim (cases_Bool (pointwise nat_eq x.counts y.counts)) [
 
 module _ (a : Findings) (old : Placed) (run : IsOf a old) (new : Placed) (told : List ℕ) where
   -- what holds of the audited recording at a cut holds of the place that has come there
-  holds_there : (Holds : Which → Recording → Cut → Type 0) (to : Cut) → Holds a.which a.recording to → cut_at new ≡ to →
-      Holds old.which old.recording (cut_at new)
-  holds_there Holds to holds cut_is =
-      subst (λ (c : Cut). Holds old.which old.recording c) (sym cut_is)
-      (subst (λ (r : Recording). Holds old.which r to) run.recording
-      (subst (λ (w : Which). Holds w a.recording to) run.which holds))
-
-  least_here : (at : Instr) (to : Cut) → IsLeastWith a.which a.recording at to → Comes to new told →
-      GoesWith at old new told
-  least_here at to least comes =
-      record { cut = holds_there (λ w r c. IsLeastWith w r at c) to least comes.cut; told_is = comes.told_is }
-
-  greatest_here : (at : Instr) (to : Cut) → IsGreatestWithout a.which a.recording at to → Comes to new told →
-      GoesWithout at old new told
-  greatest_here at to greatest comes =
-      record { cut = holds_there (λ w r c. IsGreatestWithout w r at c) to greatest comes.cut; told_is = comes.told_is }
+  comes_there : (Holds : Which → Recording → Cut → Type 0) (to : Cut) → Holds a.which a.recording to →
+      Comes to new told → ComesWhere (Holds old.which old.recording) new told
+  comes_there Holds to holds comes = record {
+    cut = subst (λ (c : Cut). Holds old.which old.recording c) (sym comes.cut)
+        (subst (λ (r : Recording). Holds old.which r to) run.recording
+        (subst (λ (w : Which). Holds w a.recording to) run.which holds));
+    told_is = comes.told_is;
+  }
 
   pub goes_to : (at : Instr) (to : Cut) (r : Recording) → r ≡ a.recording → IsInstrOf r at →
       IsLeastWith a.which a.recording at to → Comes to new told → GoesTo at old new told
   goes_to at to r same there least comes = record {
-    there = λ is. least_here at to least comes;
+    there = λ is. comes_there (λ w r c. IsLeastWith w r at c) to least comes;
     missing = λ no. absurd (no (subst (λ (q : Recording). IsInstrOf q at) (same ∙ run.recording) there));
   }
 
-  pub goes_earliest : (core : ℕ) (here to : Cut) → here ≡ cut_at old → core < old.recording.params.cores →
-      IsLeastWith a.which a.recording (last_in here core) to → Comes to new told → GoesEarliest core old new told
-  goes_earliest core here to is_here there least comes = record {
-    there = λ is. least_here (last_in (cut_at old) core) to
-        (subst (λ (c : Cut). IsLeastWith a.which a.recording (last_in c core) to) is_here least) comes;
-    missing = λ past. absurd (omega arith);
-  }
-
-  pub goes_latest : (core : ℕ) (here to : Cut) → here ≡ cut_at old → core < old.recording.params.cores →
-      IsGreatestWithout a.which a.recording (next_in here core) to → Comes to new told → GoesLatest core old new told
-  goes_latest core here to is_here there greatest comes = record {
-    there = λ is. greatest_here (next_in (cut_at old) core) to
-        (subst (λ (c : Cut). IsGreatestWithout a.which a.recording (next_in c core) to) is_here greatest) comes;
+  pub goes_around : (extreme : Extreme) (core : ℕ) (here to : Cut) → here ≡ cut_at old →
+      core < old.recording.params.cores → IsExtreme extreme a.which a.recording here core to → Comes to new told →
+      GoesAround extreme core old new told
+  goes_around extreme core here to is_here there is comes = record {
+    there = λ _. comes_there (λ w r c. IsExtreme extreme w r (cut_at old) core c) to
+        (subst (λ (c : Cut). IsExtreme extreme a.which a.recording c core to) is_here is) comes;
     missing = λ past. absurd (omega arith);
   }
 

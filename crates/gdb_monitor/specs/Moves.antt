@@ -4,11 +4,14 @@ use Rattle.std.specs.List.{range_with_len}
 use Rattle.rtr_types.specs.declared.TheConstants.{CORES_MAX}
 use Rattle.rtr_types.specs.declared.cut.Cut.{Cut}
 use Rattle.rtr_types.specs.declared.instr.Instr.{Instr}
+use Rattle.rtr_types.specs.declared.pairs.Which.{Which}
 use Rattle.race_log.specs.declared.recording.Recording.{Recording}
 use Rattle.replay_audit.specs.Audits.{Findings, IsInstrOf}
 use Rattle.cut_replay.specs.ClosedCuts.{IsClosed, IsGreatestWithout, IsLeastWith}
 use Rattle.cut_moves.specs.Steps.{IsHull, last_in, next_in}
 use Rattle.debug_place.specs.Places.{Placed, cut_at}
+use Rattle.gdb_monitor.specs.declared.moves.Extreme.{Extreme}
+use Rattle.gdb_monitor.specs.declared.moves.Extreme.TheVariants.{Earliest, Latest}
 use Rattle.gdb_monitor.specs.Texts.{here_text, open_text, usage_text}
 
 -- the place is one of this audited recording
@@ -34,29 +37,29 @@ Refuses old new told = Tells old new told usage_text
 
 -- ---- commands that move
 
--- the place comes to the least closed cut with an instruction, and it's told
-pub record GoesWith (at : Instr) (old new : Placed) (told : List ℕ) : Type 0 where
-  pub cut : IsLeastWith old.which old.recording at (cut_at new)
+-- the place comes to a cut of which this is true, and it's told
+pub record ComesWhere (Is : Cut → Type 0) (new : Placed) (told : List ℕ) : Type 0 where
+  pub cut : Is (cut_at new)
   pub told_is : told ≡ here_text new
 
--- to the greatest closed cut without one
-pub record GoesWithout (at : Instr) (old new : Placed) (told : List ℕ) : Type 0 where
-  pub cut : IsGreatestWithout old.which old.recording at (cut_at new)
-  pub told_is : told ≡ here_text new
+-- to this cut
+abbrev pub Comes : (to : Cut) → (new : Placed) → (told : List ℕ) → Type 0
+Comes to new told = ComesWhere (λ cut. cut ≡ to) new told
 
--- `goto C:N`
+-- `goto C:N`: to the least closed cut with this instruction
 pub record GoesTo (at : Instr) (old new : Placed) (told : List ℕ) : Type 0 where
-  pub there : IsInstrOf old.recording at → GoesWith at old new told
+  pub there : IsInstrOf old.recording at → ComesWhere (IsLeastWith old.which old.recording at) new told
   pub missing : (IsInstrOf old.recording at → ⊥) → Refuses old new told
 
--- `earliest C`: the core's last instruction is kept, and only what it needs
-pub record GoesEarliest (core : ℕ) (old new : Placed) (told : List ℕ) : Type 0 where
-  pub there : core < old.recording.params.cores → GoesWith (last_in (cut_at old) core) old new told
-  pub missing : old.recording.params.cores ≤ core → Refuses old new told
+-- the core's last instruction is kept, and only what it needs, or all comes that doesn't need the core's next one
+abbrev pub IsExtreme : Extreme → Which → Recording → (here : Cut) → (core : ℕ) → (to : Cut) → Type 0
+IsExtreme Earliest which r here core to = IsLeastWith which r (last_in here core) to
+IsExtreme Latest which r here core to = IsGreatestWithout which r (next_in here core) to
 
--- `latest C`: all comes that doesn't need the core's next instruction
-pub record GoesLatest (core : ℕ) (old new : Placed) (told : List ℕ) : Type 0 where
-  pub there : core < old.recording.params.cores → GoesWithout (next_in (cut_at old) core) old new told
+-- `earliest C` and `latest C`
+pub record GoesAround (extreme : Extreme) (core : ℕ) (old new : Placed) (told : List ℕ) : Type 0 where
+  pub there : core < old.recording.params.cores →
+      ComesWhere (IsExtreme extreme old.which old.recording (cut_at old) core) new told
   pub missing : old.recording.params.cores ≤ core → Refuses old new told
 
 -- one count for each core, at most its total
@@ -68,11 +71,6 @@ pub record AreCounts (r : Recording) (counts : List ℕ) : Type 0 where
 abbrev pub cut_with_counts : (cores : ℕ) → List ℕ → Cut
 cut_with_counts cores counts =
     record { cores = cores; counts = map (λ core. slice_index counts core) (range_with_len 0 CORES_MAX) }
-
--- the place comes to a cut, and it's told
-pub record Comes (to : Cut) (new : Placed) (told : List ℕ) : Type 0 where
-  pub cut : cut_at new ≡ to
-  pub told_is : told ≡ here_text new
 
 -- to a cut that is closed; where it isn't, the least closed cut that contains it is told, and nothing moves
 pub record GoesIfClosed (to : Cut) (old new : Placed) (told : List ℕ) : Type 0 where

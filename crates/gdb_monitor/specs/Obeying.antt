@@ -7,9 +7,10 @@ use Rattle.gdb_monitor.specs.declared.commands.Command.{Command}
 use Rattle.gdb_monitor.specs.declared.commands.Command.TheVariants.{Cut, GoTo, GoToCut, Earliest, Latest, Edges}
 use Rattle.gdb_monitor.specs.declared.commands.Command.TheVariants.{Writer, Readers, History, Conflicts}
 use Rattle.gdb_monitor.specs.declared.commands.Command.TheVariants.{Order, Lead, Unknown}
+use Rattle.gdb_monitor.specs.declared.moves.Extreme.TheVariants as extremes
 use Rattle.gdb_monitor.specs.Asking.{AreConflictsTold, AreEdgesTold, AreReadersTold, IsHistoryTold, IsWriterTold}
 use Rattle.gdb_monitor.specs.Leading.{lead_told}
-use Rattle.gdb_monitor.specs.Moves.{GoesEarliest, GoesLatest, GoesTo, GoesToCut, IsOf, Refuses, Tells}
+use Rattle.gdb_monitor.specs.Moves.{GoesAround, GoesTo, GoesToCut, IsOf, Refuses, Tells}
 use Rattle.gdb_monitor.specs.Ordering.{IsOrderTold}
 use Rattle.gdb_monitor.specs.Texts.{here_text, usage_text}
 
@@ -34,8 +35,8 @@ abbrev pub Obeys : Command → (old new : Placed) → (told : List ℕ) → Type
 Obeys Cut old new told = Tells old new told (here_text old)
 Obeys (GoTo at) old new told = GoesTo at old new told
 Obeys (GoToCut counts) old new told = GoesToCut counts old new told
-Obeys (Earliest core) old new told = GoesEarliest core old new told
-Obeys (Latest core) old new told = GoesLatest core old new told
+Obeys (Earliest core) old new told = GoesAround extremes.Earliest core old new told
+Obeys (Latest core) old new told = GoesAround extremes.Latest core old new told
 Obeys (Edges at) old new told = Asks (Edges at) old new told
 Obeys (Writer word) old new told = Asks (Writer word) old new told
 Obeys (Readers word) old new told = Asks (Readers word) old new told

@@ -1,9 +1,9 @@
 //! Moves that a command asks for.
-ghost use Rattle.std.specs.Prelude.{◌≡◌, ◌↔◌, IfOk, IsTrue, OnErr};
+ghost use Rattle.std.specs.Prelude.{◌≡◌, ◌↔◌, ◌<◌, IfOk, IsOkAnd, IsTrue, OnErr};
 ghost use Rattle.race_log.specs.Validity.{Valid};
 ghost use Rattle.cut_replay.specs.ClosedCuts.{IsClosed, IsCutOf};
 ghost use Rattle.debug_place.specs.Places.{cut_at};
-ghost use Rattle.gdb_monitor.specs.Moves.{AreCounts, Comes, GoesEarliest, GoesIfClosed, GoesLatest, GoesTo, GoesToCut};
+ghost use Rattle.gdb_monitor.specs.Moves.{AreCounts, Comes, GoesAround, GoesIfClosed, GoesTo, GoesToCut, IsExtreme};
 ghost use Rattle.gdb_monitor.specs.Moves.{IsKept, IsOf, cut_with_counts};
 
 use crate::texts::{Told, cut_text, open_text, usage};
@@ -13,7 +13,7 @@ use debug_place::Place;
 use race_log::Recording;
 use replay_audit::Audited;
 use rtr_types::{CORES_MAX, Cut, Instr};
-use std::alloc::Global;
+use std::alloc::{AllocError, Global};
 
 /// A place for each core, as the length of an array.
 const PLACES: usize = CORES_MAX as usize;
@@ -44,31 +44,47 @@ pub(crate) fn go_to(alloc: Global, audited: &Audited, place: &mut Place, at: Ins
     go(alloc, place, &to)
 }
 
-/// The core stays, and the others go back as far as the log lets them.
-pub(crate) fn go_earliest(alloc: Global, audited: &Audited, place: &mut Place, core: u8) -> Told
-    requires { IsOf audited.now place.old }
-    ensures kept { IsKept place.old place.new }
-    ensures ok { IfOk result (GoesEarliest core place.old place.new) }
-    ensures err { OnErr result (place.new ≡ place.old) }
-{
-    if core >= place.cores() {
-        return usage(alloc);
-    }
-    let to = earliest(audited, &place.cut(), core)?;
-    go(alloc, place, &to)
+/// The first or the last of the closed cuts in which a core stands where it does.
+#[derive(Clone, Copy)]
+pub(crate) enum Extreme {
+    /// The others go back as far as the log lets them.
+    Earliest,
+    /// The others go on as far as the log lets them.
+    Latest,
 }
 
-/// The core stays, and the others go on as far as the log lets them.
-pub(crate) fn go_latest(alloc: Global, audited: &Audited, place: &mut Place, core: u8) -> Told
+impl Extreme {
+    /// The closed cut to which the others go where this core stays.
+    fn around(self, audited: &Audited, cut: &Cut, core: u8) -> Result<Cut, AllocError>
+        requires closed { IsClosed audited.now.which audited.now.recording cut.now }
+        requires core { core < audited.now.recording.params.cores }
+        ensures closed { IsOkAnd result (IsClosed audited.now.which audited.now.recording) }
+        ensures is { IsOkAnd result (IsExtreme self audited.now.which audited.now.recording cut.now core) }
+    {
+        match self {
+            Extreme::Earliest => earliest(audited, cut, core),
+            Extreme::Latest => latest(audited, cut, core),
+        }
+    }
+}
+
+/// The core stays, and the others go as far as the log lets them.
+pub(crate) fn go_around(
+    alloc: Global,
+    audited: &Audited,
+    place: &mut Place,
+    extreme: Extreme,
+    core: u8,
+) -> Told
     requires { IsOf audited.now place.old }
     ensures kept { IsKept place.old place.new }
-    ensures ok { IfOk result (GoesLatest core place.old place.new) }
+    ensures ok { IfOk result (GoesAround extreme core place.old place.new) }
     ensures err { OnErr result (place.new ≡ place.old) }
 {
     if core >= place.cores() {
         return usage(alloc);
     }
-    let to = latest(audited, &place.cut(), core)?;
+    let to = extreme.around(audited, &place.cut(), core)?;
     go(alloc, place, &to)
 }
 

@@ -8,7 +8,7 @@ use crate::commands::Command;
 use crate::conflicts::conflicts_told;
 use crate::edges::edges_told;
 use crate::leading::lead_told;
-use crate::moves::{go_earliest, go_latest, go_to, go_to_cut};
+use crate::moves::{Extreme, go_around, go_to, go_to_cut};
 use crate::ordering::order_told;
 use crate::texts::{cut_text, usage};
 use debug_place::Place;
@@ -34,8 +34,8 @@ pub fn obey(
         Command::Cut => cut_text(alloc, &place.cut()),
         Command::GoTo(at) => go_to(alloc, audited, place, *at),
         Command::GoToCut(counts) => go_to_cut(alloc, audited, place, counts.as_slice()),
-        Command::Earliest(core) => go_earliest(alloc, audited, place, *core),
-        Command::Latest(core) => go_latest(alloc, audited, place, *core),
+        Command::Earliest(core) => go_around(alloc, audited, place, Extreme::Earliest, *core),
+        Command::Latest(core) => go_around(alloc, audited, place, Extreme::Latest, *core),
         Command::Edges(_) => ask(alloc, audited, place, command),
         Command::Writer(_) => ask(alloc, audited, place, command),
         Command::Readers(_) => ask(alloc, audited, place, command),
