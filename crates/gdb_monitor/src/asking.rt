@@ -9,11 +9,10 @@ ghost use Rattle.gdb_monitor.specs.Instrs.{row_text};
 ghost use Rattle.gdb_monitor.specs.Texts.{line};
 
 use crate::instrs::put_row;
-use crate::pcs::pcs_of;
+use crate::pcs::{Known, known_of};
 use crate::texts::{Put, Told, bytes_of, line};
 use race_queries::{history, holds, last_write, reads_since};
 use replay_audit::Audited;
-use roomy_lists::RoomyLists;
 use rtr_types::{Access, Cut};
 use std::alloc::Global;
 
@@ -31,23 +30,18 @@ pub(crate) fn writer_told(alloc: Global, audited: &Audited, cut: &Cut, word: u32
 fn row_told(alloc: Global, audited: &Audited, access: Access) -> Told
     ensures { IfOk result (IsRowTold audited.now access) }
 {
-    let pcs = pcs_of(alloc, audited)?;
+    let known = known_of(alloc, audited)?;
     let mut text = String::new(alloc);
-    put_line(alloc, &mut text, &pcs, access)?;
+    put_line(alloc, &mut text, &known, access)?;
     Ok(bytes_of(text))
 }
 
 /// Puts an access in a line.
-pub(crate) fn put_line(
-    alloc: Global,
-    text: &mut String,
-    pcs: &RoomyLists<u32>,
-    access: Access,
-) -> Put
+pub(crate) fn put_line(alloc: Global, text: &mut String, known: &Known, access: Access) -> Put
     ensures { OnOk result (string_bytes text.new
-        ≡ string_bytes text.old ++ line (row_text (items_in pcs.now) access)) }
+        ≡ string_bytes text.old ++ line (row_text (items_in known.now.pcs) access)) }
 {
-    put_row(alloc, text, pcs, access)?;
+    put_row(alloc, text, known, access)?;
     writeln!(text)
 }
 
@@ -67,18 +61,19 @@ pub(crate) fn readers_told(alloc: Global, audited: &Audited, cut: &Cut, word: u3
 fn rows_told(alloc: Global, audited: &Audited, list: &[Access]) -> Told
     ensures { IfOk result (AreRowsTold audited.now list.now) }
 {
-    let pcs = pcs_of(alloc, audited)?;
+    let known = known_of(alloc, audited)?;
     let mut text = String::new(alloc);
-    put_rows(alloc, &mut text, &pcs, list)?;
+    put_rows(alloc, &mut text, &known, list)?;
     Ok(bytes_of(text))
 }
 
 /// Puts accesses, each in a line.
-fn put_rows(alloc: Global, text: &mut String, pcs: &RoomyLists<u32>, list: &[Access]) -> Put
-    ensures { OnOk result (string_bytes text.new ≡ string_bytes text.old ++ rows_text (items_in pcs.now) list.now) }
+fn put_rows(alloc: Global, text: &mut String, known: &Known, list: &[Access]) -> Put
+    ensures { OnOk result (string_bytes text.new
+        ≡ string_bytes text.old ++ rows_text (items_in known.now.pcs) list.now) }
 {
     for access in list {
-        put_line(alloc, text, pcs, *access)?;
+        put_line(alloc, text, known, *access)?;
     }
     Ok(())
 }
@@ -99,40 +94,28 @@ pub(crate) fn history_told(alloc: Global, audited: &Audited, cut: &Cut, word: u3
 fn marked_told(alloc: Global, audited: &Audited, cut: &Cut, list: &[Access]) -> Told
     ensures { IfOk result (IsHistory audited.now cut.now list.now) }
 {
-    let pcs = pcs_of(alloc, audited)?;
+    let known = known_of(alloc, audited)?;
     let mut text = String::new(alloc);
-    put_marked(alloc, &mut text, &pcs, cut, list)?;
+    put_marked(alloc, &mut text, &known, cut, list)?;
     Ok(bytes_of(text))
 }
 
 /// Puts accesses, each in a line, those marked that aren't in the cut.
-fn put_marked(
-    alloc: Global,
-    text: &mut String,
-    pcs: &RoomyLists<u32>,
-    cut: &Cut,
-    list: &[Access],
-) -> Put
+fn put_marked(alloc: Global, text: &mut String, known: &Known, cut: &Cut, list: &[Access]) -> Put
     ensures { OnOk result (string_bytes text.new
-        ≡ string_bytes text.old ++ flat_map (history_row cut.now (items_in pcs.now)) list.now) }
+        ≡ string_bytes text.old ++ flat_map (history_row cut.now (items_in known.now.pcs)) list.now) }
 {
     for access in list {
-        put_marked_row(alloc, text, pcs, cut, *access)?;
+        put_marked_row(alloc, text, known, cut, *access)?;
     }
     Ok(())
 }
 
 /// Puts an access in a line, marked where it isn't in the cut.
-fn put_marked_row(
-    alloc: Global,
-    text: &mut String,
-    pcs: &RoomyLists<u32>,
-    cut: &Cut,
-    access: Access,
-) -> Put
+fn put_marked_row(alloc: Global, text: &mut String, known: &Known, cut: &Cut, access: Access) -> Put
     ensures { OnOk result (string_bytes text.new
-        ≡ string_bytes text.old ++ history_row cut.now (items_in pcs.now) access) }
+        ≡ string_bytes text.old ++ history_row cut.now (items_in known.now.pcs) access) }
 {
     text.push_str(if holds(cut, access.at) { "  " } else { "+ " })?;
-    put_line(alloc, text, pcs, access)
+    put_line(alloc, text, known, access)
 }

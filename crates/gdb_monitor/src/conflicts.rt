@@ -5,12 +5,11 @@ ghost use Rattle.roomy_lists.specs.Lists.{items_in};
 ghost use Rattle.gdb_monitor.specs.Asking.{AreConflicts, AreConflictsTold, called_row};
 
 use crate::asking::put_line;
-use crate::pcs::pcs_of;
+use crate::pcs::{Known, known_of};
 use crate::texts::{Put, Told, bytes_of, line, usage};
 use cut_replay::has_instr;
 use race_queries::{Conflicts, conflicts_of};
 use replay_audit::Audited;
-use roomy_lists::RoomyLists;
 use rtr_types::{Access, Instr};
 use std::alloc::Global;
 
@@ -31,20 +30,20 @@ pub(crate) fn conflicts_told(alloc: Global, audited: &Audited, at: Instr) -> Tol
 fn conflicts_at(alloc: Global, audited: &Audited, conflicts: &Conflicts) -> Told
     ensures { IfOk result (AreConflicts audited.now conflicts.now) }
 {
-    let pcs = pcs_of(alloc, audited)?;
+    let known = known_of(alloc, audited)?;
     let mut text = String::new(alloc);
-    put_line(alloc, &mut text, &pcs, conflicts.access)?;
+    put_line(alloc, &mut text, &known, conflicts.access)?;
     put_called(
         alloc,
         &mut text,
-        &pcs,
+        &known,
         "  earlier ",
         conflicts.earlier.as_slice(),
     )?;
     put_called(
         alloc,
         &mut text,
-        &pcs,
+        &known,
         "  later   ",
         conflicts.later.as_slice(),
     )?;
@@ -52,19 +51,13 @@ fn conflicts_at(alloc: Global, audited: &Audited, conflicts: &Conflicts) -> Told
 }
 
 /// Puts accesses, each in a line, behind what they are called.
-fn put_called(
-    alloc: Global,
-    text: &mut String,
-    pcs: &RoomyLists<u32>,
-    called: &str,
-    list: &[Access],
-) -> Put
+fn put_called(alloc: Global, text: &mut String, known: &Known, called: &str, list: &[Access]) -> Put
     ensures { OnOk result (string_bytes text.new
-        ≡ string_bytes text.old ++ flat_map (called_row called.now (items_in pcs.now)) list.now) }
+        ≡ string_bytes text.old ++ flat_map (called_row called.now (items_in known.now.pcs)) list.now) }
 {
     for access in list {
         text.push_str(called)?;
-        put_line(alloc, text, pcs, *access)?;
+        put_line(alloc, text, known, *access)?;
     }
     Ok(())
 }

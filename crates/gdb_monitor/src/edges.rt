@@ -7,13 +7,12 @@ ghost use Rattle.gdb_monitor.specs.Instrs.{instr_text};
 ghost use Rattle.gdb_monitor.specs.Texts.{line};
 
 use crate::instrs::put_instr;
-use crate::pcs::pcs_of;
+use crate::pcs::{Known, known_of};
 use crate::texts::{Put, Told, bytes_of, usage};
 use cut_replay::has_instr;
 use race_queries::{edges_into, edges_out_of, holds};
 use replay_audit::Audited;
-use roomy_lists::RoomyLists;
-use rtr_types::{Access, Cut, Instr};
+use rtr_types::{Cut, Instr};
 use std::alloc::Global;
 
 /// An instruction, and the edges of the log at it.
@@ -31,45 +30,22 @@ pub(crate) fn edges_told(alloc: Global, audited: &Audited, cut: &Cut, at: Instr)
 fn edges_at(alloc: Global, audited: &Audited, cut: &Cut, at: Instr) -> Told
     ensures { IfOk result (AreEdges audited.now cut.now at) }
 {
-    let pcs = pcs_of(alloc, audited)?;
+    let known = known_of(alloc, audited)?;
     let into = edges_into(alloc, audited, at)?;
     let out = edges_out_of(alloc, audited, at)?;
-    let accesses = audited.accesses();
     let mut text = String::new(alloc);
-    put_line(alloc, &mut text, &pcs, accesses, at)?;
-    put_ends(
-        alloc,
-        &mut text,
-        &pcs,
-        accesses,
-        cut,
-        End::Source,
-        into.as_slice(),
-    )?;
-    put_ends(
-        alloc,
-        &mut text,
-        &pcs,
-        accesses,
-        cut,
-        End::Target,
-        out.as_slice(),
-    )?;
+    put_line(alloc, &mut text, &known, at)?;
+    put_ends(alloc, &mut text, &known, cut, End::Source, into.as_slice())?;
+    put_ends(alloc, &mut text, &known, cut, End::Target, out.as_slice())?;
     Ok(bytes_of(text))
 }
 
 /// Puts an instruction in a line.
-fn put_line(
-    alloc: Global,
-    text: &mut String,
-    pcs: &RoomyLists<u32>,
-    accesses: &[Access],
-    at: Instr,
-) -> Put
+fn put_line(alloc: Global, text: &mut String, known: &Known, at: Instr) -> Put
     ensures { OnOk result (string_bytes text.new
-        ≡ string_bytes text.old ++ line (instr_text (items_in pcs.now) accesses.now at)) }
+        ≡ string_bytes text.old ++ line (instr_text (items_in known.now.pcs) known.now.accesses.now at)) }
 {
-    put_instr(alloc, text, pcs, accesses, at)?;
+    put_instr(alloc, text, known, at)?;
     writeln!(text)
 }
 
@@ -77,36 +53,27 @@ fn put_line(
 fn put_ends(
     alloc: Global,
     text: &mut String,
-    pcs: &RoomyLists<u32>,
-    accesses: &[Access],
+    known: &Known,
     cut: &Cut,
     end: End,
     list: &[Instr],
 ) -> Put
-    ensures { OnOk result (string_bytes text.new
-        ≡ string_bytes text.old ++ flat_map (end_row end cut.now (items_in pcs.now) accesses.now) list.now) }
+    ensures { OnOk result (string_bytes text.new ≡ string_bytes text.old
+        ++ flat_map (end_row end cut.now (items_in known.now.pcs) known.now.accesses.now) list.now) }
 {
     for at in list {
-        put_end(alloc, text, pcs, accesses, cut, end, *at)?;
+        put_end(alloc, text, known, cut, end, *at)?;
     }
     Ok(())
 }
 
 /// Puts an instruction at this end of an edge.
-fn put_end(
-    alloc: Global,
-    text: &mut String,
-    pcs: &RoomyLists<u32>,
-    accesses: &[Access],
-    cut: &Cut,
-    end: End,
-    at: Instr,
-) -> Put
+fn put_end(alloc: Global, text: &mut String, known: &Known, cut: &Cut, end: End, at: Instr) -> Put
     ensures { OnOk result (string_bytes text.new
-        ≡ string_bytes text.old ++ end_row end cut.now (items_in pcs.now) accesses.now at) }
+        ≡ string_bytes text.old ++ end_row end cut.now (items_in known.now.pcs) known.now.accesses.now at) }
 {
     text.push_str(end.word())?;
-    put_instr(alloc, text, pcs, accesses, at)?;
+    put_instr(alloc, text, known, at)?;
     put_mark(text, end.mark(cut, at))
 }
 

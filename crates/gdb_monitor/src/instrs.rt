@@ -4,10 +4,9 @@ ghost use Rattle.roomy_lists.specs.Lists.{items_in};
 ghost use Rattle.gdb_monitor.specs.Instrs.{access_text, hex_word, instr_text, kind_text, left_text};
 ghost use Rattle.gdb_monitor.specs.Instrs.{place_text, row_text};
 
-use crate::pcs::pc_in;
+use crate::pcs::{Known, pc_in};
 use crate::texts::Put;
 use race_queries::access_at;
-use roomy_lists::RoomyLists;
 use rtr_types::{Access, Instr, Kind};
 use std::alloc::Global;
 
@@ -53,42 +52,31 @@ fn put_access(alloc: Global, text: &mut String, access: Access) -> Put
 }
 
 /// Puts an instruction, and its pc.
-fn put_place(alloc: Global, text: &mut String, pcs: &RoomyLists<u32>, at: Instr) -> Put
-    ensures { OnOk result (string_bytes text.new ≡ string_bytes text.old ++ place_text (items_in pcs.now) at) }
+fn put_place(alloc: Global, text: &mut String, known: &Known, at: Instr) -> Put
+    ensures { OnOk result (string_bytes text.new ≡ string_bytes text.old ++ place_text (items_in known.now.pcs) at) }
 {
     let core = at.core;
     let count = at.count;
     write!(text, "{core}:{count} pc ")?;
-    put_word(alloc, text, pc_in(pcs, at))
+    put_word(alloc, text, pc_in(&known.pcs, at))
 }
 
 /// Puts an access, with its instruction.
-pub(crate) fn put_row(
-    alloc: Global,
-    text: &mut String,
-    pcs: &RoomyLists<u32>,
-    access: Access,
-) -> Put
-    ensures { OnOk result (string_bytes text.new ≡ string_bytes text.old ++ row_text (items_in pcs.now) access) }
+pub(crate) fn put_row(alloc: Global, text: &mut String, known: &Known, access: Access) -> Put
+    ensures { OnOk result (string_bytes text.new ≡ string_bytes text.old ++ row_text (items_in known.now.pcs) access) }
 {
-    put_place(alloc, text, pcs, access.at)?;
+    put_place(alloc, text, known, access.at)?;
     put_access(alloc, text, access)
 }
 
 /// Puts an instruction, with its access if it has one.
 #[tactic(auto, unfolding(crate::specs::Instrs::instr_text))]
-pub(crate) fn put_instr(
-    alloc: Global,
-    text: &mut String,
-    pcs: &RoomyLists<u32>,
-    accesses: &[Access],
-    at: Instr,
-) -> Put
+pub(crate) fn put_instr(alloc: Global, text: &mut String, known: &Known, at: Instr) -> Put
     ensures { OnOk result (string_bytes text.new
-        ≡ string_bytes text.old ++ instr_text (items_in pcs.now) accesses.now at) }
+        ≡ string_bytes text.old ++ instr_text (items_in known.now.pcs) known.now.accesses.now at) }
 {
-    put_place(alloc, text, pcs, at)?;
-    match access_at(accesses, at) {
+    put_place(alloc, text, known, at)?;
+    match access_at(known.accesses, at) {
         Some(access) => put_access(alloc, text, access),
         None => Ok(()),
     }

@@ -7,11 +7,32 @@ use cut_moves::timeline;
 use replay_audit::Audited;
 use replay_core::{Advanced, Replay};
 use roomy_lists::RoomyLists;
-use rtr_types::Instr;
+use rtr_types::{Access, Instr};
 use std::alloc::{AllocError, Global};
 
+/// What is known of a run's instructions, by which each is told.
+#[derive(Drop)]
+pub(crate) struct Known<'a> {
+    /// The pc of each: for each core a list.
+    pub pcs: RoomyLists<u32>,
+    /// The accesses that they make.
+    pub accesses: &'a [Access],
+}
+
+/// What is known of the instructions of the recording.
+pub(crate) fn known_of(alloc: Global, audited: &Audited) -> Result<Known, AllocError>
+    ensures pcs { IfOk result (λ known. ArePcs audited.now.which audited.now.recording (items_in known.pcs)) }
+    ensures accesses { IfOk result (λ known. known.accesses.now ≡ audited.now.accesses) }
+{
+    let pcs = pcs_of(alloc, audited)?;
+    Ok(Known {
+        pcs,
+        accesses: audited.accesses(),
+    })
+}
+
 /// The pc of each instruction of the recording: for each core a list. They are noted along one replay of the run.
-pub(crate) fn pcs_of(alloc: Global, audited: &Audited) -> Result<RoomyLists<u32>, AllocError>
+fn pcs_of(alloc: Global, audited: &Audited) -> Result<RoomyLists<u32>, AllocError>
     ensures { IfOk result (λ pcs. ArePcs audited.now.which audited.now.recording (items_in pcs)) }
 {
     // The audit passed, so the timeline is a whole replay order.

@@ -8,4 +8,4 @@ use Rattle.gdb_monitor.proofs.asking.put_marked.Given as goal
 abbrev pub invariant-loop-access : goal.invariant-loop-access
 invariant-loop-access l =
     string_bytes l.text
-    ≡ string_bytes l.initial.text ++ flat_map (history_row l.cut (items_in l.pcs)) (take l.access-index l.list)
+    ≡ string_bytes l.initial.text ++ flat_map (history_row l.cut (items_in l.known.pcs)) (take l.access-index l.list)

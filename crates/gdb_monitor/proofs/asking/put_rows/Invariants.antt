@@ -6,4 +6,4 @@ use Rattle.gdb_monitor.proofs.asking.put_rows.Given as goal
 -- the text so far
 abbrev pub invariant-loop-access : goal.invariant-loop-access
 invariant-loop-access l =
-    string_bytes l.text ≡ string_bytes l.initial.text ++ rows_text (items_in l.pcs) (take l.access-index l.list)
+    string_bytes l.text ≡ string_bytes l.initial.text ++ rows_text (items_in l.known.pcs) (take l.access-index l.list)

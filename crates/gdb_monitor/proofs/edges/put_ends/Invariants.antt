@@ -8,4 +8,5 @@ use Rattle.gdb_monitor.proofs.edges.put_ends.Given as goal
 abbrev pub invariant-loop-at : goal.invariant-loop-at
 invariant-loop-at l =
     string_bytes l.text
-    ≡ string_bytes l.initial.text ++ flat_map (end_row l.end l.cut (items_in l.pcs) l.accesses) (take l.at-index l.list)
+    ≡ string_bytes l.initial.text
+    ++ flat_map (end_row l.end l.cut (items_in l.known.pcs) l.known.accesses.now) (take l.at-index l.list)
