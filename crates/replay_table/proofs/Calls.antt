@@ -1,8 +1,9 @@
 -- What the calls of the table know of the instruction that they retire.
-use Rattle.std.proofs.Common.{◌≡◌, ℕ, Bool, List, true, false, sym, ap, subst, ◌∙◌}
+use Rattle.std.proofs.Common.{◌≡◌, ℕ, ◌<◌, Bool, List, true, false, sym, ap, subst, ◌∙◌, arith}
 use Rattle.std.specs.Prelude.{Option, Some, IsTrue}
 use Rattle.atomic_table.specs.Seated.{TableId}
 use Rattle.rtr_types.specs.declared.access.Kind.{Kind}
+use Rattle.rtr_types.specs.declared.pairs.Which.{Which}
 use Rattle.image_mem.specs.Contents.{Contents}
 use Rattle.rv_decode.specs.declared.op.Op.{Op}
 use Rattle.rv_core.specs.declared.core_state.Core.{Core}
@@ -10,15 +11,18 @@ use Rattle.rv_core.specs.declared.core_state.Need.{Need}
 use Rattle.rv_core.specs.Needs.{is_writing}
 use Rattle.rv_core.specs.Steps.{need, access_of, after, wrote, is_done, is_whole, instruction_at}
 use Rattle.rv_core.specs.declared.outcome.LoadNote.{LoadNote}
-use Rattle.replay_core.specs.Plans.{Plan}
+use Rattle.race_log.specs.declared.recording.Recording.{Recording}
+use Rattle.replay_core.specs.Plans.{Plan, plan_of, recorded_image}
 use Rattle.replay_core.specs.Play.{Use, use_of, loads_after}
 use Rattle.replay_audit.specs.declared.touch.Touch.{Touch}
-use Rattle.replay_table.specs.Accesses.{Loads, Stores, Changes, is_load, is_change, touched_after, word_of, word_by}
+use Rattle.replay_table.specs.Accesses.{Accesses, Loads, Stores, Changes, is_load, is_change, touched_after, word_of}
+use Rattle.replay_table.specs.Accesses.{word_by}
 use Rattle.replay_table.specs.declared.view.View.{View}
 use Rattle.replay_table.specs.Aheads.{Due}
-use Rattle.replay_table.specs.Rule.{seen_of}
-use Rattle.replay_table.specs.Seats.{Past, Notes, Sitting, sitting}
-use Rattle.replay_table.proofs.Ties.{load_is, change_is, write_is}
+use Rattle.replay_table.specs.Rule.{Next, seen_of}
+use Rattle.replay_table.specs.Seats.{Belongs, Past, Notes, Sitting, Tied, sitting}
+use Rattle.replay_table.proofs.Ties.{load_is, change_is, next_is, write_is}
+use Rattle.replay_table.proofs.Uses.{word_within}
 
 -- the access that the code found is the need's
 pub record Found (image : Contents) (k : Core) (used : Use) (word : ℕ) : Type 0 where
@@ -60,6 +64,23 @@ inside_asked test image table past v x same h =
 pub inside_table : (table own : TableId) (past : Past) (v : View) (x : Sitting) (now : TableId)
     → sitting table past v ≡ x → x.table_id ≡ now → own ≡ now → table ≡ own
 inside_table table own past v x now same is own_is = ap (λ (y : Sitting). y.table_id) same ∙ is ∙ sym own_is
+
+-- what a step at the word of the due access is to show: the seat is one of this table, the table has the word, and what
+-- a core owes that is next and makes this access
+pub asked_at : {w which : Which} {r recording : Recording} {image : Contents} {table own now : TableId} {past : Past}
+    {sees : List ℕ} {holds : Option ℕ} {v : View} {x : Sitting} {word : ℕ} {writes whole : Bool} {Owed : Type 0}
+    → sitting table past v ≡ x → x.table_id ≡ now → own ≡ now → Belongs w r which recording image own
+    → (t : Tied (plan_of w r) past sees holds v) → Due (plan_of w r) (seen_of x.view) x.core
+    → Accesses (need (recorded_image r) past.core) word writes whole
+    → (Next (plan_of w r) v t.own past.core → Accesses (need (recorded_image r) past.core) word writes whole → Owed)
+    → (table ≡ own) × (word < own.words) × Owed
+asked_at same is own_is of_job t due access owed =
+    let words = of_job.words in
+    let within = word_within _ _ _ _ _ access in (
+      inside_table _ _ _ _ _ _ same is own_is,
+      omega arith,
+      owed (next_is _ _ _ _ _ t (inside_due _ _ _ _ _ same due)) access,
+    )
 
 -- the core and the value that the code made
 pub after_is : (own image : Contents) (l k m : Core) (old : ℕ) → own ≡ image → l ≡ k → m ≡ after own l old
