@@ -53,30 +53,20 @@ fn what_is_left(rt: HostRuntime) -> Result<(), Fail> {
 
 /// What follows the thinned log of the first row, and the answer: the part that has no reading, or 10 and the
 /// number of the vector that isn't shown to be needed, or 0.
-struct Changed {
-    rest: &'static [u8],
-    answer: u32,
-}
-
-macro_rules! changed {
-    ($rest:tt => $answer:literal) => {
-        Changed { rest: &$rest, answer: $answer }
-    };
-}
-
-// In turn: cuts that have more, one of them as much as it may; the target isn't there; the source is; the cut isn't
-// closed under the other vector; no such edge, also none by far; a count above its total; a cut number; a byte more.
-static CHANGED: [Changed; 10] = [
-    changed!([0, 0, 3, 4, 0, 4, 0, 0] => 0),
-    changed!([0, 0, 3, 6, 0, 5, 5, 3] => 0),
-    changed!([0, 0, 0, 3, 0, 4, 0, 0] => 11),
-    changed!([0, 0, 4, 4, 0, 4, 0, 0] => 11),
-    changed!([0, 0, 0, 4, 0, 4, 3, 4] => 12),
-    changed!([0, 0, 0, 4, 1, 4, 0, 0] => 12),
-    changed!([0xff, 0xff, 0xff, 0xff, 0xf, 0, 0, 4, 0, 4, 0, 0] => 11),
-    changed!([0, 0, 0, 7, 0, 4, 0, 0] => 6),
-    changed!([0, 0, 0, 4, 0, 4, 0] => 6),
-    changed!([0, 0, 0, 4, 0, 4, 0, 0, 0] => 7),
+///
+/// In turn: cuts that have more, one of them as much as it may; the target isn't there; the source is; the cut isn't
+/// closed under the other vector; no such edge, also none by far; a count above its total; a cut number; a byte more.
+static CHANGED: [(&[u8], u32); 10] = [
+    (&[0, 0, 3, 4, 0, 4, 0, 0], 0),
+    (&[0, 0, 3, 6, 0, 5, 5, 3], 0),
+    (&[0, 0, 0, 3, 0, 4, 0, 0], 11),
+    (&[0, 0, 4, 4, 0, 4, 0, 0], 11),
+    (&[0, 0, 0, 4, 0, 4, 3, 4], 12),
+    (&[0, 0, 0, 4, 1, 4, 0, 0], 12),
+    (&[0xff, 0xff, 0xff, 0xff, 0xf, 0, 0, 4, 0, 4, 0, 0], 11),
+    (&[0, 0, 0, 7, 0, 4, 0, 0], 6),
+    (&[0, 0, 0, 4, 0, 4, 0], 6),
+    (&[0, 0, 0, 4, 0, 4, 0, 0, 0], 7),
 ];
 
 /// What a check says of a thinned recording: 0, or 10 and the number of the vector that isn't shown to be needed, or
@@ -104,9 +94,9 @@ fn said(alloc: Global, bytes: &[u8]) -> u32 {
 #[test]
 fn what_is_shown(rt: HostRuntime) -> Result<(), Fail> {
     let left = joined(rt.alloc(), &FRONT, ROWS[0].after)?;
-    for row in &CHANGED {
-        let bytes = joined(rt.alloc(), &left, row.rest)?;
-        assert!(rt; said(rt.alloc(), &bytes) == row.answer, "{:?}", row.rest);
+    for (rest, answer) in &CHANGED {
+        let bytes = joined(rt.alloc(), &left, rest)?;
+        assert!(rt; said(rt.alloc(), &bytes) == *answer, "{rest:?}");
     }
     Ok(())
 }
