@@ -35,62 +35,71 @@ fn end(audited: &Audited) -> Result<Option<Cut>, AllocError>
     Ok(Some(cut_with(audited, last)?))
 }
 
-/// Where the way to the last instruction of core 0 stops, and the counts there.
+/// On to a cut, or back from there to the beginning.
+#[derive(Clone, Copy)]
+enum Way {
+    On,
+    Back,
+}
+
+/// A way between the beginning and the last instruction of core 0, with a breakpoint: before which core's instruction
+/// it stops, and how many instructions of core 0 and of core 1 are executed there.
+struct Row {
+    way: Way,
+    point: u32,
+    core: Option<u8>,
+    counts: (u32, u32),
+}
+
+/// Where the way of the row stops, and the counts there.
 fn stopped(
     alloc: Global,
     audited: &Audited,
-    point: u32,
-) -> Result<(Option<u8>, (u32, u32)), AllocError> {
-    let mut place = Place::begin(alloc, audited)?;
-    let mut core = None;
-    if let Some(to) = end(audited)? {
-        core = place.go_to(alloc, &Breakpoint(point), &to)?;
-    }
-    Ok((core, counts(&place)))
-}
-
-// The cores take turns, in rounds, where the log lets them. Core 1 jumps to 0x14 at its first instruction, and loads
-// there.
-#[test]
-fn a_breakpoint_stops_before_its_instruction(rt: HostRuntime) -> Result<(), Fail> {
-    let audited = handed_over(rt.alloc())?;
-    assert_eq!(rt; stopped(rt.alloc(), &audited, 8)?, (Some(0), (2, 1)));
-    assert_eq!(rt; stopped(rt.alloc(), &audited, 0x14)?, (Some(1), (3, 1)));
-    assert_eq!(rt; stopped(rt.alloc(), &audited, 0x18)?, (Some(1), (3, 2)));
-    Ok(())
-}
-
-// No core comes to 0x40, so the way is gone to its end.
-#[test]
-fn without_a_stop_the_cut_is_reached(rt: HostRuntime) -> Result<(), Fail> {
-    let audited = handed_over(rt.alloc())?;
-    assert_eq!(rt; stopped(rt.alloc(), &audited, 0x40)?, (None, (5, 3)));
-    Ok(())
-}
-
-/// Where going back from the last instruction of core 0 stops, and the counts there.
-fn went_back(
-    alloc: Global,
-    audited: &Audited,
-    point: u32,
+    row: &Row,
 ) -> Result<(Option<u8>, (u32, u32)), AllocError> {
     let mut place = Place::begin(alloc, audited)?;
     let nothing = place.cut();
+    let point = Breakpoint(row.point);
     let mut core = None;
     if let Some(to) = end(audited)? {
-        place.seek(alloc, &to)?;
-        core = place.back(alloc, &Breakpoint(point), &nothing)?;
+        core = match row.way {
+            Way::On => place.go_to(alloc, &point, &to)?,
+            Way::Back => {
+                place.seek(alloc, &to)?;
+                place.back(alloc, &point, &nothing)?
+            }
+        };
     }
     Ok((core, counts(&place)))
 }
 
-// The last stop of the way is the first that going back comes to; both cores begin at 0, core 1 as the second.
+macro_rules! row {
+    ($way:ident at $point:literal => $core:expr, $counts:expr) => {
+        Row { way: Way::$way, point: $point, core: $core, counts: $counts }
+    };
+}
+
+static ROWS: [Row; 8] = [
+    // The cores take turns, in rounds, where the log lets them. Core 1 jumps to 0x14 at its first instruction, and
+    // loads there.
+    row!(On at 8 => Some(0), (2, 1)),
+    row!(On at 0x14 => Some(1), (3, 1)),
+    row!(On at 0x18 => Some(1), (3, 2)),
+    // No core comes to 0x40, so the way is gone to its end.
+    row!(On at 0x40 => None, (5, 3)),
+    // The last stop of the way is the first that going back comes to; both cores begin at 0, core 1 as the second.
+    row!(Back at 0x14 => Some(1), (3, 1)),
+    row!(Back at 8 => Some(0), (2, 1)),
+    row!(Back at 0 => Some(1), (1, 0)),
+    row!(Back at 0x40 => None, (0, 0)),
+];
+
 #[test]
-fn going_back_stops_where_going_on_did(rt: HostRuntime) -> Result<(), Fail> {
+fn a_way_stops_before_the_instruction_of_a_breakpoint(rt: HostRuntime) -> Result<(), Fail> {
     let audited = handed_over(rt.alloc())?;
-    assert_eq!(rt; went_back(rt.alloc(), &audited, 0x14)?, (Some(1), (3, 1)));
-    assert_eq!(rt; went_back(rt.alloc(), &audited, 8)?, (Some(0), (2, 1)));
-    assert_eq!(rt; went_back(rt.alloc(), &audited, 0)?, (Some(1), (1, 0)));
-    assert_eq!(rt; went_back(rt.alloc(), &audited, 0x40)?, (None, (0, 0)));
+    for row in &ROWS {
+        let wanted = (row.core, row.counts);
+        assert_eq!(rt; stopped(rt.alloc(), &audited, row)?, wanted);
+    }
     Ok(())
 }
