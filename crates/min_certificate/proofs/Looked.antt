@@ -1,7 +1,7 @@
 -- Entries and logged sources, looked up.
 use Rattle.std.proofs.Common.{◌≡◌, ◌≢◌, ◌↔◌, ℕ, zero, suc, ◌-◌, ◌<◌, ◌≤◌, List, [], get_or, refl, sym, ap, ◌∙◌, subst}
 use Rattle.std.proofs.Common.{arith, Some, None}
-use Rattle.std.proofs.Common.{Bool, IsTrue}
+use Rattle.std.proofs.Common.{Bool, IsTrue, true}
 use Rattle.std.specs.Prelude.{slice_index, Option, nat_lt}
 use Rattle.std.proofs.lemmas.Bool.Decides.{nat_tests}
 use Rattle.rtr_types.specs.declared.instr.Instr.{Instr}
@@ -64,13 +64,16 @@ pub there_only : (q : Recording) (d : Certificate) (of : ℕ) (at : Instr) (foun
 there_only q d of at found is only z a core = only_source q of at found only z
     (subst (λ (p : Recording). Among (reduced_edges p) z at) (sym is) a) core
 
--- what holds of the sources on each other core holds of all
-pub all_sources : (r : Recording) (n : ℕ) (y : Instr) (P : Instr → Type 0) → Valid r → r.params.cores ≤ n →
-    ((i : ℕ) → i < n → i ≢ y.core → (z : Instr) → Among (reduced_edges r) z y → z.core ≡ i → P z) → (z : Instr) →
-    Among (reduced_edges r) z y → P z
-all_sources r n y P valid most each z a =
-    let w = edge_within Reduced r z y valid a in
-    each z.core (let lt = w.pair.source in omega arith) w.pair.differ z a refl
+-- a test of the sources on each other core, which has come to the last core, is true of all sources
+pub all_sources : {r : Recording} {cores n : ℕ} (y : Instr) (P : Instr → Type 0) → Valid r → cores ≡ r.params.cores →
+    cores ≤ n → ((i : ℕ) → i < n → i ≢ y.core → (z : Instr) → Among (reduced_edges r) z y → z.core ≡ i → P z) →
+    IsTrue true ↔ ((z : Instr) → Among (reduced_edges r) z y → P z)
+all_sources {r} {cores} {n} y P valid all most each = ((λ _. of_all), λ _. refl)
+  where
+    of_all : (z : Instr) → Among (reduced_edges r) z y → P z
+    of_all z a =
+        let w = edge_within Reduced r z y valid a in
+        each z.core (let lt = w.pair.source in omega arith) w.pair.differ z a refl
 
 -- what holds of the one source on a core holds of all there
 pub of_one : (r : Recording) (of : ℕ) (y x : Instr) (P : Instr → Type 0) →

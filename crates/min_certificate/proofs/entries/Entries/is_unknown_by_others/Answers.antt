@@ -1,4 +1,4 @@
-use Rattle.std.proofs.Common.{inl, inr, ◌≡◌, ◌≢◌, ◌<◌, ◌≤◌, refl, subst, arith}
+use Rattle.std.proofs.Common.{inl, inr, ◌≡◌, ◌≢◌, ◌<◌, subst, arith}
 use Rattle.std.proofs.lemmas.Bool.{cases_lt}
 use Rattle.min_certificate.specs.Places.{entry_in, IsUnknownThere}
 use Rattle.min_certificate.proofs.Looked.{all_sources, own_known}
@@ -28,11 +28,6 @@ loop-of-preserved c i lt ne = elim (cases_lt i c.loop-of.of) [
 
 pub returns : goal.returns
 returns c =
-    let d = c.args.self.now in
     let x = c.args.edge.from in
-    let most : d.recording.params.cores ≤ c.loop-of.of =
-    omega (arith, c.loop-of-test.false, c.cores-of-end.ensures.cores) in (
-      (λ _. all_sources d.recording c.loop-of.of c.args.edge.to (λ z. z ≢ x →
-          entry_in d z x.core < x.count) c.cores-of-end.ensures.valid most c.loop-of.invariant),
-      λ _. refl,
-    )
+    all_sources c.args.edge.to (λ z. z ≢ x → entry_in c.args.self.now z x.core < x.count) c.cores-of-end.ensures.valid
+    c.cores-of-end.ensures.cores c.loop-of-test.false c.loop-of.invariant
