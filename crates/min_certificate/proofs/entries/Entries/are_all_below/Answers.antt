@@ -13,15 +13,11 @@ Below c x y = (i : ℕ) → entry_in c x i ≤ entry_in c y i
 
 pub entry_near-there-requires : goal.entry_near-there-requires
 entry_near-there-requires c =
-    (edge_at c.args.self.now.recording c.edges-edge-items.result.now c.loop-edge.edge-index _
-    c.edges-edge-items.ensures.valid
-    c.edges-edge-items.ensures.edges c.loop-edge-test.true).source_within
+    (edge_at _ c.edges-edge-items.ensures.valid c.edges-edge-items.ensures.edges c.loop-edge-test.true).source_within
 
 pub entry_near-here-requires : goal.entry_near-here-requires
 entry_near-here-requires c =
-    (edge_at c.args.self.now.recording c.edges-edge-items.result.now c.loop-edge.edge-index _
-    c.edges-edge-items.ensures.valid
-    c.edges-edge-items.ensures.edges c.loop-edge-test.true).within
+    (edge_at _ c.edges-edge-items.ensures.valid c.edges-edge-items.ensures.edges c.loop-edge-test.true).within
 
 pub loop-edge-preserved : goal.loop-edge-preserved
 loop-edge-preserved c =
