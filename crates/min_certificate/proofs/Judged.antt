@@ -220,7 +220,7 @@ audit_complete r audits.OutOfMemory d h = refl
 
 pub passed_is_accepted : PassedIsAcceptedLaw
 passed_is_accepted c (checks.Audit fault) d p f =
-    absurd (refused_law Reduced c.recording fault f.refused f.not_memory d)
+    absurd (refused_law Reduced c.recording fault f.0 f.1 d)
 passed_is_accepted c (checks.Failed failure) d p f = absurd (fails_not c failure p f)
 passed_is_accepted c checks.OutOfMemory d p f = refl
 

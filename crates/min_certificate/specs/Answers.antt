@@ -3,7 +3,6 @@ use Rattle.std.specs.Prelude.{◌≡◌, ◌≢◌, ℕ}
 use Rattle.rtr_types.specs.declared.instr.Edge.{Edge}
 use Rattle.rtr_types.specs.declared.pairs.Which.TheVariants.{Reduced}
 use Rattle.race_log.specs.declared.recording.Recording.{Recording}
-use Rattle.replay_audit.specs.declared.audit_fault.AuditFault.{AuditFault}
 use Rattle.replay_audit.specs.declared.audit_fault.AuditFault.TheVariants as audits
 use Rattle.replay_audit.specs.Audits.{AuditRefuses}
 use Rattle.replay_audit.specs.Determinate.{IsDeterminate}
@@ -74,14 +73,9 @@ CheckFails c (failures.BadClock core entry) = IsBadClock c core entry
 CheckFails c (failures.NotNeeded edge) = IsNotNeeded c edge
 CheckFails c (failures.NotLeast edge) = ⊥
 
--- the audit of the recording by its reduced log was refused so
-pub record AuditFails (r : Recording) (fault : AuditFault) : Type 0 where
-  pub refused : AuditRefuses Reduced r fault
-  pub not_memory : fault ≢ audits.OutOfMemory
-
--- why a certificate isn't accepted. Want of memory says nothing
+-- why a certificate isn't accepted. Want of memory says nothing, and an audit is never told as refused for it
 abbrev pub CheckRefuses : Certificate → CheckFault → Type 0
-CheckRefuses c (checks.Audit fault) = AuditFails c.recording fault
+CheckRefuses c (checks.Audit fault) = AuditRefuses Reduced c.recording fault × (fault ≢ audits.OutOfMemory)
 CheckRefuses c (checks.Failed failure) = CheckFails c failure
 CheckRefuses c checks.OutOfMemory = Unit {0}
 

@@ -20,9 +20,9 @@ use Rattle.rtr_types.specs.declared.pairs.Which.{Which}
 
 pub audit_refuses : (t : Thinned) (fault : AuditFault) → AuditRefuses Regulated t.recording fault →
     ThinCheckRefuses t (fault_of_audit fault)
-audit_refuses t (audits.Stuck cut) h = record { refused = h; not_memory = λ e. absurd cc }
-audit_refuses t (audits.Short core count) h = record { refused = h; not_memory = λ e. absurd cc }
-audit_refuses t (audits.Undetermined first second) h = record { refused = h; not_memory = λ e. absurd cc }
+audit_refuses t (audits.Stuck cut) h = (h, λ e. absurd cc)
+audit_refuses t (audits.Short core count) h = (h, λ e. absurd cc)
+audit_refuses t (audits.Undetermined first second) h = (h, λ e. absurd cc)
 audit_refuses t audits.OutOfMemory h = tt
 
 -- the audit of a copy of a determinate recording is refused for want of memory alone

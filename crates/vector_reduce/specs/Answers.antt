@@ -94,14 +94,9 @@ pub record IsNotShown (t : Thinned) (vector : ℕ) : Type 0 where
   pub not_shown : IsShownAt t before → ⊥
   pub first : (k : ℕ) → k < before → IsShownAt t k
 
--- the audit of the recording by its regulated log was refused so
-pub record AuditFails (r : Recording) (fault : AuditFault) : Type 0 where
-  pub refused : AuditRefuses Regulated r fault
-  pub not_memory : fault ≢ audits.OutOfMemory
-
--- why it isn't accepted. Want of memory says nothing
+-- why it isn't accepted. Want of memory says nothing, and an audit is never told as refused for it
 abbrev pub ThinCheckRefuses : Thinned → ThinCheckFault → Type 0
-ThinCheckRefuses t (checks.Audit fault) = AuditFails t.recording fault
+ThinCheckRefuses t (checks.Audit fault) = AuditRefuses Regulated t.recording fault × (fault ≢ audits.OutOfMemory)
 ThinCheckRefuses t (checks.NotShown vector) = IsNotShown t vector
 ThinCheckRefuses t checks.OutOfMemory = Unit {0}
 
