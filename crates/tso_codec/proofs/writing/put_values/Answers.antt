@@ -1,4 +1,4 @@
-use Rattle.std.proofs.Common.{◌≡◌, ◌-◌, ◌++◌, length, get_or, ap, ◌∙◌, append_assoc, arith, List, ℕ}
+use Rattle.std.proofs.Common.{length, append_assoc, arith}
 use Rattle.log_codec.specs.Spelling.{number}
 use Rattle.log_codec.proofs.InTurn.{puts_on, puts_done}
 use Rattle.race_log.proofs.InTurn.{stand-drop}
@@ -26,19 +26,13 @@ overflow_sub-value c =
     omega arith
 
 pub loop-value-preserved : goal.loop-value-preserved
-loop-value-preserved c =
-    let last = c.loop-value.last in
-    let v = get_or c.args.values.now c.loop-value.value-index (0, 0) in
-    let h = stand-drop (ValueStands c.args.total) count_of last c.args.values.now c.loop-value.value-index (0, 0)
-    c.loop-value-test.true
-    c.loop-value.invariant.stand in
-    let is : c.put_u32-in-loop-value-2.new.out.items ≡ c.loop-value.out.items ++ value_text last v =
-    c.in_ok-put_u32-3.ensures.ok ∙ ap (λ (t : List ℕ). t ++ number v.1) c.in_ok-put_u32-2.ensures.ok
-    ∙ append_assoc c.loop-value.out.items (number (v.0 - last)) (number v.1) in
-    record {
-      stand = h.1;
-      wrote = puts_on value_text count_of _ _ _ _ _ _ (0, 0) c.loop-value-test.true is c.loop-value.invariant.wrote;
-    }
+loop-value-preserved c = record {
+  stand = (stand-drop (ValueStands c.args.total) count_of _ _ _ (0, 0) c.loop-value-test.true
+      c.loop-value.invariant.stand).1;
+  wrote = puts_on value_text count_of _ _ _ _ _ _ (0, 0) c.loop-value-test.true
+      (rw (c.in_ok-put_u32-3.ensures.ok, c.in_ok-put_u32-2.ensures.ok) (append_assoc c.loop-value.out.items _ _))
+      c.loop-value.invariant.wrote;
+}
 
 pub returns : goal.returns
 returns c = puts_done value_text count_of _ _ _ _ _ c.loop-value-test.false c.loop-value.invariant.wrote
