@@ -25,9 +25,9 @@ edge_line from to edge =
     line (codes "edge " ++ decimal from ++ codes ":" ++ decimal edge.0 ++ codes " " ++ decimal to ++ codes ":"
     ++ decimal edge.1)
 
--- the edges of the pair at a place
-abbrev pub edge_lines : (cores : ℕ) → ℕ × List (ℕ × ℕ) → List ℕ
-edge_lines cores p = flat_map (edge_line (source_at cores p.0) (target_at cores p.0)) p.1
+-- the entries of a log of the pair at a place, each by its line
+abbrev pub lines_at : {X : Type 0} → (line_of : (from to : ℕ) → X → List ℕ) → (cores : ℕ) → ℕ × List X → List ℕ
+lines_at line_of cores p = flat_map (line_of (source_at cores p.0) (target_at cores p.0)) p.1
 
 -- how many items the lists of all pairs have
 abbrev pub item_count : {X : Type 0} → List (List X) → ℕ
@@ -36,7 +36,8 @@ item_count lists = sum_by length lists
 -- the reduced log: the number of its edges, and the edges by pair
 abbrev pub reduced_lines : (cores : ℕ) → List (List (ℕ × ℕ)) → List ℕ
 reduced_lines cores reduced =
-    line (codes "reduced " ++ decimal (item_count reduced)) ++ flat_map (edge_lines cores) (enumerate_from 0 reduced)
+    line (codes "reduced " ++ decimal (item_count reduced))
+    ++ flat_map (lines_at edge_line cores) (enumerate_from 0 reduced)
 
 -- a vector from one core to another: the number of its edges, the first of them, and where it has more
 -- than one its strides
@@ -51,10 +52,6 @@ strides_text v = if nat_lt 1 v.n then codes " " ++ decimal v.sa ++ codes " " ++ 
 abbrev pub vector_line : (from to : ℕ) → StrideVector → List ℕ
 vector_line from to v = line (vector_start from to v ++ strides_text v)
 
--- the vectors of the pair at a place
-abbrev pub vector_lines : (cores : ℕ) → ℕ × List StrideVector → List ℕ
-vector_lines cores p = flat_map (vector_line (source_at cores p.0) (target_at cores p.0)) p.1
-
 -- how many edges the vectors of all pairs have
 abbrev pub vector_edges : List (List StrideVector) → ℕ
 vector_edges regulated = sum_by position_count regulated
@@ -64,7 +61,7 @@ abbrev pub regulated_lines : (cores : ℕ) → List (List StrideVector) → List
 regulated_lines cores regulated =
     line (codes "regulated " ++ decimal (item_count regulated) ++ codes " vectors " ++ decimal (vector_edges regulated)
     ++ codes " edges")
-    ++ flat_map (vector_lines cores) (enumerate_from 0 regulated)
+    ++ flat_map (lines_at vector_line cores) (enumerate_from 0 regulated)
 
 -- the parameters, the totals by core, and the two logs
 abbrev pub logs_lines : Recording → List ℕ

@@ -1,16 +1,42 @@
 //! The text of a recording's totals and logs.
-ghost use Rattle.std.specs.Prelude.{◌≡◌, ◌<◌, ◌≤◌, ◌^◌, ◌++◌, OnOk, IfOk, length, string_bytes, sum_by};
+ghost use Rattle.std.specs.Prelude.{◌≡◌, ◌<◌, ◌≤◌, ◌^◌, ◌++◌, ℕ, List, OnOk, IfOk, length, string_bytes, sum_by};
 ghost use Rattle.std.specs.List.{flat_map, enumerate_from};
 ghost use Rattle.rtr_types.specs.Pairs.{pair_count};
 ghost use Rattle.race_log.specs.Counts.{position_count};
-ghost use Rattle.state_text.specs.Logs.{params_line, total_line, edge_line, edge_lines, reduced_lines, strides_text};
-ghost use Rattle.state_text.specs.Logs.{vector_start, vector_line, vector_lines, regulated_lines, logs_lines};
+ghost use Rattle.state_text.specs.Logs.{params_line, total_line, edge_line, lines_at, reduced_lines, strides_text};
+ghost use Rattle.state_text.specs.Logs.{vector_start, vector_line, regulated_lines, logs_lines};
 ghost use Rattle.state_text.specs.Logs.{item_count, vector_edges, IsByPair};
 
 use race_log::Recording;
 use rtr_types::{Items, Params, pair_of};
 use std::alloc::{AllocError, Global};
 use stride_vector::StrideVector;
+
+/// An entry of a log: an edge, or a vector of edges.
+trait Entry {
+    /// Its line, where it goes from one core to another.
+    ghost line: { (from to : ℕ) → Self → List ℕ };
+
+    /// Puts its line at the end.
+    fn put(&self, text: &mut String, from: u8, to: u8) -> Result<(), AllocError>
+        ensures { OnOk result (string_bytes text.new ≡ string_bytes text.old ++ line from to self.now) };
+}
+
+impl Entry for (u32, u32) {
+    ghost line = { edge_line };
+
+    fn put(&self, text: &mut String, from: u8, to: u8) -> Result<(), AllocError> {
+        put_edge(text, from, to, *self)
+    }
+}
+
+impl Entry for StrideVector {
+    ghost line = { vector_line };
+
+    fn put(&self, text: &mut String, from: u8, to: u8) -> Result<(), AllocError> {
+        put_vector(text, from, to, self)
+    }
+}
 
 /// The totals and logs of a recording, as text: its parameters and the length of its image, the
 /// total of each core by number, the edges of the reduced log and the vectors of the regulated log,
@@ -73,36 +99,7 @@ fn put_reduced(
 {
     let edges = count_items(reduced);
     writeln!(text, "reduced {edges}")?;
-    put_edges(text, cores, reduced)
-}
-
-// Puts the edges of each pair.
-fn put_edges(text: &mut String, cores: u8, reduced: &[Items<(u32, u32)>]) -> Result<(), AllocError>
-    requires { length reduced.now ≤ pair_count cores }
-    ensures { OnOk result (string_bytes text.new ≡ string_bytes text.old
-        ++ flat_map (edge_lines cores) (enumerate_from 0 reduced.now)) }
-{
-    for (place, edges) in reduced.iter().enumerate() {
-        put_edges_at(text, cores, place, edges.as_slice())?;
-    }
-    Ok(())
-}
-
-// Puts the edges of the pair at a place.
-fn put_edges_at(
-    text: &mut String,
-    cores: u8,
-    place: usize,
-    edges: &[(u32, u32)],
-) -> Result<(), AllocError>
-    requires { place < pair_count cores }
-    ensures { OnOk result (string_bytes text.new ≡ string_bytes text.old ++ edge_lines cores (place, edges.now)) }
-{
-    let (from, to) = pair_of(cores, place);
-    for edge in edges {
-        put_edge(text, from, to, *edge)?;
-    }
-    Ok(())
+    put_entries(text, cores, reduced)
 }
 
 // Puts the line of an edge.
@@ -125,38 +122,35 @@ fn put_regulated(
     let vectors = count_items(regulated);
     let edges = count_vector_edges(regulated);
     writeln!(text, "regulated {vectors} vectors {edges} edges")?;
-    put_vectors(text, cores, regulated)
+    put_entries(text, cores, regulated)
 }
 
-// Puts the vectors of each pair.
-fn put_vectors(
-    text: &mut String,
-    cores: u8,
-    regulated: &[Items<StrideVector>],
-) -> Result<(), AllocError>
-    requires { length regulated.now ≤ pair_count cores }
+// Puts the entries of each pair.
+fn put_entries<T: Entry>(text: &mut String, cores: u8, lists: &[Items<T>]) -> Result<(), AllocError>
+    requires { length lists.now ≤ pair_count cores }
     ensures { OnOk result (string_bytes text.new ≡ string_bytes text.old
-        ++ flat_map (vector_lines cores) (enumerate_from 0 regulated.now)) }
+        ++ flat_map (lines_at T.line cores) (enumerate_from 0 lists.now)) }
 {
-    for (place, vectors) in regulated.iter().enumerate() {
-        put_vectors_at(text, cores, place, vectors.as_slice())?;
+    for (place, entries) in lists.iter().enumerate() {
+        put_entries_at(text, cores, place, entries.as_slice())?;
     }
     Ok(())
 }
 
-// Puts the vectors of the pair at a place.
-fn put_vectors_at(
+// Puts the entries of the pair at a place.
+fn put_entries_at<T: Entry>(
     text: &mut String,
     cores: u8,
     place: usize,
-    vectors: &[StrideVector],
+    entries: &[T],
 ) -> Result<(), AllocError>
     requires { place < pair_count cores }
-    ensures { OnOk result (string_bytes text.new ≡ string_bytes text.old ++ vector_lines cores (place, vectors.now)) }
+    ensures { OnOk result (string_bytes text.new ≡ string_bytes text.old
+        ++ lines_at T.line cores (place, entries.now)) }
 {
     let (from, to) = pair_of(cores, place);
-    for vector in vectors {
-        put_vector(text, from, to, vector)?;
+    for entry in entries {
+        entry.put(text, from, to)?;
     }
     Ok(())
 }
