@@ -12,6 +12,7 @@ use Rattle.msi_cache.specs.Messages.{request_block, response_block}
 use Rattle.msi_cache.specs.declared.messages.Request.{Request}
 use Rattle.msi_cache.specs.declared.messages.Response.{Response}
 use Rattle.msi_directory.specs.Blocks.{entry_at, no_entry}
+use Rattle.msi_directory.specs.Deeds.{Deed, request_deed, response_deed}
 use Rattle.msi_directory.specs.Entries.{answer_to_request, answer_to_response, has_response_row}
 use Rattle.msi_directory.specs.Table.{is_free}
 use Rattle.msi_directory.specs.declared.entry.Stage.{Stage}
@@ -204,50 +205,56 @@ module _ {R K : Type 0} where
   response_kept riding carrying m n c block hearing turned d other =
       sym (can_by riding carrying m n (TakeResponse d) turned.count (λ within. ap not (turned.responses d other)))
 
-  -- one port gives way to another with the same messages that waits as it did, and then the home's answer goes on its
-  -- way
-  answered : (riding : Riding R) (carrying : Carrying K) (m n : Memory R K) (c block : ℕ) (answer : HomeAnswer R)
-      (port : Port R K) (carry : K)
-      (entry : Entry R) → n.ports ≡ delivered carrying answer block carry (slice_set m.ports c port) →
-      n.home ≡ slice_set m.home block entry →
-      port.cache ≡ (port_at carrying m.ports c).cache →
-      is_nil port.messages.items ≡ is_nil (port_at carrying m.ports c).messages.items →
-      Turned riding carrying m n c block (hears answer)
-  answered riding carrying m n c block answer port carry entry ports home still quiet =
+  -- the memory system after the home did this for core c, whose port gave way to this one, and sent its answer
+  abbrev after_deed : Riding R → Carrying K → Memory R K → ℕ → Deed R → Port R K → K → Memory R K
+  after_deed riding carrying m c done port carry =
+      let entry = entry_at riding.fresh m.home done.block in
       record {
-        count = ap length ports ∙ length-delivered carrying answer block carry base ∙ length-set m.ports c port;
-        caches = ap (λ (xs : List (Port R K)). map (λ (p : Port R K). p.cache) xs) ports
-            ∙ delivered_same (λ (p : Port R K). p.cache) (λ p mail k. refl) carrying answer.send answer.invalidate block
-            carry base
+        ports = delivered carrying (done.answer entry) done.block carry (slice_set m.ports c port);
+        home = slice_set m.home done.block (done.after entry);
+        carry = carry;
+      }
+
+  -- so the home's turn goes where the port's cache and its messages are as they were
+  answered : (riding : Riding R) (carrying : Carrying K) (m : Memory R K) (c : ℕ) (done : Deed R) (port : Port R K)
+      (carry : K) → port.cache ≡ (port_at carrying m.ports c).cache →
+      is_nil port.messages.items ≡ is_nil (port_at carrying m.ports c).messages.items →
+      Turned riding carrying m (after_deed riding carrying m c done port carry) c done.block
+      (hears (done.answer (entry_at riding.fresh m.home done.block)))
+  answered riding carrying m c done port carry still quiet =
+      record {
+        count = length-delivered carrying answer done.block carry base ∙ length-set m.ports c port;
+        caches = delivered_same (λ (p : Port R K). p.cache) (λ p mail k. refl) carrying answer.send answer.invalidate
+            done.block carry base
             ∙ map-set_same (λ (p : Port R K). p.cache) m.ports c port (no_port carrying) still;
         responses = λ d other.
-            ap (λ (xs : List (Port R K)). is_nil (port_at carrying xs d).responses.items) ports
-            ∙ same_at (λ (p : Port R K). is_nil p.responses.items) carrying after base
+            same_at (λ (p : Port R K). is_nil p.responses.items) carrying
+            (delivered carrying answer done.block carry base) base
             (delivered_same (λ (p : Port R K). is_nil p.responses.items) (λ p mail k. refl) carrying answer.send
-            answer.invalidate block carry base) d
+            answer.invalidate done.block carry base) d
             ∙ ap (λ (p : Port R K). is_nil p.responses.items) (get_or-set_other m.ports c d port (no_port carrying)
             other);
         messages = λ d within.
-            ap (λ (xs : List (Port R K)). silent carrying xs d) ports
-            ∙ delivered_silent answer.send carrying answer.invalidate block carry base d
+            delivered_silent answer.send carrying answer.invalidate done.block carry base d
             (subst (λ (k : ℕ). d < k) (sym (length-set m.ports c port)) within)
             ∙ ap (λ (b : Bool). cond (hears answer d) false b) (quiet_at d within (cases_eq d c));
         requests = λ d other.
-            ap (λ (xs : List (Port R K)). requests_at xs d) ports
-            ∙ ap (λ (xs : List (List (Mail (Request R) K))). get_or xs d [])
+            ap (λ (xs : List (List (Mail (Request R) K))). get_or xs d [])
             (delivered_same (λ (p : Port R K). p.requests.items) (λ p mail k. refl) carrying answer.send
-            answer.invalidate block carry base)
+            answer.invalidate done.block carry base)
             ∙ set_elsewhere m.ports c d port other;
-        entries = ap length home ∙ length-set m.home block entry;
-        home = λ b other. ap (λ (es : List (Entry R)). entry_at riding.fresh es b) home
-            ∙ get_or-set_other m.home block b entry (no_entry riding.fresh) other;
+        entries = length-set m.home done.block (done.after entry);
+        home = λ b other. get_or-set_other m.home done.block b (done.after entry) (no_entry riding.fresh) other;
       }
     where
+      entry : Entry R
+      entry = entry_at riding.fresh m.home done.block
+
+      answer : HomeAnswer R
+      answer = done.answer entry
+
       base : List (Port R K)
       base = slice_set m.ports c port
-
-      after : List (Port R K)
-      after = delivered carrying answer block carry (slice_set m.ports c port)
 
       quiet_at : (d : ℕ) → d < length m.ports → (d ≡ c) ⊎ (d ≡ c → ⊥) →
           silent carrying (slice_set m.ports c port) d ≡ silent carrying m.ports d
@@ -312,12 +319,9 @@ module _ {R K : Type 0} where
       by (mail ∷ rest) free row is =
           let block = request_block mail.item in
           let answer = answer_to_request riding.absorbed (entry_at riding.fresh m.home block) c mail.item in
-          turn_fits riding carrying m (take_request_in (mail ∷ rest) riding carrying m c) c block answer turn
-          true free
-          (answered riding carrying m (take_request_in (mail ∷ rest) riding carrying m c) c block answer
-          (port_requested (port_at carrying m.ports c) rest) (carrying.joined m.carry mail.carry) _ refl
-          refl refl refl)
-          is
+          turn_fits riding carrying m (take_request_in (mail ∷ rest) riding carrying m c) c block answer turn true free
+          (answered riding carrying m c (request_deed riding c mail.item)
+          (port_requested (port_at carrying m.ports c) rest) (carrying.joined m.carry mail.carry) refl refl) is
 
   pub response_fits : (riding : Riding R) (carrying : Carrying K) (m : Memory R K) (c : ℕ) (turn : Turn) →
       can_respond_in (port_at carrying m.ports c).responses.items riding m c ≡ true →
@@ -332,44 +336,36 @@ module _ {R K : Type 0} where
       by (mail ∷ rest) row is =
           let block = response_block mail.item in
           let answer = answer_to_response riding.absorbed (entry_at riding.fresh m.home block) c mail.item in
-          turn_fits riding carrying m (take_response_in (mail ∷ rest) riding carrying m c) c block answer turn
-          false
+          turn_fits riding carrying m (take_response_in (mail ∷ rest) riding carrying m c) c block answer turn false
           (busy_is (entry_at riding.fresh m.home block).stage c mail.item
           (right_of (nat_lt block (length m.home)) _ row))
-          (answered riding carrying m (take_response_in (mail ∷ rest) riding carrying m c) c block answer
-          (port_responded (port_at carrying m.ports c) rest) (carrying.joined m.carry mail.carry) _ refl
-          refl refl refl)
-          is
+          (answered riding carrying m c (response_deed riding c mail.item)
+          (port_responded (port_at carrying m.ports c) rest) (carrying.joined m.carry mail.carry) refl refl) is
 
-  pub request_stays : (riding : Riding R) (carrying : Carrying K) (m : Memory R K) (c : ℕ) →
-      PortsStay m (take_request riding carrying m c) c
-  request_stays riding carrying m c = by (port_at carrying m.ports c).requests.items
-    where
-      by : (items : List (Mail (Request R) K)) → PortsStay m (take_request_in items riding carrying m c) c
-      by [] = record { caches = refl; requests = λ d other. refl }
-      by (mail ∷ rest) =
-          let block = request_block mail.item in
-          let answer = answer_to_request riding.absorbed (entry_at riding.fresh m.home block) c mail.item in
-          let turned =
-          answered riding carrying m (take_request_in (mail ∷ rest) riding carrying m c) c block answer
-          (port_requested (port_at carrying m.ports c) rest)
-          (carrying.joined m.carry mail.carry) _ refl refl refl refl in
-          record { caches = turned.caches; requests = turned.requests }
+  stays : {riding : Riding R} {carrying : Carrying K} {m n : Memory R K} {c block : ℕ} {hearing : ℕ → Bool} →
+      Turned riding carrying m n c block hearing → PortsStay m n c
+  stays turned = record { caches = turned.caches; requests = turned.requests }
 
-  pub response_stays : (riding : Riding R) (carrying : Carrying K) (m : Memory R K) (c : ℕ) →
-      PortsStay m (take_response riding carrying m c) c
-  response_stays riding carrying m c = by (port_at carrying m.ports c).responses.items
-    where
-      by : (items : List (Mail (Response R) K)) → PortsStay m (take_response_in items riding carrying m c) c
-      by [] = record { caches = refl; requests = λ d other. refl }
-      by (mail ∷ rest) =
-          let block = response_block mail.item in
-          let answer = answer_to_response riding.absorbed (entry_at riding.fresh m.home block) c mail.item in
-          let turned =
-          answered riding carrying m (take_response_in (mail ∷ rest) riding carrying m c) c block answer
-          (port_responded (port_at carrying m.ports c) rest)
-          (carrying.joined m.carry mail.carry) _ refl refl refl refl in
-          record { caches = turned.caches; requests = turned.requests }
+  -- the home takes the oldest of some messages of core c, and none where there is none
+  stays_by : {T : Type 0} {m : Memory R K} {c : ℕ} (taken : List (Mail T K) → Memory R K) (items : List (Mail T K)) →
+      taken [] ≡ m → ((mail : Mail T K) (rest : List (Mail T K)) → PortsStay m (taken (mail ∷ rest)) c) →
+      PortsStay m (taken items) c
+  stays_by {T} {m} {c} taken [] none some =
+      subst (λ (n : Memory R K). PortsStay m n c) (sym none) (record { caches = refl; requests = λ d other. refl })
+  stays_by {T} {m} {c} taken (mail ∷ rest) none some = some mail rest
+
+  module _ (riding : Riding R) (carrying : Carrying K) (m : Memory R K) (c : ℕ) where
+    pub request_stays : PortsStay m (take_request riding carrying m c) c
+    request_stays =
+        stays_by (λ items. take_request_in items riding carrying m c) (port_at carrying m.ports c).requests.items refl
+        (λ mail rest. stays (answered riding carrying m c (request_deed riding c mail.item)
+        (port_requested (port_at carrying m.ports c) rest) (carrying.joined m.carry mail.carry) refl refl))
+
+    pub response_stays : PortsStay m (take_response riding carrying m c) c
+    response_stays =
+        stays_by (λ items. take_response_in items riding carrying m c) (port_at carrying m.ports c).responses.items refl
+        (λ mail rest. stays (answered riding carrying m c (response_deed riding c mail.item)
+        (port_responded (port_at carrying m.ports c) rest) (carrying.joined m.carry mail.carry) refl refl))
 
   -- a request's core has the responses that it had
   pub same_responses : (riding : Riding R) (carrying : Carrying K) (m : Memory R K) (c : ℕ) →
