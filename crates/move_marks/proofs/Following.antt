@@ -5,6 +5,7 @@ use Rattle.std.proofs.Common.{[], ◌∷◌, length, nat_lt}
 use Rattle.std.proofs.lemmas.Bool.{cases_eq}
 use Rattle.access_times.specs.Riding.{Riding, Carrying}
 use Rattle.rtr_types.specs.CoreSets.{has}
+use Rattle.rtr_types.specs.declared.TheConstants.{CORES_MAX}
 use Rattle.msi_memory.specs.declared.turn.Turn.{Turn}
 use Rattle.msi_memory.specs.Acts.{Act, TakeRequest, TakeResponse, after_act, can, take_request}
 use Rattle.msi_memory.specs.Acts.{take_response}
@@ -46,68 +47,67 @@ module _ {R K : Type 0} where
   long_after riding carrying m n act is =
       ap (λ (x : Memory R K). length x.ports) is ∙ ports_after_acts riding carrying m (act ∷ [])
 
-  -- the home took core c's oldest request, and none of them is marked then
-  pub request_followed : (riding : Riding R) (carrying : Carrying K) (m n : Memory R K) (c cores : ℕ) (turn : Turn)
-      (old mid new : MoveMarks) →
-      n ≡ take_request riding carrying m c → MemoryHolds riding carrying m →
-      can riding carrying m (TakeRequest c) ≡ true →
-      IsRequestTurn (port_at carrying m.ports c).requests.items riding m c turn →
-      PortsMarked riding carrying m old → cores ≡ length m.ports →
-      IsAfterTurn riding n cores turn true old mid →
-      ((d : ℕ) → has (set_of Response new) d ≡ has (set_of Response mid) d) →
-      ((d : ℕ) → has (set_of FromHome new) d ≡ has (set_of FromHome mid) d) → has (set_of Request new) c ≡ false →
-      ((d : ℕ) → d ≢ c → has (set_of Request new) d ≡ has (set_of Request mid) d) → PortsMarked riding carrying n new
-  request_followed riding carrying m n c cores turn old mid new is holds can_be about all long after responses messages
-      gone kept =
-      record {
-        requests = each (λ d. has (set_of Request new) d) (λ d. can riding carrying n (TakeRequest d)) c
-            (gone ∙ sym (none_left riding carrying n c
-            (ap (λ (x : Memory R K). requests_at x.ports c) is
-            ∙ request_leaves_none riding carrying m c here (one_request riding carrying m c holds here))))
-            (λ d other. kept d other ∙ fits.requests cores old mid after d (fits.others d other) (all.requests d));
-        responses = λ d. responses d ∙ after.responses d
-            ∙ each (λ d. has (set_of Response old) d) (λ d. can riding carrying n (TakeResponse d)) c
-            (all.responses c
-            ∙ sym (ap (λ (x : Memory R K). can riding carrying x (TakeResponse c)) is
-            ∙ same_responses riding carrying m c))
-            (λ d other. all.responses d ∙ fits.responses d other) d;
-        messages = λ d. messages d ∙ fits.messages cores old mid long after d (all.messages d);
-      }
-    where
-      here : c < length m.ports
-      here = lt_of c (length m.ports) (left_is (nat_lt c (length m.ports)) _ can_be)
+  pub few_after : {riding : Riding R} {carrying : Carrying K} {m n : Memory R K} → MemoryHolds riding carrying m →
+      (act : Act R) → n ≡ after_act riding carrying m act → length n.ports ≤ CORES_MAX
+  few_after {riding} {carrying} {m} {n} holds act is =
+      subst (λ (k : ℕ). k ≤ CORES_MAX) (sym (long_after riding carrying m n act is)) holds.cores
 
-      fits : TurnFits riding carrying m n c turn true
-      fits = subst (λ (x : Memory R K). TurnFits riding carrying m x c turn true) (sym is)
-          (request_fits riding carrying m c turn (right_of (nat_lt c (length m.ports)) _ can_be)
-          ((memory_ready riding carrying m holds).rows (TakeRequest c) can_be) about)
+  -- the home's turn at core c, before which exactly the acts were marked that could be made
+  module _ {riding : Riding R} {carrying : Carrying K} {m n : Memory R K} (c : ℕ) {cores : ℕ} {turn : Turn}
+      {old mid new : MoveMarks} (holds : MemoryHolds riding carrying m) (all : PortsMarked riding carrying m old)
+      (long : cores ≡ length m.ports) where
+    -- it took the oldest request, and none of them is marked then
+    pub request_followed : n ≡ take_request riding carrying m c → can riding carrying m (TakeRequest c) ≡ true →
+        IsRequestTurn (port_at carrying m.ports c).requests.items riding m c turn →
+        IsAfterTurn riding n cores turn true old mid →
+        ((d : ℕ) → has (set_of Response new) d ≡ has (set_of Response mid) d) →
+        ((d : ℕ) → has (set_of FromHome new) d ≡ has (set_of FromHome mid) d) → has (set_of Request new) c ≡ false →
+        ((d : ℕ) → d ≢ c → has (set_of Request new) d ≡ has (set_of Request mid) d) → PortsMarked riding carrying n new
+    request_followed is can_be about after responses messages gone kept =
+        record {
+          requests = each (λ d. has (set_of Request new) d) (λ d. can riding carrying n (TakeRequest d)) c
+              (gone ∙ sym (none_left riding carrying n c
+              (ap (λ (x : Memory R K). requests_at x.ports c) is
+              ∙ request_leaves_none riding carrying m c here (one_request riding carrying m c holds here))))
+              (λ d other. kept d other ∙ fits.requests cores old mid after d (fits.others d other) (all.requests d));
+          responses = λ d. responses d ∙ after.responses d
+              ∙ each (λ d. has (set_of Response old) d) (λ d. can riding carrying n (TakeResponse d)) c
+              (all.responses c
+              ∙ sym (ap (λ (x : Memory R K). can riding carrying x (TakeResponse c)) is
+              ∙ same_responses riding carrying m c))
+              (λ d other. all.responses d ∙ fits.responses d other) d;
+          messages = λ d. messages d ∙ fits.messages cores old mid long after d (all.messages d);
+        }
+      where
+        here : c < length m.ports
+        here = lt_of c (length m.ports) (left_is (nat_lt c (length m.ports)) _ can_be)
 
-  -- the home took core c's oldest response, whose other responses were marked anew
-  pub response_followed : (riding : Riding R) (carrying : Carrying K) (m n : Memory R K) (c cores : ℕ) (turn : Turn)
-      (old mid new : MoveMarks) →
-      n ≡ take_response riding carrying m c → MemoryHolds riding carrying m →
-      can riding carrying m (TakeResponse c) ≡ true →
-      IsResponseTurn (port_at carrying m.ports c).responses.items riding m c turn →
-      PortsMarked riding carrying m old → cores ≡ length m.ports →
-      ((d : ℕ) → has (set_of Request mid) d ≡ has (set_of Request old) d) →
-      ((d : ℕ) → has (set_of FromHome mid) d ≡ has (set_of FromHome old) d) →
-      has (set_of Response mid) c ≡ can riding carrying n (TakeResponse c) →
-      ((d : ℕ) → d ≢ c → has (set_of Response mid) d ≡ has (set_of Response old) d) →
-      IsAfterTurn riding n cores turn false mid new → PortsMarked riding carrying n new
-  response_followed riding carrying m n c cores turn old mid new is holds can_be about all long requests messages own
-      kept after =
-      record {
-        requests = λ d. fits.requests cores mid new after d
-            (ap (λ (x : Memory R K). requests_at x.ports d) is ∙ response_requests riding carrying m c d)
-            (requests d ∙ all.requests d);
-        responses = λ d. after.responses d
-            ∙ each (λ d. has (set_of Response mid) d) (λ d. can riding carrying n (TakeResponse d)) c own
-            (λ d other. kept d other ∙ all.responses d ∙ fits.responses d other) d;
-        messages = λ d. fits.messages cores mid new long after d
-            (messages d ∙ all.messages d);
-      }
-    where
-      fits : TurnFits riding carrying m n c turn false
-      fits = subst (λ (x : Memory R K). TurnFits riding carrying m x c turn false) (sym is)
-          (response_fits riding carrying m c turn ((memory_ready riding carrying m holds).rows (TakeResponse c) can_be)
-          about)
+        fits : TurnFits riding carrying m n c turn true
+        fits = subst (λ (x : Memory R K). TurnFits riding carrying m x c turn true) (sym is)
+            (request_fits riding carrying m c turn (right_of (nat_lt c (length m.ports)) _ can_be)
+            ((memory_ready riding carrying m holds).rows (TakeRequest c) can_be) about)
+
+    -- it took the oldest response, and the other responses were marked anew
+    pub response_followed : n ≡ take_response riding carrying m c → can riding carrying m (TakeResponse c) ≡ true →
+        IsResponseTurn (port_at carrying m.ports c).responses.items riding m c turn →
+        ((d : ℕ) → has (set_of Request mid) d ≡ has (set_of Request old) d) →
+        ((d : ℕ) → has (set_of FromHome mid) d ≡ has (set_of FromHome old) d) →
+        has (set_of Response mid) c ≡ can riding carrying n (TakeResponse c) →
+        ((d : ℕ) → d ≢ c → has (set_of Response mid) d ≡ has (set_of Response old) d) →
+        IsAfterTurn riding n cores turn false mid new → PortsMarked riding carrying n new
+    response_followed is can_be about requests messages own kept after =
+        record {
+          requests = λ d. fits.requests cores mid new after d
+              (ap (λ (x : Memory R K). requests_at x.ports d) is ∙ response_requests riding carrying m c d)
+              (requests d ∙ all.requests d);
+          responses = λ d. after.responses d
+              ∙ each (λ d. has (set_of Response mid) d) (λ d. can riding carrying n (TakeResponse d)) c own
+              (λ d other. kept d other ∙ all.responses d ∙ fits.responses d other) d;
+          messages = λ d. fits.messages cores mid new long after d
+              (messages d ∙ all.messages d);
+        }
+      where
+        fits : TurnFits riding carrying m n c turn false
+        fits = subst (λ (x : Memory R K). TurnFits riding carrying m x c turn false) (sym is)
+            (response_fits riding carrying m c turn
+            ((memory_ready riding carrying m holds).rows (TakeResponse c) can_be) about)
