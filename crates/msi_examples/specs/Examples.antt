@@ -1,5 +1,5 @@
 -- Runs of two cores that were worked out by hand, and what each step of the first of them does.
-use Rattle.std.specs.Prelude.{◌≡◌, ℕ, true, List, [], ◌∷◌, Some}
+use Rattle.std.specs.Prelude.{◌≡◌, ℕ, true, List, [], ◌∷◌, ◌++◌, Some}
 use Rattle.image_mem.specs.Contents.{Contents}
 use Rattle.rtr_types.specs.declared.params.Params.{Params}
 use Rattle.rtr_types.specs.declared.instr.Instr.{Instr}
@@ -158,6 +158,17 @@ ForwardToOwnMeetsPut =
 abbrev pub zeros : List ℕ
 zeros = 0 ∷ 0 ∷ 0 ∷ 0 ∷ 0 ∷ 0 ∷ 0 ∷ 0 ∷ 0 ∷ 0 ∷ 0 ∷ 0 ∷ 0 ∷ 0 ∷ 0 ∷ 0 ∷ []
 
+-- core c's steps from the data of its first load on
+abbrev pub three_loads : (c : ℕ) → List StepTaken
+three_loads c =
+    loads (FromHome c) (instr c 1) 16 0
+    ∷ quiet (Core c)
+    ∷ quiet (Request c)
+    ∷ loads (FromHome c) (instr c 2) 48 0
+    ∷ loads (Core c) (instr c 3) 16 0
+    ∷ local (Core c) (instr c 4)
+    ∷ []
+
 abbrev pub BothBlocksAreHeld : Type 0
 BothBlocksAreHeld =
     followed (opening_state eight_apart (two_cores 10000 eight_apart)) zeros
@@ -165,19 +176,7 @@ BothBlocksAreHeld =
     ∷ quiet (Core 1)
     ∷ quiet (Request 0)
     ∷ quiet (Request 1)
-    ∷ loads (FromHome 0) (instr 0 1) 16 0
-    ∷ quiet (Core 0)
-    ∷ quiet (Request 0)
-    ∷ loads (FromHome 0) (instr 0 2) 48 0
-    ∷ loads (Core 0) (instr 0 3) 16 0
-    ∷ local (Core 0) (instr 0 4)
-    ∷ loads (FromHome 1) (instr 1 1) 16 0
-    ∷ quiet (Core 1)
-    ∷ quiet (Request 1)
-    ∷ loads (FromHome 1) (instr 1 2) 48 0
-    ∷ loads (Core 1) (instr 1 3) 16 0
-    ∷ local (Core 1) (instr 1 4)
-    ∷ []
+    ∷ (three_loads 0 ++ three_loads 1)
 
 abbrev pub ReadEightApart : Type 0
 ReadEightApart =
