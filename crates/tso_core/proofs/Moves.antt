@@ -5,7 +5,6 @@ use Rattle.std.specs.Prelude.{slice_set}
 use Rattle.std.proofs.lemmas.List.{get_or_read, set-get_or}
 use Rattle.access_times.specs.Riding.{Riding, Carrying}
 use Rattle.rv_core.specs.Steps.{need, access_of as need_access}
-use Rattle.msi_cache.specs.Lines.{waits}
 use Rattle.msi_memory.specs.Acts.{TakeMessage, TakeResponse, can}
 use Rattle.msi_memory.specs.Memories.{Memory, port_at}
 use Rattle.msi_memory.specs.Rests.{OthersRoomy, head_roomy, requests_at}
@@ -17,16 +16,16 @@ use Rattle.tso_state.specs.declared.moves.Move.TheVariants.{Request as RequestMo
 use Rattle.tso_state.specs.declared.moves.Move.TheVariants.{FromHome as MessageMove}
 use Rattle.tso_state.specs.Moves.{core_of}
 use Rattle.tso_state.specs.States.{BufferedCore, State, buffered_start, core_at}
-use Rattle.tso_state.specs.Steps.{acts, acts_asking, acts_told, can_order, core_left, enabled, event, head_access, step}
+use Rattle.tso_state.specs.Steps.{acts, acts_asking, acts_told, core_left, enabled, event, head_access, step}
 use Rattle.tso_state.specs.Steps.{told}
-use Rattle.tso_invariant.specs.Holds.{TsoHolds, is_asking}
+use Rattle.tso_invariant.specs.Holds.{TsoHolds}
 use Rattle.tso_invariant.proofs.Kept.{core_port, enabled_core, holds_kept, step_cores}
 use Rattle.tso_core.specs.declared.marks.Marks.{Marks}
 use Rattle.tso_core.specs.declared.standing.Standing.{Standing}
 use Rattle.tso_core.specs.Machineries.{Machinery, heads_roomy}
 use Rattle.tso_core.specs.Marks.{AllMarked, CoresMarked, OthersMarked}
 use Rattle.tso_core.specs.Moving.{StepsTo, rider_left}
-use Rattle.tso_core.specs.Standings.{IsAtPort, NotesFit, OwnMarked, StandingsFit, may_execute, standing_at}
+use Rattle.tso_core.specs.Standings.{IsAtPort, NotesFit, OwnMarked, StandingsFit, standing_at}
 use Rattle.tso_core.specs.Workings.{MayAsk}
 use Rattle.rtr_types.specs.CoreSets.{has}
 use Rattle.rtr_types.specs.declared.TheConstants.{CORES_MAX}
@@ -252,12 +251,37 @@ module _ {R K : Type 0} where
         };
       }
 
-  -- ---- what is seen of the machine after a move that can be made
-  module _ (riding : Riding R) (carrying : Carrying K) (s : State R K) (m : Move) (seen now : Machinery R K) (c : ℕ)
-      (view : seen ≡ now)
-      (holds : TsoHolds riding carrying s) (can_be : enabled riding carrying s m ≡ true)
-      (is : StepsTo riding carrying s now.state m)
-      (mine : core_of m ≡ c) where
+  -- ---- the core that is seen in its place at its port
+  module _ {seen now : Machinery R K} {c : ℕ} (view : seen ≡ now) (here : c < length now.state.cores) {t : BufferedCore}
+      (read : t ≡ get_or seen.state.cores c t) where
+    core_seen : core_at now.state.cores c ≡ t
+    core_seen =
+        sym (get_or_read seen.state.cores c t (subst (λ (x : Machinery R K). c < length x.state.cores) (sym view) here)
+        read (buffered_start 0 0)
+        ∙ ap (λ (x : Machinery R K). core_at x.state.cores c) view)
+
+    pub port_of_seen : {carrying : Carrying K} → IsAtPort carrying now.state.memory (core_at now.state.cores c) c →
+        IsAtPort carrying seen.state.memory t c
+    port_of_seen {carrying} at =
+        subst (λ (u : BufferedCore). IsAtPort carrying seen.state.memory u c) core_seen
+        (subst (λ (x : Machinery R K). IsAtPort carrying x.state.memory (core_at now.state.cores c) c) (sym view) at)
+
+    pub marked_of_seen : {riding : Riding R} (carrying : Carrying K) {kept : Standing} {old new : Marks} →
+        OwnMarked riding (port_at carrying seen.state.memory.ports c) t kept c old new →
+        OwnMarked riding (port_at carrying now.state.memory.ports c) (core_at now.state.cores c) kept c old new
+    marked_of_seen {riding} carrying {kept} {old} {new} marked =
+        subst (λ (x : Machinery R K). OwnMarked riding (port_at carrying x.state.memory.ports c)
+        (core_at now.state.cores c) kept c old new) view
+        (subst (λ (u : BufferedCore). OwnMarked riding (port_at carrying seen.state.memory.ports c) u kept c old new)
+        (sym core_seen) marked)
+
+  -- ---- the machine after a move that can be made
+  module _ {riding : Riding R} {carrying : Carrying K} {s : State R K} {taken m : Move} (now : Machinery R K) {c : ℕ}
+      (at : taken ≡ m) (holds : TsoHolds riding carrying s) (was : enabled riding carrying s taken ≡ true)
+      (is : StepsTo riding carrying s now.state m) (mine : core_of m ≡ c) where
+    can_be : enabled riding carrying s m ≡ true
+    can_be = subst (λ (x : Move). enabled riding carrying s x ≡ true) at was
+
     after : TsoHolds riding carrying now.state
     after = subst (λ (t : State R K). TsoHolds riding carrying t) (sym is)
         (holds_kept riding carrying s m (rider_left riding carrying s now.state m) can_be holds)
@@ -274,84 +298,57 @@ module _ {R K : Type 0} where
         let there : c < length s.memory.ports = port_before in
         omega arith
 
-    core_after : c < length now.state.cores
+    pub core_after : c < length now.state.cores
     core_after = subst (λ (n : ℕ). c < n)
         (sym (ap (λ (t : State R K). length t.cores) is
         ∙ step_cores riding carrying (rider_left riding carrying s now.state m) s m)) core_before
 
-    pub port_seen : c < length seen.state.memory.ports
-    port_seen = subst (λ (x : Machinery R K). c < length x.state.memory.ports) (sym view)
-        (core_port riding carrying now.state c after core_after)
+    port_after : c < length now.state.memory.ports
+    port_after = core_port riding carrying now.state c after core_after
 
-    pub ports_few : length seen.state.memory.ports ≤ CORES_MAX
-    ports_few = subst (λ (x : Machinery R K). length x.state.memory.ports ≤ CORES_MAX) (sym view) after.memory.cores
+    pub at_port : IsAtPort carrying now.state.memory (core_at now.state.cores c) c
+    at_port = record { few = core_few; here = port_after; asked = (after.cores c core_after).waiting }
 
-    -- the core that is found in its place
-    pub core_seen : (t : BufferedCore) → t ≡ get_or seen.state.cores c t → t ≡ core_at now.state.cores c
-    core_seen t read =
-        get_or_read seen.state.cores c t (subst (λ (x : Machinery R K). c < length x.state.cores) (sym view) core_after)
-        read (buffered_start 0 0)
-        ∙ ap (λ (x : Machinery R K). core_at x.state.cores c) view
-
-    asked_seen : (t : BufferedCore) → t ≡ get_or seen.state.cores c t →
-        waits (port_at carrying seen.state.memory.ports c).cache ≡ is_asking t.asker
-    asked_seen t read =
-        ap (λ (x : Machinery R K). waits (port_at carrying x.state.memory.ports c).cache) view
-        ∙ (after.cores c core_after).waiting
-        ∙ ap (λ (u : BufferedCore). is_asking u.asker) (sym (core_seen t read))
-
-    pub at_port : (t : BufferedCore) → t ≡ get_or seen.state.cores c t → IsAtPort carrying seen.state.memory t c
-    at_port t read = record { few = core_few; here = port_seen; asked = asked_seen t read }
-
-    -- what was seen to be possible
-    pub executes_seen : (kept : Standing) (t : BufferedCore) → t ≡ get_or seen.state.cores c t →
-        may_execute riding kept t (port_at carrying seen.state.memory.ports c)
-        ≡ may_execute riding kept (core_at now.state.cores c) (port_at carrying now.state.memory.ports c)
-    executes_seen kept t read = λ i. may_execute riding kept (core_seen t read i)
-        (port_at carrying (view i).state.memory.ports c)
-
-    pub orders_seen : (t : BufferedCore) → t ≡ get_or seen.state.cores c t →
-        can_order t.queue riding (port_at carrying seen.state.memory.ports c)
-        ≡ can_order (core_at now.state.cores c).queue riding (port_at carrying now.state.memory.ports c)
-    orders_seen t read = λ i. can_order (core_seen t read i).queue riding (port_at carrying (view i).state.memory.ports
-        c)
-
-    -- and was marked
-    module _ (kept : Standing) (t : BufferedCore) (old new : Marks) (read : t ≡ get_or seen.state.cores c t)
-        (stands : kept ≡ standing_at now.state c) (all : AllMarked riding carrying s old)
-        (marked : OwnMarked riding (port_at carrying seen.state.memory.ports c) t kept c old new) where
+    -- what can be done by itself was marked
+    module _ {kept : Standing} {old new : Marks} (stands : kept ≡ standing_at now.state c)
+        (all : AllMarked riding carrying s old)
+        (marked : OwnMarked riding (port_at carrying now.state.memory.ports c) (core_at now.state.cores c) kept c old
+        new) where
       cores_marked : MovedAt s now.state c → CoresMarked riding carrying now.state new
       cores_marked moved =
           record {
             cores = marked.cores ∙ all.cores.cores ∙ sym (same_long s.cores now.state.cores c moved.cores);
             own = each (λ d. has (set_of Own new.moves) d) (λ d. enabled riding carrying now.state (CoreMove d)) c
-                (marked.own ∙ executes_seen kept t read
-                ∙ own_marked riding carrying now.state c kept core_after stands)
+                (marked.own ∙ own_marked riding carrying now.state c kept core_after stands)
                 (λ d other. marked.others Own d (λ one. other) ∙ all.cores.own d
                 ∙ sym (own_elsewhere riding carrying s now.state c d moved other));
             orders = each (λ d. has new.orders d) (λ d. enabled riding carrying now.state (OrderMove d)) c
-                (marked.order ∙ orders_seen t read ∙ order_marked riding carrying now.state c core_after)
+                (marked.order ∙ order_marked riding carrying now.state c core_after)
                 (λ d other. marked.orders d other ∙ all.cores.orders d
                 ∙ sym (order_elsewhere riding carrying s now.state c d moved other));
           }
 
-      pub own_marks : OwnMoved carrying s now.state c → OthersMarked riding carrying now.state new c
-      own_marks own =
+      pub own_marks : (c < length s.memory.ports → OwnMoved carrying s now.state c) →
+          OthersMarked riding carrying now.state new c
+      own_marks moved =
+          let own : OwnMoved carrying s now.state c = moved port_before in
           record {
             cores = cores_marked own.moved;
             ports = links_marked carrying s.memory now.state.memory c own.moved.memory riding old.moves new.moves
                 all.ports port_before (λ i. (own.same i).0) (λ i. (own.same i).1)
-                (λ k port d. marked.others k d (λ one. λ at. port one));
+                (λ k port d. marked.others k d (λ one. λ here. port one));
           }
 
       -- where the port's marks are renewed behind them
-      pub port_marks : MovedAt s now.state c → (later : MoveMarks) →
+      pub port_marks : (c < length s.memory.ports → MovedAt s now.state c) → {seen : Machinery R K} → seen ≡ now →
+          {later : MoveMarks} →
           has (set_of Response later) c ≡ can riding carrying seen.state.memory (TakeResponse c) →
           has (set_of FromHome later) c ≡ can riding carrying seen.state.memory (TakeMessage c) →
           ((k : MoveKind) (d : ℕ) → (k ≡ Response → d ≢ c) → (k ≡ FromHome → d ≢ c) →
           has (set_of k later) d ≡ has (set_of k new.moves) d) →
           OthersMarked riding carrying now.state (record new { moves = later }) c
-      port_marks moved later response message kept_marks =
+      port_marks moves {seen} view {later} response message kept_marks =
+          let moved : MovedAt s now.state c = moves port_before in
           let here : CoresMarked riding carrying now.state new = cores_marked moved in
           record {
             cores = record {
@@ -360,11 +357,20 @@ module _ {R K : Type 0} where
               orders = here.orders;
             };
             ports = port_renewed carrying s.memory now.state.memory c moved.memory riding old.moves new.moves later
-                all.ports (λ k port d. marked.others k d (λ one. λ at. port one))
+                all.ports (λ k port d. marked.others k d (λ one. λ here. port one))
                 (response ∙ ap (λ (x : Machinery R K). can riding carrying x.state.memory (TakeResponse c)) view)
                 (message ∙ ap (λ (x : Machinery R K). can riding carrying x.state.memory (TakeMessage c)) view)
                 kept_marks;
           }
+
+    -- what is seen of its ports
+    module _ {seen : Machinery R K} (view : seen ≡ now) where
+      pub port_seen : c < length seen.state.memory.ports
+      port_seen = subst (λ (x : Machinery R K). c < length x.state.memory.ports) (sym view) port_after
+
+      pub ports_few : length seen.state.memory.ports ≤ CORES_MAX
+      ports_few = subst (λ (x : Machinery R K). length x.state.memory.ports ≤ CORES_MAX) (sym view)
+          after.memory.cores
 
   -- a port that doesn't wait has room for a request
   pub room_still : (riding : Riding R) (carrying : Carrying K) (s : State R K) (m : Move) (c : ℕ) →

@@ -1,13 +1,15 @@
 //! Each kind of move, with what is noted beside the state.
-ghost use Rattle.std.specs.Prelude.{◌≡◌, IsTrue};
+ghost use Rattle.std.specs.Prelude.{◌≡◌, ◌<◌, IsTrue, length};
+ghost use Rattle.msi_memory.specs.Memories.{port_at};
 ghost use Rattle.tso_invariant.specs.Holds.{TsoHolds};
 ghost use Rattle.tso_state.specs.declared.moves.Move.{Move};
 ghost use Rattle.tso_state.specs.Moves.{core_of};
+ghost use Rattle.tso_state.specs.States.{core_at};
 ghost use Rattle.tso_state.specs.Steps.{enabled};
 ghost use Rattle.tso_core.specs.Machineries.{heads_roomy};
 ghost use Rattle.tso_core.specs.Marks.{AllMarked, OthersMarked};
 ghost use Rattle.tso_core.specs.Moving.{AcceptsOf, Makes};
-ghost use Rattle.tso_core.specs.Standings.{StandingsFit, standing_at};
+ghost use Rattle.tso_core.specs.Standings.{IsAtPort, OwnMarked, StandingsFit, standing_at};
 
 use crate::marking::mark_own;
 use crate::marks::Marks;
@@ -41,38 +43,24 @@ impl<R: Rider, K: Carry> Parts<R, K> {
         ensures marked { OthersMarked R.riding K.carrying self.new.state marks.new (core_of taken) }
     {
         match taken {
-            Move::Core(c) => self.move_core(c, &mut standings[c as usize], marks, clerk),
+            Move::Core(c) => {
+                let standing = &mut standings[c as usize];
+                self.work(c, standing, clerk);
+                self.mark_core(c, *standing, marks);
+            }
             Move::Order(c) => self.move_order(c, standings[c as usize], marks, clerk),
             Move::Request(c) => take_request(&mut self.memory, c, marks.cores, &mut marks.moves),
             Move::Response(c) => take_response(&mut self.memory, c, marks.cores, &mut marks.moves),
-            Move::FromHome(c) => self.take_message(c, &mut standings[c as usize], marks, clerk),
+            Move::FromHome(c) => {
+                let standing = &mut standings[c as usize];
+                self.receive(c, standing, clerk);
+                self.mark_core(c, *standing, marks);
+                mark_port(&self.memory, c, &mut marks.moves);
+            }
         }
     }
 
-    /// Core `c` moves.
-    fn move_core<C: TsoClerk<R, K>>(
-        &mut self,
-        c: u8,
-        standing: &mut Standing,
-        marks: &mut Marks,
-        clerk: &mut C,
-    )
-        requires holds { TsoHolds R.riding K.carrying self.old.state }
-        requires enabled { IsTrue (enabled R.riding K.carrying self.old.state (Move.Core c)) }
-        requires stands { standing.old ≡ standing_at self.old.state c }
-        requires marked { AllMarked R.riding K.carrying self.old.state marks.old }
-        requires accepts { AcceptsOf C.accepts C.accepts_alone C.told_local C.told_touch C.told_logged R.riding
-            K.carrying self.old.state (Move.Core c) clerk.old }
-        ensures made { Makes C.told_local C.told_touch C.told_logged R.riding K.carrying self.old self.new
-            (Move.Core c) clerk.old clerk.new }
-        ensures renewed { standing.new ≡ standing_at self.new.state c }
-        ensures marked { OthersMarked R.riding K.carrying self.new.state marks.new c }
-    {
-        self.work(c, standing, clerk);
-        mark_own(&self.memory, c, &self.cores[c as usize], *standing, marks);
-    }
-
-    /// The oldest pending access of core `c` is ordered, or asks.
+    /// The oldest pending access of core `c` is ordered, or asks. What the core stands at stays.
     fn move_order<C: TsoClerk<R, K>>(
         &mut self,
         c: u8,
@@ -91,30 +79,17 @@ impl<R: Rider, K: Carry> Parts<R, K> {
         ensures marked { OthersMarked R.riding K.carrying self.new.state marks.new c }
     {
         self.order(c, clerk);
-        mark_own(&self.memory, c, &self.cores[c as usize], standing, marks);
+        self.mark_core(c, standing, marks);
     }
 
-    /// Core `c` takes the oldest message from home.
-    fn take_message<C: TsoClerk<R, K>>(
-        &mut self,
-        c: u8,
-        standing: &mut Standing,
-        marks: &mut Marks,
-        clerk: &mut C,
-    )
-        requires holds { TsoHolds R.riding K.carrying self.old.state }
-        requires enabled { IsTrue (enabled R.riding K.carrying self.old.state (Move.FromHome c)) }
-        requires stands { standing.old ≡ standing_at self.old.state c }
-        requires marked { AllMarked R.riding K.carrying self.old.state marks.old }
-        requires accepts { AcceptsOf C.accepts C.accepts_alone C.told_local C.told_touch C.told_logged R.riding
-            K.carrying self.old.state (Move.FromHome c) clerk.old }
-        ensures made { Makes C.told_local C.told_touch C.told_logged R.riding K.carrying self.old self.new
-            (Move.FromHome c) clerk.old clerk.new }
-        ensures renewed { standing.new ≡ standing_at self.new.state c }
-        ensures marked { OthersMarked R.riding K.carrying self.new.state marks.new c }
+    /// Marks what core `c`, which stands so, can do by itself.
+    #[inline(always)]
+    fn mark_core(&self, c: u8, standing: Standing, marks: &mut Marks)
+        requires here { c < length self.now.state.cores }
+        requires port { IsAtPort K.carrying self.now.state.memory (core_at self.now.state.cores c) c }
+        ensures { OwnMarked R.riding (port_at K.carrying self.now.state.memory.ports c)
+            (core_at self.now.state.cores c) standing c marks.old marks.new }
     {
-        self.receive(c, standing, clerk);
-        mark_own(&self.memory, c, &self.cores[c as usize], *standing, marks);
-        mark_port(&self.memory, c, &mut marks.moves);
+        mark_own(&self.memory, c, &self.cores[c as usize], standing, marks);
     }
 }
