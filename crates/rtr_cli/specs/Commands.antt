@@ -323,57 +323,20 @@ IsNotLeast r (failures.NotLeast edge) = IsDeterminate Reduced r × IsFirstAmiss 
 
 -- the reduced log isn't shown to be least, for this reason
 abbrev pub IsNotShown : Command → (input : List ℕ) → CheckFailure → Type 0
-IsNotShown (Record run) input failure = ⊥
-IsNotShown (Run run loads) input failure = ⊥
-IsNotShown Print input failure = ⊥
-IsNotShown (Replay which threads loads) input failure = ⊥
-IsNotShown Migrate input failure = ⊥
 IsNotShown Certify input failure = SpellsSome (whole_at input) (λ r. IsNotLeast r failure)
 IsNotShown Check input failure = SpellsSome (certificate_at input) (λ c. CheckFails c failure)
-IsNotShown (Gen shape number) input failure = ⊥
-IsNotShown (Soak shape number params seed) input failure = ⊥
-IsNotShown (At which at latest loads) input failure = ⊥
-IsNotShown (Thin certify) input failure = ⊥
-IsNotShown CheckThin input failure = ⊥
-IsNotShown (TsoRecord run) input failure = ⊥
-IsNotShown (TsoRun run loads) input failure = ⊥
-IsNotShown (TsoReplay loads) input failure = ⊥
+IsNotShown command input failure = ⊥
 
 -- the input is to be an ELF file, and this is the file's first fault
 abbrev pub IsFaulty : Command → (input : List ℕ) → ElfFault → Type 0
 IsFaulty (Record run) input fault = loaded run input ≡ Err fault
 IsFaulty (Run run loads) input fault = loaded run input ≡ Err fault
-IsFaulty Print input fault = ⊥
-IsFaulty (Replay which threads loads) input fault = ⊥
-IsFaulty Migrate input fault = ⊥
-IsFaulty Certify input fault = ⊥
-IsFaulty Check input fault = ⊥
-IsFaulty (Gen shape number) input fault = ⊥
-IsFaulty (Soak shape number params seed) input fault = ⊥
-IsFaulty (At which at latest loads) input fault = ⊥
-IsFaulty (Thin certify) input fault = ⊥
-IsFaulty CheckThin input fault = ⊥
-IsFaulty (TsoRecord run) input fault = ⊥
-IsFaulty (TsoRun run loads) input fault = ⊥
-IsFaulty (TsoReplay loads) input fault = ⊥
+IsFaulty command input fault = ⊥
 
 -- the command makes an image that is longer than the memory
 abbrev pub Overflows : Command → Type 0
-Overflows (Record run) = ⊥
-Overflows (Run run loads) = ⊥
-Overflows Print = ⊥
-Overflows (Replay which threads loads) = ⊥
-Overflows Migrate = ⊥
-Overflows Certify = ⊥
-Overflows Check = ⊥
-Overflows (Gen shape number) = ⊥
 Overflows (Soak shape number params seed) = 4 * params.words < image_length shape
-Overflows (At which at latest loads) = ⊥
-Overflows (Thin certify) = ⊥
-Overflows CheckThin = ⊥
-Overflows (TsoRecord run) = ⊥
-Overflows (TsoRun run loads) = ⊥
-Overflows (TsoReplay loads) = ⊥
+Overflows command = ⊥
 
 -- how a command ends whose audit was refused so
 abbrev pub exit_of_audit : AuditFault → Exit

@@ -3,9 +3,7 @@ ghost use Rattle.std.specs.Prelude.{◌≡◌, ◌*◌, ◌<◌, ◌≤◌, ℕ,
 ghost use Rattle.replay_core.specs.Plans.{recorded_image};
 ghost use Rattle.rtr_types.specs.Parameters.{Fits};
 ghost use Rattle.state_text.specs.States.{IsOutcomeOf, state_lines};
-ghost use Rattle.tool_words.specs.declared.command.Command.TheVariants.{TsoRecord, TsoRun};
-ghost use Rattle.tso_recordings.specs.Schedules.{tso_recording_of};
-ghost use Rattle.tso_codec.specs.Spelling.{tso_spelling};
+ghost use Rattle.tool_words.specs.declared.command.Command.TheVariants.{TsoRecord};
 ghost use Rattle.tso_codec.specs.Validity.{IsTso, plain_of};
 ghost use Rattle.tso_outcome.specs.Outcomes.{tso_outcome_of};
 ghost use Rattle.rtr_cli.specs.Commands.{IsTsoReplayed, Makes, Promised, TsoEnds, exit_of_replay, image_of};
@@ -35,47 +33,19 @@ pub(crate) fn tso_record_input(
     ensures refused { IfErr result (λ exit. exit ≡ Exit.OutOfMemory) }
 {
     are_bytes(input.as_slice());
-    Ok(recorded(alloc, Planned::of(run), input)?)
-}
-
-/// The text of how a run of the image ended that the input is, by cores with store buffers.
-pub(crate) fn tso_run_input(
-    alloc: Global,
-    run: RunWords,
-    loads: bool,
-    input: Vec<u8>,
-) -> Result<Vec<u8>, Exit>
-    requires fits { Fits run.params }
-    requires within { length input.items ≤ 4 * run.params.words }
-    ensures made { IfOk result (λ out. Makes (TsoRun run loads) input.items out.items) }
-    ensures refused { IfErr result (λ exit. exit ≡ Exit.OutOfMemory) }
-{
-    Ok(ran_text(alloc, Planned::of(run), loads, input)?)
-}
-
-/// Bytes are below 256.
-fn are_bytes(bytes: &[u8])
-    ensures { (i : ℕ) → slice_index bytes.now i < 256 }
-{
-    // The type of a byte says so.
-    let _ = bytes;
-}
-
-/// The recording of a run of the image, spelled.
-fn recorded(alloc: Global, run: Planned, bytes: Vec<u8>) -> Result<Vec<u8>, AllocError>
-    requires fits { Fits run.params }
-    requires within { vec_len bytes ≤ 4 * run.params.words }
-    ensures { IfOk result (λ out. out.items
-        ≡ tso_spelling (tso_recording_of (image_of run.params bytes.items) run.params run.schedule)) }
-{
-    let Planned { params, schedule } = run;
-    let opening = image(bytes, params.words);
+    let Planned { params, schedule } = Planned::of(run);
+    let opening = image(input, params.words);
     let recording = tso_record_image(alloc, opening, params, schedule)?;
-    tso_spell(alloc, &recording)
+    Ok(tso_spell(alloc, &recording)?)
 }
 
-/// The text of how a run of the image ended.
-fn ran_text(alloc: Global, run: Planned, loads: bool, bytes: Vec<u8>) -> Result<Vec<u8>, AllocError>
+/// The text of how a run of the image ended, by cores with store buffers.
+pub(crate) fn tso_run_text(
+    alloc: Global,
+    run: Planned,
+    loads: bool,
+    bytes: Vec<u8>,
+) -> Result<Vec<u8>, AllocError>
     requires fits { Fits run.params }
     requires within { vec_len bytes ≤ 4 * run.params.words }
     ensures { IfOk result (λ out. out.items
@@ -87,6 +57,14 @@ fn ran_text(alloc: Global, run: Planned, loads: bool, bytes: Vec<u8>) -> Result<
     let opening = image(bytes, params.words);
     let ran = tso_run(alloc, opening, params, schedule)?;
     state_text(alloc, &ran.outcome, &ran.image, loads)
+}
+
+/// Bytes are below 256.
+fn are_bytes(bytes: &[u8])
+    ensures { (i : ℕ) → slice_index bytes.now i < 256 }
+{
+    // The type of a byte says so.
+    let _ = bytes;
 }
 
 /// The text of how the low order of the recording's reduced log ends, in which each logged load takes its recorded

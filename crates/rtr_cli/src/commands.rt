@@ -22,7 +22,7 @@ ghost use Rattle.rtr_cli.specs.Commands.{checked_lines, exit_of_audit, image_of,
 ghost use Rattle.rtr_cli.specs.Commands.{run_bytes_max};
 ghost use Rattle.tool_words.specs.declared.command.Command.TheVariants.{Record, Run};
 
-use crate::buffers::{tso_record_input, tso_replayed, tso_run_input};
+use crate::buffers::{tso_record_input, tso_replayed, tso_run_text};
 use crate::cuts::state_at;
 use crate::soaks::soak;
 use crate::thins::{checked_thin, thinned};
@@ -138,7 +138,7 @@ pub(crate) fn make(alloc: Global, command: Command, bytes: Vec<u8>) -> Result<Ve
             checked_thin(alloc, &thinned)
         }
         Command::TsoRecord(run) => tso_record_input(alloc, run, bytes),
-        Command::TsoRun { run, loads } => tso_run_input(alloc, run, loads, bytes),
+        Command::TsoRun { run, loads } => Ok(tso_run_text(alloc, Planned::of(run), loads, bytes)?),
         Command::TsoReplay { loads } => {
             let recording = tso_read(alloc, bytes.as_slice())?;
             tso_replayed(alloc, recording, loads)

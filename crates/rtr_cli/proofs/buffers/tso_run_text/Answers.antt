@@ -6,8 +6,8 @@ use Rattle.state_text.specs.States.{IsOutcomeOf, state_lines}
 use Rattle.tso_outcome.specs.Outcomes.{tso_outcome_of}
 use Rattle.rtr_cli.specs.Commands.{image_of}
 use Rattle.rtr_cli.proofs.BufferRuns.{tso_run_fits}
-use Rattle.rtr_cli.proofs.buffers.ran_text.Goals as goal
-use Rattle.rtr_cli.proofs.buffers.ran_text.Goals.{In_ok-ran}
+use Rattle.rtr_cli.proofs.buffers.tso_run_text.Goals as goal
+use Rattle.rtr_cli.proofs.buffers.tso_run_text.Goals.{In_ok-ran}
 
 -- the image that was run, and what the run came to
 image_is : (c : In_ok-ran) → c.in_ok-ran.ran.image ≡ image_of c.args.run.params c.args.bytes.items
