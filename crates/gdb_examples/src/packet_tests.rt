@@ -57,24 +57,13 @@ fn points_are_set_and_cleared(rt: HostRuntime) -> Result<(), Fail> {
             at: point.at,
             len: 4,
         };
-        let set = format!(in alloc; "Z{}", point.packet)?;
-        assert!(rt;
-            is_right(
-                alloc,
-                &set,
-                &Asked::Plain(Plain::SetPoint(point.kind, span))
-            )?,
-            "{set}"
-        );
-        let cleared = format!(in alloc; "z{}", point.packet)?;
-        assert!(rt;
-            is_right(
-                alloc,
-                &cleared,
-                &Asked::Plain(Plain::ClearPoint(point.kind, span))
-            )?,
-            "{cleared}"
-        );
+        for (letter, asks) in [
+            ("Z", Plain::SetPoint(point.kind, span)),
+            ("z", Plain::ClearPoint(point.kind, span)),
+        ] {
+            let packet = format!(in alloc; "{letter}{}", point.packet)?;
+            assert!(rt; is_right(alloc, &packet, &Asked::Plain(asks))?, "{packet}");
+        }
     }
     Ok(())
 }
