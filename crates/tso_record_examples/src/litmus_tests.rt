@@ -16,11 +16,6 @@ pub const STORE_BUFFERING: [u32; 7] = [
     0x00451313, 0x00154393, 0x00439413, 0x00100493, 0x04932023, 0x04042583, 0x00000073,
 ];
 
-/// The same with a FENCE between store and load.
-const STORE_BUFFERING_FENCED: [u32; 8] = [
-    0x00451313, 0x00154393, 0x00439413, 0x00100493, 0x04932023, 0x0ff0000f, 0x04042583, 0x00000073,
-];
-
 /// bne x10,x0,+20; addi x9,x0,1; sw x9,64(x0); sw x9,80(x0); ecall; addi x0,x0,0; addi x0,x0,0;
 /// lw x11,80(x0); lw x12,64(x0); ecall: core 0 writes x and then y, core 1 reads y and then x.
 const MESSAGE_PASSING: [u32; 10] = [
@@ -28,7 +23,7 @@ const MESSAGE_PASSING: [u32; 10] = [
     0x04002603, 0x00000073,
 ];
 
-/// The same with a FENCE between the stores and one between the loads.
+/// The same with a FENCE between the stores, which the branch passes over too, and one between the loads.
 const MESSAGE_PASSING_FENCED: [u32; 12] = [
     0x00051c63, 0x00100493, 0x04902023, 0x0ff0000f, 0x04902823, 0x00000073, 0x00000013, 0x00000013,
     0x05002583, 0x0ff0000f, 0x04002603, 0x00000073,
@@ -40,11 +35,6 @@ const LOAD_BUFFERING: [u32; 7] = [
     0x00451313, 0x00154393, 0x00439413, 0x00100493, 0x04042583, 0x04932023, 0x00000073,
 ];
 
-/// The same with a FENCE between load and store.
-const LOAD_BUFFERING_FENCED: [u32; 8] = [
-    0x00451313, 0x00154393, 0x00439413, 0x00100493, 0x04042583, 0x0ff0000f, 0x04932023, 0x00000073,
-];
-
 /// slli x6,x10,4; srli x5,x10,1; addi x9,x0,1; bne x5,x0,+12; sw x9,64(x6); ecall; xori x7,x6,16; lw x11,32(x6); lw
 /// x12,32(x7); ecall: cores 0 and 1 write x and y, core 2 reads x and then y, and core 3 reads y and then x.
 const TWO_READERS: [u32; 10] = [
@@ -52,11 +42,15 @@ const TWO_READERS: [u32; 10] = [
     0x0203a603, 0x00000073,
 ];
 
-/// The same with a FENCE between the loads.
-const TWO_READERS_FENCED: [u32; 11] = [
-    0x00451313, 0x00155293, 0x00100493, 0x00029663, 0x04932023, 0x00000073, 0x01034393, 0x02032583,
-    0x0ff0000f, 0x0203a603, 0x00000073,
-];
+/// FENCE, which orders what stands before it before what stands behind it.
+const FENCE: u32 = 0x0ff0000f;
+
+/// A program: its code, and the place in it, if any, before which a FENCE is put.
+#[derive(Clone, Copy)]
+struct Program {
+    code: &'static [u32],
+    fence: Option<usize>,
+}
 
 /// How many schedules of each kind each program runs under.
 const SCHEDULES: u64 = 100;
@@ -82,12 +76,15 @@ static TURNS: [[u8; 52]; 4] = [
     ],
 ];
 
-/// The image of the code over 32 words.
-fn image(alloc: Global, code: &[u32]) -> Result<Image, Fail>
+/// The image of the program over 32 words.
+fn image(alloc: Global, program: Program) -> Result<Image, Fail>
     ensures { IfOk result (λ image. image.words ≡ 32) }
 {
     let mut bytes = Vec::new(alloc);
-    for word in code {
+    for (place, word) in program.code.iter().enumerate() {
+        if program.fence == Some(place) {
+            bytes.extend_from_slice(&FENCE.to_le_bytes())?;
+        }
         bytes.extend_from_slice(&word.to_le_bytes())?;
     }
     Ok(Image::flat(bytes, 32)?)
@@ -118,7 +115,7 @@ fn number_of(outcome: &Outcome) -> u32 {
 }
 
 /// The outcome of the program under the schedule, by the bit of its number.
-fn outcome(alloc: Global, code: &[u32], cores: u8, schedule: Schedule) -> Result<u32, Fail>
+fn outcome(alloc: Global, program: Program, cores: u8, schedule: Schedule) -> Result<u32, Fail>
     requires some { 1 ≤ cores }
     requires few { cores ≤ 4 }
 {
@@ -127,74 +124,76 @@ fn outcome(alloc: Global, code: &[u32], cores: u8, schedule: Schedule) -> Result
         limit: 100,
         words: 32,
     };
-    let ran = tso_run(alloc, image(alloc, code)?, params, schedule)?;
+    let ran = tso_run(alloc, image(alloc, program)?, params, schedule)?;
     let number = number_of(&ran.outcome);
     Ok(if number < 32 { 1 << number } else { 0 })
 }
 
 /// The outcomes of the program under the schedules of both kinds, each by the bit of its number.
-fn outcomes(alloc: Global, code: &[u32], cores: u8) -> Result<u32, Fail>
+fn outcomes(alloc: Global, program: Program, cores: u8) -> Result<u32, Fail>
     requires some { 1 ≤ cores }
     requires few { cores ≤ 4 }
 {
     let mut seen = 0u32;
     for seed in 0..SCHEDULES {
-        seen |= outcome(alloc, code, cores, schedule(alloc, seed, false)?)?;
-        seen |= outcome(alloc, code, cores, schedule(alloc, seed, true)?)?;
+        seen |= outcome(alloc, program, cores, schedule(alloc, seed, false)?)?;
+        seen |= outcome(alloc, program, cores, schedule(alloc, seed, true)?)?;
     }
     Ok(seen)
 }
 
 /// A program of two cores, and the outcomes that are seen of it, a bit each.
 struct Litmus {
-    code: &'static [u32],
+    program: Program,
     seen: u32,
 }
 
 macro_rules! litmus {
-    ($code:ident => $seen:literal) => {
-        Litmus { code: &$code, seen: $seen }
+    ($code:ident, $fence:expr => $seen:literal) => {
+        Litmus { program: Program { code: &$code, fence: $fence }, seen: $seen }
     };
 }
 
 static LITMUS: [Litmus; 6] = [
     // Each core's load may pass its own store, so that both get 0; a FENCE between them forbids that.
-    litmus!(STORE_BUFFERING => 0b1111),
-    litmus!(STORE_BUFFERING_FENCED => 0b1110),
+    litmus!(STORE_BUFFERING, None => 0b1111),
+    litmus!(STORE_BUFFERING, Some(5) => 0b1110),
     // Stores are ordered as their core has them, and so are loads: whoever has read the new y reads the new x.
-    litmus!(MESSAGE_PASSING => 0b1011),
-    litmus!(MESSAGE_PASSING_FENCED => 0b1011),
+    litmus!(MESSAGE_PASSING, None => 0b1011),
+    litmus!(MESSAGE_PASSING_FENCED, None => 0b1011),
     // No store is ordered before a load of its core that comes first, so not both loads get what was written.
-    litmus!(LOAD_BUFFERING => 0b0111),
-    litmus!(LOAD_BUFFERING_FENCED => 0b0111),
+    litmus!(LOAD_BUFFERING, None => 0b0111),
+    litmus!(LOAD_BUFFERING, Some(5) => 0b0111),
 ];
 
 #[test]
 fn two_cores_have_these_outcomes(rt: HostRuntime) -> Result<(), Fail> {
     for litmus in &LITMUS {
-        let seen = outcomes(rt.alloc(), litmus.code, 2)?;
+        let seen = outcomes(rt.alloc(), litmus.program, 2)?;
         assert_eq!(rt; seen, litmus.seen);
     }
     Ok(())
 }
 
 /// The outcomes of a program of four cores, of which each takes its turn.
-fn outcomes_in_turn(alloc: Global, code: &[u32]) -> Result<u32, Fail> {
+fn outcomes_in_turn(alloc: Global, program: Program) -> Result<u32, Fail> {
     let mut seen = 0u32;
     for choices in &TURNS {
         let schedule = Schedule::new(choices.as_slice().to_vec(alloc)?, 0);
-        seen |= outcome(alloc, code, 4, schedule)?;
+        seen |= outcome(alloc, program, 4, schedule)?;
     }
     Ok(seen)
 }
 
-// All cores see the stores in one order: never one reader x without y and the other y without x.
+// All cores see the stores in one order: never one reader x without y and the other y without x, with a FENCE between
+// the loads or without.
 #[test]
 fn two_readers_of_two_writers(rt: HostRuntime) -> Result<(), Fail> {
-    let seen = outcomes(rt.alloc(), &TWO_READERS, 4)? | outcomes_in_turn(rt.alloc(), &TWO_READERS)?;
-    assert_eq!(rt; seen, 0xfbff);
-    let fenced = outcomes(rt.alloc(), &TWO_READERS_FENCED, 4)?;
-    let in_turn = outcomes_in_turn(rt.alloc(), &TWO_READERS_FENCED)?;
-    assert_eq!(rt; fenced | in_turn, 0xfbff);
+    for fence in [None, Some(8)] {
+        let code = &TWO_READERS;
+        let program = Program { code, fence };
+        let seen = outcomes(rt.alloc(), program, 4)? | outcomes_in_turn(rt.alloc(), program)?;
+        assert_eq!(rt; seen, 0xfbff, "{fence:?}");
+    }
     Ok(())
 }
