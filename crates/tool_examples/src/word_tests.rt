@@ -396,14 +396,19 @@ macro_rules! means {
 }
 
 #[test]
-fn words_with_one_option_at_most(rt: HostRuntime) -> Result<(), Fail> {
+fn words_of_commands_without_options(rt: HostRuntime) -> Result<(), Fail> {
     means!(rt, "print" => Command::Print);
     means!(rt, "migrate" => Command::Migrate);
     means!(rt, "certify" => Command::Certify);
     means!(rt, "check" => Command::Check);
+    means!(rt, "checkthin" => Command::CheckThin);
+    Ok(())
+}
+
+#[test]
+fn words_of_commands_with_one_option(rt: HostRuntime) -> Result<(), Fail> {
     means!(rt, "thin" => Command::Thin { certify: false });
     means!(rt, "thin --certify" => Command::Thin { certify: true });
-    means!(rt, "checkthin" => Command::CheckThin);
     means!(rt, "tsoreplay" => Command::TsoReplay { loads: false });
     means!(rt, "tsoreplay --loads" => Command::TsoReplay { loads: true });
     Ok(())
