@@ -25,7 +25,8 @@ use Rattle.msi_protocol.specs.Block.{block_start, request_by, response_by, messa
 use Rattle.msi_protocol.specs.Promises.{OneWriter, HasRows, BusyMoves, is_moving}
 use Rattle.msi_protocol.specs.Phases.{Phase, Idle, role, role_in, picture, StageFits, Stands, BlockHolds}
 use Rattle.msi_protocol.specs.NextPhases.{after_own, after_other, answered, after_others_response, received, wished}
-use Rattle.msi_protocol.specs.NextPhases.{may_read, may_write, owes}
+use Rattle.msi_protocol.specs.NextPhases.{owes}
+use Rattle.msi_protocol.specs.Seats.{is_main, is_away}
 
 -- a request that can be taken has a row
 pub request_has_row : (stage : Stage) (c : ℕ) (a : Ask) (rest : List Ask) (p : Phase) → is_free stage ≡ true →
@@ -117,13 +118,13 @@ responder_view stage c a rest p lt fits asks is = grind (
 )
 
 -- one that may write is the owner, or is still to give, and then nobody else has a copy
-pub writer_role : (p : Phase) → (picture p).line ≡ M → may_write (role_in p) ≡ true
+pub writer_role : (p : Phase) → (picture p).line ≡ M → is_main (role_in p) ≡ true
 writer_role p is = grind arith
 
-pub reader_role : (p : Phase) → may_read (role_in p) ≡ false → is_readable (picture p).line ≡ false
+pub reader_role : (p : Phase) → is_away (role_in p) ≡ true → is_readable (picture p).line ≡ false
 reader_role p is = grind arith
 
-pub one_role : (stage : Stage) (d e : ℕ) → d ≢ e → may_write (role stage d) ≡ true → may_read (role stage e) ≡ false
+pub one_role : (stage : Stage) (d e : ℕ) → d ≢ e → is_main (role stage d) ≡ true → is_away (role stage e) ≡ true
 one_role stage d e other is = grind (arith, nat_tests)
 
 pub one_writer : (stage : Stage) (d e : ℕ) (p q : Phase) → d ≢ e → role_in p ≡ role stage d → role_in q ≡ role stage e →

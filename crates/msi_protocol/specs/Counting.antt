@@ -1,12 +1,13 @@
 -- Which copies of a block count: the home's, where a core's line has one, where BlockData under way to it brings one,
 -- and where its response under way has one with it. Other copies are old, and nobody looks at them.
-use Rattle.std.specs.Prelude.{Bool, true, false}
+use Rattle.std.specs.Prelude.{Bool, true, false, not, List, ◌∷◌}
+use Rattle.link_order.specs.Queue.{is_nil}
+use Rattle.msi_cache.specs.declared.line.State.{State}
+use Rattle.msi_cache.specs.declared.line.State.TheVariants.{MiA, SiA}
+use Rattle.msi_cache.specs.Table.{Signal, is_readable}
 use Rattle.msi_directory.specs.declared.entry.Stage.{Stage}
 use Rattle.msi_directory.specs.declared.entry.Stage.TheVariants.{Owned, Data}
-use Rattle.msi_protocol.specs.Phases.{Phase, Holds, Fills, Upgrades, Puts, Owns, FillsM, UpgradeFills, PutsM, HoldsTold}
-use Rattle.msi_protocol.specs.Phases.{FillsTold, UpgradesTold, PutsTold, Acked, AckedAsksS, AckedAsksM, AckedPuts}
-use Rattle.msi_protocol.specs.Phases.{UpgradeAwaitsAcks, OwnsTold, FillsMTold, UpgradeFillsTold, PutsMTold, GaveHolds}
-use Rattle.msi_protocol.specs.Phases.{GaveUpgrades, GavePuts, GaveAll, GaveAllAsksS, GaveAllAsksM, GaveAllPuts}
+use Rattle.msi_protocol.specs.Phases.{Phase, PutDone, picture}
 
 -- the home's copy counts: no cache owns the block or is to give it
 abbrev pub home_counts : Stage → Bool
@@ -14,47 +15,26 @@ home_counts (Owned owner) = false
 home_counts (Data «of» requester share) = false
 home_counts _ = true
 
--- the line's copy counts
+-- a line in this state has a copy, to read or to put
+abbrev pub has_copy : State → Bool
+has_copy MiA = true
+has_copy SiA = true
+has_copy state = is_readable state
+
+-- the line's copy counts, until a put of it is done
 abbrev pub line_counts : Phase → Bool
-line_counts Holds = true
-line_counts Upgrades = true
-line_counts (Puts p) = true
-line_counts Owns = true
-line_counts UpgradeFills = true
-line_counts PutsM = true
-line_counts HoldsTold = true
-line_counts UpgradesTold = true
-line_counts (PutsTold p) = true
-line_counts UpgradeAwaitsAcks = true
-line_counts (OwnsTold s) = true
-line_counts (UpgradeFillsTold s) = true
-line_counts (PutsMTold s) = true
-line_counts GaveHolds = true
-line_counts GaveUpgrades = true
-line_counts (GavePuts p) = true
-line_counts _ = false
+line_counts (PutDone e) = false
+line_counts p = has_copy (picture p).line
+
+-- the next message brings a copy
+abbrev pub brings_copy : List Signal → Bool
+brings_copy (Signal.BlockData ∷ rest) = true
+brings_copy _ = false
 
 -- the copy in BlockData under way counts
 abbrev pub sent_counts : Phase → Bool
-sent_counts Fills = true
-sent_counts FillsM = true
-sent_counts UpgradeFills = true
-sent_counts FillsTold = true
-sent_counts (FillsMTold s) = true
-sent_counts (UpgradeFillsTold s) = true
-sent_counts _ = false
+sent_counts p = brings_copy (picture p).messages
 
 -- the copy in the response under way counts
 abbrev pub reply_counts : Phase → Bool
-reply_counts Acked = true
-reply_counts AckedAsksS = true
-reply_counts AckedAsksM = true
-reply_counts (AckedPuts p) = true
-reply_counts GaveHolds = true
-reply_counts GaveUpgrades = true
-reply_counts (GavePuts p) = true
-reply_counts GaveAll = true
-reply_counts GaveAllAsksS = true
-reply_counts GaveAllAsksM = true
-reply_counts GaveAllPuts = true
-reply_counts _ = false
+reply_counts p = not (is_nil (picture p).responses)

@@ -5,8 +5,8 @@ use Rattle.msi_cache.specs.Table.{Ask}
 use Rattle.msi_directory.specs.declared.entry.Stage.{Stage}
 use Rattle.msi_directory.specs.declared.entry.Stage.TheVariants.{Shared, Owned, Acks}
 use Rattle.msi_protocol.specs.Block.{Wish, ToLoad, ToStore, ToEvict}
-use Rattle.msi_protocol.specs.Phases.{Role, Out, Owner, Acker, Giver, GiveWaiter, OfShared, OfModified, FromModified}
-use Rattle.msi_protocol.specs.Phases.{FromShared, FromInvalid, Phase, Idle, AsksS, AsksM, PutsLate, PutDone, Holds}
+use Rattle.msi_protocol.specs.Phases.{Role, Acker, Giver, OfShared, OfModified, FromModified, FromShared, FromInvalid}
+use Rattle.msi_protocol.specs.Phases.{Phase, Idle, AsksS, AsksM, PutsLate, PutDone, Holds}
 use Rattle.msi_protocol.specs.Phases.{Fills, Upgrades, Puts, Owns, FillsM, UpgradeFills, PutsM, HoldsTold, FillsTold}
 use Rattle.msi_protocol.specs.Phases.{UpgradesTold, PutsTold, Acked, AckedAsksS, AckedAsksM, AckedPuts, AwaitsAcks}
 use Rattle.msi_protocol.specs.Phases.{UpgradeAwaitsAcks, OwnsTold, FillsMTold, UpgradeFillsTold, PutsMTold, GaveHolds}
@@ -113,18 +113,6 @@ wished ToEvict GaveHolds = GavePuts OfShared
 wished ToLoad GaveAll = GaveAllAsksS
 wished ToStore GaveAll = GaveAllAsksM
 wished w p = p
-
--- the home takes the core for the only one that may write
-abbrev pub may_write : Role → Bool
-may_write Owner = true
-may_write (Giver s) = true
-may_write _ = false
-
--- the home may take the core for one that reads
-abbrev pub may_read : Role → Bool
-may_read Out = false
-may_read (GiveWaiter s) = false
-may_read _ = true
 
 -- a response or a forwarded message of the core is due before the block is free again
 abbrev pub owes : Role → Bool

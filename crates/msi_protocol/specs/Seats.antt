@@ -1,21 +1,22 @@
 -- One block with what its copies carry: the home's, and each core's line, and what is under way to and from it.
-use Rattle.std.specs.Prelude.{◌≡◌, ℕ, ◌<◌, ◌≤◌, ◌==◌, Bool, true, false, IsTrue, if◌then◌else◌}
+use Rattle.std.specs.Prelude.{◌≡◌, ℕ, ◌<◌, ◌≤◌, ◌==◌, Bool, true, false, IsTrue, List, ◌∷◌, if◌then◌else◌}
 use Rattle.rtr_types.specs.CoreSets.{has}
 use Rattle.rtr_types.specs.Accesses.{is_write}
 use Rattle.rtr_types.specs.declared.TheConstants.{CORES_MAX}
 use Rattle.rtr_types.specs.declared.access.Kind.{Kind}
-use Rattle.msi_cache.specs.Table.{Ask, Reply}
+use Rattle.msi_cache.specs.declared.line.State.{State}
+use Rattle.msi_cache.specs.declared.line.State.TheVariants.{S, SmD, SiA}
+use Rattle.msi_cache.specs.Table.{Ask, Reply, is_readable, is_writable}
 use Rattle.msi_directory.specs.declared.entry.Stage.{Stage}
 use Rattle.msi_directory.specs.declared.entry.Stage.TheVariants.{Shared, Owned, Acks, Data}
 use Rattle.msi_protocol.specs.Block.{Wish, ToEvict, request_step, response_step}
 use Rattle.msi_protocol.specs.Counting.{home_counts, line_counts, sent_counts, reply_counts}
 use Rattle.msi_protocol.specs.NextPhases.{after_own, after_other, answered, after_others_response, received, wished}
-use Rattle.msi_protocol.specs.Phases.{OfShared, Role, Out, Owner, Giver, GiveWaiter, role, role_in, StageFits, Phase}
-use Rattle.msi_protocol.specs.Phases.{Holds, Fills, Upgrades, Puts, Owns, FillsM, UpgradeFills, PutsM, HoldsTold}
-use Rattle.msi_protocol.specs.Phases.{FillsTold, UpgradesTold, PutsTold, Acked, AckedAsksS, AckedAsksM, AckedPuts}
-use Rattle.msi_protocol.specs.Phases.{AwaitsAcks, UpgradeAwaitsAcks, OwnsTold, FillsMTold, UpgradeFillsTold, PutsMTold}
-use Rattle.msi_protocol.specs.Phases.{GaveHolds, GaveUpgrades, GavePuts, GaveAll, GaveAllAsksS, GaveAllAsksM}
-use Rattle.msi_protocol.specs.Phases.{GaveAllPuts, AwaitsData}
+use Rattle.msi_protocol.specs.Phases.{Role, Out, Owner, Giver, GiveWaiter, role, role_in, StageFits, Phase, picture}
+use Rattle.msi_protocol.specs.Phases.{Holds, Fills, Puts, Owns, FillsM, UpgradeFills, PutsM, HoldsTold, FillsTold}
+use Rattle.msi_protocol.specs.Phases.{UpgradesTold, PutsTold, AwaitsAcks, UpgradeAwaitsAcks, OwnsTold, FillsMTold}
+use Rattle.msi_protocol.specs.Phases.{UpgradeFillsTold, PutsMTold, GaveHolds, GaveUpgrades, GavePuts, GaveAll}
+use Rattle.msi_protocol.specs.Phases.{GaveAllAsksS, GaveAllAsksM, GaveAllPuts, AwaitsData}
 
 -- a core's phase, and what its line, its BlockData, its response and its put under way carry
 pub record Seat (X : Type 0) : Type 0 where
@@ -138,23 +139,10 @@ seat_others stage c home s =
 -- ---- an access
 
 abbrev pub reads_in : Phase → Bool
-reads_in Holds = true
-reads_in Upgrades = true
-reads_in Owns = true
-reads_in UpgradeFills = true
-reads_in HoldsTold = true
-reads_in UpgradesTold = true
-reads_in UpgradeAwaitsAcks = true
-reads_in (OwnsTold s) = true
-reads_in (UpgradeFillsTold s) = true
-reads_in GaveHolds = true
-reads_in GaveUpgrades = true
-reads_in _ = false
+reads_in p = is_readable (picture p).line
 
 abbrev pub writes_in : Phase → Bool
-writes_in Owns = true
-writes_in (OwnsTold s) = true
-writes_in _ = false
+writes_in p = is_writable (picture p).line
 
 -- the phase's line allows an access of the kind
 abbrev pub allows : Kind → Phase → Bool
@@ -194,24 +182,16 @@ pub data Place : Type 0 where
   InLine : Place
   InReply : Place
 
+-- a line shares until it gives up its copy: the home absorbs these reads with PutS, or with InvAck
+abbrev pub place_in : State → List Ask → List Reply → Place
+place_in S asks replies = InLine
+place_in SmD asks replies = InLine
+place_in SiA (Ask.PutS ∷ rest) replies = InLine
+place_in _ asks (Reply.InvAck ∷ rest) = InReply
+place_in _ asks replies = Nowhere
+
 abbrev pub place : Phase → Place
-place Holds = InLine
-place Upgrades = InLine
-place (Puts OfShared) = InLine
-place UpgradeFills = InLine
-place HoldsTold = InLine
-place UpgradesTold = InLine
-place (PutsTold OfShared) = InLine
-place UpgradeAwaitsAcks = InLine
-place (UpgradeFillsTold s) = InLine
-place GaveHolds = InLine
-place GaveUpgrades = InLine
-place (GavePuts OfShared) = InLine
-place Acked = InReply
-place AckedAsksS = InReply
-place AckedAsksM = InReply
-place (AckedPuts p) = InReply
-place _ = Nowhere
+place p = let v = picture p in place_in v.line v.requests v.responses
 
 abbrev pub count_at : {X : Type 0} → (X → ℕ) → Place → X → X → ℕ
 count_at r Nowhere line reply = 0
@@ -280,12 +260,13 @@ pub record HoldersHave {X : Type 0} (P : X → Type 0) (b : FullBlock X) : Type 
 abbrev pub Found : {X : Type 0} → (X → ℕ) → ℕ → ℕ → FullBlock X → Type 0
 Found r n d b = FoundIn r n (main b) (b.seats d)
 
+-- the home takes the core for the only one that may write: its copy is the main one
 abbrev pub is_main : Role → Bool
 is_main Owner = true
 is_main (Giver s) = true
 is_main _ = false
 
--- a core that has nothing that counts
+-- a core that has nothing that counts, and so nothing to read
 abbrev pub is_away : Role → Bool
 is_away Out = true
 is_away (GiveWaiter s) = true
