@@ -1,6 +1,6 @@
 -- Where a core can be with a block, and what the home takes it for. A block is well where each core's
 -- view is the picture of a phase in which the core is what the home takes it for.
-use Rattle.std.specs.Prelude.{◌≡◌, ◌≢◌, ℕ, ◌<◌, ◌==◌, Bool, true, false, IsTrue, [], ◌∷◌, if◌then◌else◌}
+use Rattle.std.specs.Prelude.{◌≡◌, ◌≢◌, ℕ, ◌<◌, ◌==◌, Bool, true, false, IsTrue, List, [], ◌∷◌, if◌then◌else◌}
 use Rattle.rtr_types.specs.declared.TheConstants.{CORES_MAX}
 use Rattle.rtr_types.specs.CoreSets.{has, is_below, is_none}
 use Rattle.msi_cache.specs.declared.line.State.{State}
@@ -56,6 +56,11 @@ abbrev pub forward : Bool → Signal
 forward true = Signal.FwdGetS
 forward false = Signal.FwdGetM
 
+-- a line that waits for data, to share or to own
+abbrev pub filling : Bool → State
+filling true = IsD
+filling false = ImD
+
 -- where a core can be with the block
 pub data Phase : Type 0 where
   -- the home takes it for out
@@ -101,82 +106,59 @@ pub data Phase : Type 0 where
   -- for the one that waits for it
   AwaitsData : (share : Bool) → Phase
 
--- the core's line and what is under way, in each phase
-abbrev pub picture : Phase → View
-picture Idle = view I [] [] []
-picture AsksS = view IsD (Ask.GetS ∷ []) [] []
-picture AsksM = view ImD (Ask.GetM ∷ []) [] []
-picture (PutsLate p) = view IiA (put p ∷ []) [] []
-picture (PutDone e) = view (evicting e) [] [] (Signal.PutAck ∷ [])
-picture Holds = view S [] [] []
-picture Fills = view IsD [] [] (Signal.BlockData ∷ [])
-picture Upgrades = view SmD (Ask.GetM ∷ []) [] []
-picture (Puts p) = view SiA (put p ∷ []) [] []
-picture Owns = view M [] [] []
-picture FillsM = view ImD [] [] (Signal.BlockData ∷ [])
-picture UpgradeFills = view SmD [] [] (Signal.BlockData ∷ [])
-picture PutsM = view MiA (Ask.PutM ∷ []) [] []
-picture HoldsTold = view S [] [] (Signal.Inv ∷ [])
-picture FillsTold = view IsD [] [] (Signal.BlockData ∷ Signal.Inv ∷ [])
-picture UpgradesTold = view SmD (Ask.GetM ∷ []) [] (Signal.Inv ∷ [])
-picture (PutsTold p) = view SiA (put p ∷ []) [] (Signal.Inv ∷ [])
-picture Acked = view I [] (Reply.InvAck ∷ []) []
-picture AckedAsksS = view IsD (Ask.GetS ∷ []) (Reply.InvAck ∷ []) []
-picture AckedAsksM = view ImD (Ask.GetM ∷ []) (Reply.InvAck ∷ []) []
-picture (AckedPuts p) = view IiA (put p ∷ []) (Reply.InvAck ∷ []) []
-picture AwaitsAcks = view ImD [] [] []
-picture UpgradeAwaitsAcks = view SmD [] [] []
-picture (OwnsTold s) = view M [] [] (forward s ∷ [])
-picture (FillsMTold s) = view ImD [] [] (Signal.BlockData ∷ forward s ∷ [])
-picture (UpgradeFillsTold s) = view SmD [] [] (Signal.BlockData ∷ forward s ∷ [])
-picture (PutsMTold s) = view MiA (Ask.PutM ∷ []) [] (forward s ∷ [])
-picture GaveHolds = view S [] (Reply.OwnerData ∷ []) []
-picture GaveUpgrades = view SmD (Ask.GetM ∷ []) (Reply.OwnerData ∷ []) []
-picture (GavePuts p) = view SiA (put p ∷ []) (Reply.OwnerData ∷ []) []
-picture GaveAll = view I [] (Reply.OwnerData ∷ []) []
-picture GaveAllAsksS = view IsD (Ask.GetS ∷ []) (Reply.OwnerData ∷ []) []
-picture GaveAllAsksM = view ImD (Ask.GetM ∷ []) (Reply.OwnerData ∷ []) []
-picture GaveAllPuts = view IiA (Ask.PutM ∷ []) (Reply.OwnerData ∷ []) []
-picture (AwaitsData true) = view IsD [] [] []
-picture (AwaitsData false) = view ImD [] [] []
+-- what the home takes a core for, the core's line, and what is under way from and to it
+pub record Standing : Type 0 where
+  pub role : Role
+  pub view : View
 
--- what the home takes the core for, in each phase
+abbrev pub standing : Role → State → List Ask → List Reply → List Signal → Standing
+standing r s q p m = record { role = r; view = view s q p m }
+
+-- each phase, whole
+abbrev pub standing_in : Phase → Standing
+standing_in Idle = standing Out I [] [] []
+standing_in AsksS = standing Out IsD (Ask.GetS ∷ []) [] []
+standing_in AsksM = standing Out ImD (Ask.GetM ∷ []) [] []
+standing_in (PutsLate p) = standing Out IiA (put p ∷ []) [] []
+standing_in (PutDone e) = standing Out (evicting e) [] [] (Signal.PutAck ∷ [])
+standing_in Holds = standing Sharer S [] [] []
+standing_in Fills = standing Sharer IsD [] [] (Signal.BlockData ∷ [])
+standing_in Upgrades = standing Sharer SmD (Ask.GetM ∷ []) [] []
+standing_in (Puts p) = standing Sharer SiA (put p ∷ []) [] []
+standing_in Owns = standing Owner M [] [] []
+standing_in FillsM = standing Owner ImD [] [] (Signal.BlockData ∷ [])
+standing_in UpgradeFills = standing Owner SmD [] [] (Signal.BlockData ∷ [])
+standing_in PutsM = standing Owner MiA (Ask.PutM ∷ []) [] []
+standing_in HoldsTold = standing Acker S [] [] (Signal.Inv ∷ [])
+standing_in FillsTold = standing Acker IsD [] [] (Signal.BlockData ∷ Signal.Inv ∷ [])
+standing_in UpgradesTold = standing Acker SmD (Ask.GetM ∷ []) [] (Signal.Inv ∷ [])
+standing_in (PutsTold p) = standing Acker SiA (put p ∷ []) [] (Signal.Inv ∷ [])
+standing_in Acked = standing Acker I [] (Reply.InvAck ∷ []) []
+standing_in AckedAsksS = standing Acker IsD (Ask.GetS ∷ []) (Reply.InvAck ∷ []) []
+standing_in AckedAsksM = standing Acker ImD (Ask.GetM ∷ []) (Reply.InvAck ∷ []) []
+standing_in (AckedPuts p) = standing Acker IiA (put p ∷ []) (Reply.InvAck ∷ []) []
+standing_in AwaitsAcks = standing AckWaiter ImD [] [] []
+standing_in UpgradeAwaitsAcks = standing AckWaiter SmD [] [] []
+standing_in (OwnsTold s) = standing (Giver s) M [] [] (forward s ∷ [])
+standing_in (FillsMTold s) = standing (Giver s) ImD [] [] (Signal.BlockData ∷ forward s ∷ [])
+standing_in (UpgradeFillsTold s) = standing (Giver s) SmD [] [] (Signal.BlockData ∷ forward s ∷ [])
+standing_in (PutsMTold s) = standing (Giver s) MiA (Ask.PutM ∷ []) [] (forward s ∷ [])
+standing_in GaveHolds = standing (Giver true) S [] (Reply.OwnerData ∷ []) []
+standing_in GaveUpgrades = standing (Giver true) SmD (Ask.GetM ∷ []) (Reply.OwnerData ∷ []) []
+standing_in (GavePuts p) = standing (Giver true) SiA (put p ∷ []) (Reply.OwnerData ∷ []) []
+standing_in GaveAll = standing (Giver false) I [] (Reply.OwnerData ∷ []) []
+standing_in GaveAllAsksS = standing (Giver false) IsD (Ask.GetS ∷ []) (Reply.OwnerData ∷ []) []
+standing_in GaveAllAsksM = standing (Giver false) ImD (Ask.GetM ∷ []) (Reply.OwnerData ∷ []) []
+standing_in GaveAllPuts = standing (Giver false) IiA (Ask.PutM ∷ []) (Reply.OwnerData ∷ []) []
+standing_in (AwaitsData s) = standing (GiveWaiter s) (filling s) [] [] []
+
+-- the core's line and what is under way
+abbrev pub picture : Phase → View
+picture p = (standing_in p).view
+
+-- what the home takes the core for
 abbrev pub role_in : Phase → Role
-role_in Idle = Out
-role_in AsksS = Out
-role_in AsksM = Out
-role_in (PutsLate p) = Out
-role_in (PutDone e) = Out
-role_in Holds = Sharer
-role_in Fills = Sharer
-role_in Upgrades = Sharer
-role_in (Puts p) = Sharer
-role_in Owns = Owner
-role_in FillsM = Owner
-role_in UpgradeFills = Owner
-role_in PutsM = Owner
-role_in HoldsTold = Acker
-role_in FillsTold = Acker
-role_in UpgradesTold = Acker
-role_in (PutsTold p) = Acker
-role_in Acked = Acker
-role_in AckedAsksS = Acker
-role_in AckedAsksM = Acker
-role_in (AckedPuts p) = Acker
-role_in AwaitsAcks = AckWaiter
-role_in UpgradeAwaitsAcks = AckWaiter
-role_in (OwnsTold s) = Giver s
-role_in (FillsMTold s) = Giver s
-role_in (UpgradeFillsTold s) = Giver s
-role_in (PutsMTold s) = Giver s
-role_in GaveHolds = Giver true
-role_in GaveUpgrades = Giver true
-role_in (GavePuts p) = Giver true
-role_in GaveAll = Giver false
-role_in GaveAllAsksS = Giver false
-role_in GaveAllAsksM = Giver false
-role_in GaveAllPuts = Giver false
-role_in (AwaitsData s) = GiveWaiter s
+role_in p = (standing_in p).role
 
 -- core d is where the home takes it to be
 pub record Stands (stage : Stage) (d : ℕ) (v : View) : Type 0 where
