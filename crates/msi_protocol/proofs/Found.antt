@@ -1,11 +1,9 @@
 -- No move of the block loses the newest read of a core.
 use Rattle.std.proofs.Common.{◌≡◌, ◌≢◌, ◌∙◌, ◌⊎◌, inl, inr, ap, refl, sym, subst, ℕ, ◌<◌, ◌≤◌, ◌==◌, Bool, true, false}
-use Rattle.std.proofs.Common.{IsTrue, List, ◌∷◌, arith}
+use Rattle.std.proofs.Common.{List, ◌∷◌, arith}
 use Rattle.rtr_types.specs.declared.TheConstants.{CORES_MAX}
 use Rattle.std.proofs.lemmas.Bool.{cases_eq}
 use Rattle.std.proofs.lemmas.Bool.Decides.{nat_tests}
-use Rattle.rtr_types.specs.declared.core_set.CoreSet.{CoreSet}
-use Rattle.rtr_types.specs.CoreSets.{has}
 use Rattle.msi_directory.specs.declared.entry.Stage.{Stage}
 use Rattle.msi_directory.specs.declared.entry.Stage.TheVariants.{Unshared, Shared, Owned, Acks, Data}
 use Rattle.msi_directory.specs.Table.{is_free}
@@ -20,7 +18,6 @@ use Rattle.msi_protocol.specs.Seats.{main_at, own_count, FoundIn, FullBlock, sea
 use Rattle.msi_protocol.specs.Seats.{messaged, wishing, PhasesFit, HoldersHave}
 use Rattle.msi_protocol.specs.Seats.{Found}
 use Rattle.msi_protocol.specs.Seats.{is_main}
-use Rattle.msi_protocol.specs.Counting.{reply_counts}
 use Rattle.msi_protocol.proofs.Newest.{Grows, message_main, message_own_main, message_own_other, wish_main, wish_own}
 use Rattle.msi_protocol.proofs.Newest.{request_main_home, request_main_owned}
 use Rattle.msi_protocol.proofs.Newest.{request_own_mine, request_own_other, response_main_acks, response_main_awaits}
@@ -110,21 +107,6 @@ found_request {X} P absorbed r g n d c a rest b lc ld free asks st h f =
 
 -- ---- a response
 
-replied_acks : {X : Type 0} (P : X → Type 0) (absorbed : X → X → X) (r : X → ℕ) →
-    ((x y : X) → P x → P y → r y ≤ r (absorbed x y)) →
-    (owing : CoreSet) (q c : ℕ) (a : Reply) (rest : List Reply) (home : X) (seats : ℕ → Seat X) →
-    (picture (seats c).phase).responses ≡ a ∷ rest →
-    role_in (seats c).phase ≡ role (Acks owing q) c → has owing q ≡ false →
-    role_in (seats q).phase ≡ role (Acks owing q) q → P home →
-    (IsTrue (reply_counts (seats c).phase) → P (seats c).reply)
-    → r (seats c).reply ≤ r (main (responded absorbed c a (record {
-      stage = Acks owing q;
-      home = home;
-      seats =
-          seats;
-    })))
-replied_acks P absorbed r grows owing q c a rest home seats asks is out waits h p = grind (arith, nat_tests)
-
 replied_awaits : {X : Type 0} (absorbed : X → X → X) (r : X → ℕ) (owing q : ℕ) (share : Bool) (c : ℕ) (a : Reply)
     (rest : List Reply) (home : X) (seats : ℕ → Seat X) → (picture (seats c).phase).responses ≡ a ∷ rest →
     role_in (seats c).phase ≡ role (Data owing q share) c → owing ≢ q →
@@ -152,13 +134,13 @@ main_response : {X : Type 0} (P : X → Type 0) (absorbed : X → X → X) (r : 
       seats = seats;
     })
     → MainAnswered absorbed r c a (record { stage = stage; home = home; seats = seats })
-main_response P absorbed r g (Acks owing q) c a rest home seats lc asks st h =
-    record {
-      kept = response_main_acks P absorbed r g.left owing q c a rest home seats asks (st.roles c lc) st.fits.0
-          (st.roles q st.fits.1) (h.home refl) (h.seats c lc).reply;
-      replied = replied_acks P absorbed r g.right owing q c a rest home seats asks (st.roles c lc) st.fits.0
-          (st.roles q st.fits.1) (h.home refl) (h.seats c lc).reply;
-    }
+main_response {X} P absorbed r g (Acks owing q) c a rest home seats lc asks st h =
+    let e = ap r (response_main_acks absorbed owing q c a rest home seats asks (st.roles c lc) st.fits.0
+    (st.roles q st.fits.1)) in
+    let replied : P (seats c).reply = (h.seats c lc).reply (rw asks refl) in
+    let kept = g.left home (seats c).reply (h.home refl) replied in
+    let absorbs = g.right home (seats c).reply (h.home refl) replied in
+    record { kept = omega arith; replied = omega arith }
 main_response P absorbed r g (Data owing q s) c a rest home seats lc asks st h =
     let e = ap r (response_main_awaits absorbed owing q s c a rest home seats asks (st.roles c lc) st.fits.0
     (st.roles q st.fits.1)) in

@@ -14,7 +14,7 @@ use Rattle.msi_protocol.specs.Counting.{home_counts}
 use Rattle.msi_protocol.specs.Seats.{Seat, SeatHas, put_counts, line_received, reply_received, home_requested, seat_own}
 use Rattle.msi_protocol.specs.Seats.{seat_other, seat_answered, seat_others}
 use Rattle.msi_protocol.specs.Seats.{main_in, main_of, place, count_at, own_count, main, requested, responded, is_main}
-use Rattle.msi_protocol.specs.Counting.{line_counts, sent_counts, reply_counts}
+use Rattle.msi_protocol.specs.Counting.{line_counts, sent_counts}
 
 -- one that absorbs has what it had, and what the other had
 pub record Grows {X : Type 0} (P : X → Type 0) (absorbed : X → X → X) (r : X → ℕ) : Type 0 where
@@ -94,15 +94,14 @@ request_own_other r stage c a d s = grind (arith, nat_tests)
 
 -- ---- a response
 
-pub response_main_acks : {X : Type 0} (P : X → Type 0) (absorbed : X → X → X) (r : X → ℕ) →
-    ((x y : X) → P x → P y → r x ≤ r (absorbed x y)) →
-    (owing : CoreSet) (q c : ℕ) (a : Reply) (rest : List Reply) (home : X) (seats : ℕ → Seat X) →
-    (picture (seats c).phase).responses ≡ a ∷ rest →
+-- the home has what it had and what came with the acknowledgement, and sends that on after the last one
+pub response_main_acks : {X : Type 0} (absorbed : X → X → X) (owing : CoreSet) (q c : ℕ) (a : Reply) (rest : List Reply)
+    (home : X) (seats : ℕ → Seat X) → (picture (seats c).phase).responses ≡ a ∷ rest →
     role_in (seats c).phase ≡ role (Acks owing q) c → has owing q ≡ false →
-    role_in (seats q).phase ≡ role (Acks owing q) q → P home →
-    (IsTrue (reply_counts (seats c).phase) → P (seats c).reply)
-    → r home ≤ r (main (responded absorbed c a (record { stage = Acks owing q; home = home; seats = seats })))
-response_main_acks P absorbed r grows owing q c a rest home seats asks is out waits h p = grind (arith, nat_tests)
+    role_in (seats q).phase ≡ role (Acks owing q) q
+    → main (responded absorbed c a (record { stage = Acks owing q; home = home; seats = seats })) ≡ absorbed home
+    (seats c).reply
+response_main_acks absorbed owing q c a rest home seats asks is out waits = grind (arith, nat_tests)
 
 pub response_main_awaits : {X : Type 0} (absorbed : X → X → X) (owing q : ℕ) (share : Bool) (c : ℕ) (a : Reply)
     (rest : List Reply) (home : X) (seats : ℕ →
