@@ -100,6 +100,22 @@ module _ {R : Type 0} where
       ap home_copy (left_same riding row e words rider (ap (λ (x : Entry R). home_counts x.stage) (sym is) ∙ counts)
       ∙ sym is)
 
+  -- what the row of a message leaves of the entry shows in the block that took the message
+  shows_left : (riding : Riding R) (Q : FullBlock (Payload R) → Type 0) → KeptBy (payload_absorbed riding) Q →
+      (b : ℕ) (row : Option HomeRow) (entry : Entry R) (words : List ℕ) (rider : R) (taken : FullBlock (Payload R))
+      (sights : ℕ → Sight R) → entry_with taken ≡ entry_met riding.absorbed row entry words rider →
+      ((d : ℕ) → d < CORES_MAX → shown b (taken.seats d) ≡ sights d) → PhasesFit taken → Q taken →
+      Shows Q b (entry_by riding row entry words rider) sights
+  shows_left riding Q well b row entry words rider taken sights is shows fits has =
+      let left : Payload R = home_copy (entry_by riding row entry words rider) in
+      record {
+        block = rehomed left taken;
+        entry_is = home_left riding.fresh row taken (entry_met riding.absorbed row entry words rider) is;
+        shows = shows;
+        fits = record { fits = fits.fits; roles = fits.roles };
+        has = well.rehome taken left (home_stays riding row entry words rider taken is) fits has;
+      }
+
   pub for_request : (riding : Riding R) (Q : FullBlock (Payload R) → Type 0) → KeptBy (payload_absorbed riding) Q →
       (b : ℕ) (entry : Entry R)
       (sights : ℕ → Sight R) (c : ℕ) (request : Request R) (rest : List (Request R)) → c < CORES_MAX →
@@ -116,21 +132,14 @@ module _ {R : Type 0} where
       let free' : is_free bl.stage ≡ true = ap (λ (e : Entry R). is_free e.stage) f.entry_is ∙ free in
       let taken : FullBlock (Payload R) = requested (payload_absorbed riding) c q.0 bl in
       let fits : PhasesFit taken = stands_request (payload_absorbed riding) c q.0 q.1 bl lc free' q.2 f.fits in
-      let left : Entry R = entry_after_request riding entry c request in
       let sends : entry_with taken ≡ entry_for_request riding.absorbed entry c request =
       sym (shown_entry riding b c q.0 q.1 bl free' q.2 (st.roles c lc))
       ∙ ap (λ (e : Entry R). (entry_for_request riding.absorbed e c (ask_with b s.put q.0))) f.entry_is
       ∙ ap (λ (r : Request R). (entry_for_request riding.absorbed entry c r)) (sym q.3) in
-      record {
-        block = rehomed (home_copy left) taken;
-        entry_is = home_left riding.fresh (request_row entry.stage c (ask_of request)) taken
-            (entry_for_request riding.absorbed entry c request) sends;
-        shows = λ d ld. seen f.block f.entry_is f.shows q.0 q.1 q.2 q.3 q.4 free' st d ld;
-        fits = record { fits = fits.fits; roles = fits.roles };
-        has = well.rehome taken (home_copy left) (home_stays riding (request_row entry.stage c (ask_of request)) entry
-            (request_words request entry.words) (request_rider request entry.rider) taken sends) fits
-            (well.request c q.0 q.1 bl lc free' q.2 f.fits f.has);
-      }
+      shows_left riding Q well b (request_row entry.stage c (ask_of request)) entry (request_words request entry.words)
+      (request_rider request entry.rider) taken (λ d. after_request_at riding entry b c request rest d (sights d)) sends
+      (λ d ld. seen f.block f.entry_is f.shows q.0 q.1 q.2 q.3 q.4 free' st d ld) fits
+      (well.request c q.0 q.1 bl lc free' q.2 f.fits f.has)
     where
       seen : (bl : FullBlock (Payload R)) → entry_with bl ≡ entry →
           ((d : ℕ) → d < CORES_MAX → shown b (bl.seats d) ≡ sights d) → (a : Ask) (more : List Ask) →
@@ -174,21 +183,15 @@ module _ {R : Type 0} where
       let q = shown_replied b s response rest (ap (λ (v : Sight R). v.responses) (f.shows c lc) ∙ asks) in
       let taken : FullBlock (Payload R) = responded (payload_absorbed riding) c q.0 bl in
       let fits : PhasesFit taken = stands_response (payload_absorbed riding) c q.0 q.1 bl lc q.2 f.fits in
-      let left : Entry R = entry_after_response riding entry c response in
       let sends : entry_with taken ≡ entry_for_response riding.absorbed entry c response =
       sym (shown_response_entry riding b c q.0 q.1 bl q.2 (st.roles c lc))
       ∙ ap (λ (e : Entry R). (entry_for_response riding.absorbed e c (reply_with b s.reply q.0))) f.entry_is
       ∙ ap (λ (r : Response R). (entry_for_response riding.absorbed entry c r)) (sym q.3) in
-      record {
-        block = rehomed (home_copy left) taken;
-        entry_is = home_left riding.fresh (response_row entry.stage c (reply_of response)) taken
-            (entry_for_response riding.absorbed entry c response) sends;
-        shows = λ d ld. seen f.block f.entry_is f.shows q.0 q.1 q.2 q.3 q.4 st d ld;
-        fits = record { fits = fits.fits; roles = fits.roles };
-        has = well.rehome taken (home_copy left) (home_stays riding (response_row entry.stage c (reply_of response))
-            entry (response_words response entry.words) (response_rider response) taken sends) fits
-            (well.response c q.0 q.1 bl lc q.2 f.fits f.has);
-      }
+      shows_left riding Q well b (response_row entry.stage c (reply_of response)) entry
+      (response_words response entry.words) (response_rider response) taken
+      (λ d. after_response_at riding entry b c response rest d (sights d)) sends
+      (λ d ld. seen f.block f.entry_is f.shows q.0 q.1 q.2 q.3 q.4 st d ld) fits
+      (well.response c q.0 q.1 bl lc q.2 f.fits f.has)
     where
       seen : (bl : FullBlock (Payload R)) → entry_with bl ≡ entry →
           ((d : ℕ) → d < CORES_MAX → shown b (bl.seats d) ≡ sights d) →
