@@ -22,7 +22,7 @@ use Rattle.msi_protocol.specs.Block.{after_request, after_response, after_messag
 use Rattle.msi_protocol.specs.Block.{after_wish, Wish, BlockMove, TakesRequest, TakesResponse, TakesMessage, Wishes}
 use Rattle.msi_protocol.specs.Block.{core_of, moved, block_move, block_run}
 use Rattle.msi_protocol.specs.Block.{block_start, request_by, response_by, message_by, wish_by, view_if}
-use Rattle.msi_protocol.specs.Promises.{OneWriter, HasRows, BusyMoves, is_moving}
+use Rattle.msi_protocol.specs.Promises.{Always, OneWriter, HasRows, BusyMoves, is_moving}
 use Rattle.msi_protocol.specs.Phases.{Phase, Idle, role, role_in, picture, StageFits, Stands, BlockHolds}
 use Rattle.msi_protocol.specs.NextPhases.{after_own, after_other, answered, after_others_response, received, wished}
 use Rattle.msi_protocol.specs.NextPhases.{owes}
@@ -420,11 +420,6 @@ stage_fits_holds stage fits = grind (arith, nat_tests)
 pub holds_in_runs : (ms : List BlockMove) → BlockHolds (block_run ms block_start)
 holds_in_runs ms = keeps_run ms block_start start_holds
 
-pub one_writer_in_runs : (ms : List BlockMove) → OneWriter (block_run ms block_start)
-one_writer_in_runs ms = one_writer_holds (block_run ms block_start) (holds_in_runs ms)
-
-pub rows_hold_in_runs : (ms : List BlockMove) → HasRows (block_run ms block_start)
-rows_hold_in_runs ms = rows_hold (block_run ms block_start) (holds_in_runs ms)
-
-pub busy_moves_in_runs : (ms : List BlockMove) → BusyMoves (block_run ms block_start)
-busy_moves_in_runs ms = busy_moves (block_run ms block_start) (holds_in_runs ms)
+pub always : (P : Block → Type 0) → ((b : Block) → BlockHolds b → P b) → Always P
+always P holds =
+    record { invariant = holds; run = λ moves. holds (block_run moves block_start) (holds_in_runs moves) }

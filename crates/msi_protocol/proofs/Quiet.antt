@@ -17,7 +17,7 @@ use Rattle.msi_protocol.specs.Phases.{Phase, Idle, Out, role, role_in, picture, 
 use Rattle.msi_protocol.specs.NextPhases.{after_other, after_others_response}
 use Rattle.msi_protocol.specs.Promises.{NoneForgotten, is_served, FewUnderWay, IsFew, is_quiet, is_moving, settled}
 use Rattle.msi_protocol.specs.Promises.{QuietAgrees, moves_below, OnlyBelow}
-use Rattle.msi_protocol.proofs.Keeps.{busy_moves, keeps_move, start_holds, holds_in_runs, other_view}
+use Rattle.msi_protocol.proofs.Keeps.{busy_moves, keeps_move, start_holds, other_view}
 use Rattle.msi_protocol.proofs.Keeps.{others_response_view, response_has_row}
 
 -- ---- a core that waits
@@ -32,9 +32,6 @@ none_forgotten b h free d ld waits =
     let s = h.stands d ld in
     ap is_served (sym s.view_is) ∙ served_phase s.phase b.stage d free s.role_is (ap (λ (v : View). is_transient v.line)
     s.view_is ∙ waits)
-
-pub none_forgotten_in_runs : (ms : List BlockMove) → NoneForgotten (block_run ms block_start)
-none_forgotten_in_runs ms = none_forgotten (block_run ms block_start) (holds_in_runs ms)
 
 -- ---- few under way
 
@@ -56,9 +53,6 @@ few_under_way b h d ld =
       messages =
           few_messages s.phase;
     })
-
-pub few_under_way_in_runs : (ms : List BlockMove) → FewUnderWay (block_run ms block_start)
-few_under_way_in_runs ms = few_under_way (block_run ms block_start) (holds_in_runs ms)
 
 -- ---- nothing under way
 
@@ -90,9 +84,6 @@ quiet_agrees b h quiet =
           (ap is_quiet s.view_is ∙ quiet d ld)
           ∙ ap settled s.role_is;
     }
-
-pub quiet_agrees_in_runs : (ms : List BlockMove) → QuietAgrees (block_run ms block_start)
-quiet_agrees_in_runs ms = quiet_agrees (block_run ms block_start) (holds_in_runs ms)
 
 -- ---- fewer cores
 

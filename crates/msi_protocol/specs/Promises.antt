@@ -7,8 +7,14 @@ use Rattle.msi_cache.specs.declared.line.State.{State}
 use Rattle.msi_cache.specs.declared.line.State.TheVariants.{I, S, M}
 use Rattle.msi_cache.specs.Table.{Signal, Ask, Reply, row, is_readable, is_writable, is_transient}
 use Rattle.msi_directory.specs.Table.{is_free}
-use Rattle.msi_protocol.specs.Block.{View, view, Block, BlockMove, core_of, has_ask_row, has_reply_row}
-use Rattle.msi_protocol.specs.Phases.{Role, Sharer, Owner, role}
+use Rattle.msi_protocol.specs.Block.{View, view, Block, BlockMove, core_of, has_ask_row, has_reply_row, block_run}
+use Rattle.msi_protocol.specs.Block.{block_start}
+use Rattle.msi_protocol.specs.Phases.{Role, Sharer, Owner, role, BlockHolds}
+
+-- what the invariant implies, and so what holds whatever moves are made from the start
+pub record Always (P : Block → Type 0) : Type 0 where
+  pub invariant : (b : Block) → BlockHolds b → P b
+  pub run : (moves : List BlockMove) → P (block_run moves block_start)
 
 -- at most one core may write, and then no other may read
 abbrev pub OneWriter : Block → Type 0

@@ -5,8 +5,8 @@ ghost use Rattle.msi_directory.specs.declared.entry.Stage.{Stage};
 ghost use Rattle.msi_protocol.specs.Block.{Block, BlockMove, block_move, block_run, block_start};
 ghost use Rattle.msi_protocol.specs.Example.{BothShare, FirstOwns, store_again, store_then_load};
 ghost use Rattle.msi_protocol.specs.Phases.{BlockHolds, StageFits};
-ghost use Rattle.msi_protocol.specs.Promises.{BusyMoves, FewUnderWay, HasRows, NoneForgotten, OneWriter, OnlyBelow};
-ghost use Rattle.msi_protocol.specs.Promises.{QuietAgrees, moves_below};
+ghost use Rattle.msi_protocol.specs.Promises.{Always, BusyMoves, FewUnderWay, HasRows, NoneForgotten, OneWriter};
+ghost use Rattle.msi_protocol.specs.Promises.{OnlyBelow, QuietAgrees, moves_below};
 
 /// The invariant: each core is with the block where the home takes it to be. It holds at the start, each
 /// move keeps it, and the stages that it allows are those that the home's own invariant allows.
@@ -19,42 +19,36 @@ pub fn moves_keep_the_invariant()
 
 /// At most one cache may write the block, and then no other may read it.
 pub fn one_writer()
-    ensures invariant { (b : Block) → BlockHolds b → OneWriter b }
-    ensures run { (moves : List BlockMove) → OneWriter (block_run moves block_start) }
+    ensures { Always OneWriter }
 {}
 
 /// Each message under way has a row in its receiver's table when it is taken: a request at a home that
 /// isn't busy with the block, a response at the home, and a message from home at the core's line.
 pub fn each_message_has_a_row()
-    ensures invariant { (b : Block) → BlockHolds b → HasRows b }
-    ensures run { (moves : List BlockMove) → HasRows (block_run moves block_start) }
+    ensures { Always HasRows }
 {}
 
 /// While the block is busy, a response about it is under way to the home, or a message about it to a
 /// core.
 pub fn a_busy_block_moves()
-    ensures invariant { (b : Block) → BlockHolds b → BusyMoves b }
-    ensures run { (moves : List BlockMove) → BusyMoves (block_run moves block_start) }
+    ensures { Always BusyMoves }
 {}
 
 /// While the block isn't busy, a core whose line waits for the home has its request under way, or is
 /// sent what it waits for. While it is busy, `a_busy_block_moves` says what can be taken.
 pub fn no_core_is_forgotten()
-    ensures invariant { (b : Block) → BlockHolds b → NoneForgotten b }
-    ensures run { (moves : List BlockMove) → NoneForgotten (block_run moves block_start) }
+    ensures { Always NoneForgotten }
 {}
 
 /// Of the block and one core, at most one request, one response and two messages are under way.
 pub fn few_messages_are_under_way()
-    ensures invariant { (b : Block) → BlockHolds b → FewUnderWay b }
-    ensures run { (moves : List BlockMove) → FewUnderWay (block_run moves block_start) }
+    ensures { Always FewUnderWay }
 {}
 
 /// Where nothing of the block is under way it isn't busy, and the home knows who has a copy: each sharer
 /// has it in S, the owner has it in M, and no other core has one.
 pub fn a_quiet_block_agrees()
-    ensures invariant { (b : Block) → BlockHolds b → QuietAgrees b }
-    ensures run { (moves : List BlockMove) → QuietAgrees (block_run moves block_start) }
+    ensures { Always QuietAgrees }
 {}
 
 /// A machine with fewer cores is the same protocol: where only cores below some number move, no other
