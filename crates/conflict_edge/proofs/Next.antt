@@ -13,7 +13,6 @@ use Rattle.conflict_edge.proofs.Clocks.{clock-older}
 use Rattle.conflict_edge.proofs.History.{Pair, Rising, ends, older, reaches-no}
 use Rattle.conflict_edge.proofs.Kept.{Cover, kept_covers, covers_kept}
 use Rattle.conflict_edge.proofs.Reversed.{reverse-next, pair_back, pair_forth, stands_forth}
-use Rattle.conflict_edge.proofs.Scan.{stands-left}
 use Rattle.conflict_edge.proofs.Steps.{stands_at}
 use Rattle.conflict_edge.specs.Clocks.{clock}
 use Rattle.conflict_edge.specs.Conflicts.{AreCores, StandsIn, ConflictPair, CountsRise, are_after, do_counts_rise}
@@ -26,12 +25,13 @@ use Rattle.rtr_types.specs.declared.TheConstants.{CORES_MAX}
 use Rattle.rtr_types.specs.declared.access.Access.{Access}
 use Rattle.rtr_types.specs.declared.instr.Edge.{Edge}
 use Rattle.rtr_types.specs.declared.instr.Instr.{Instr}
+use Rattle.conflict_edge.proofs.Standing.{stands_left}
 
 -- ---- one access more
 
 pub rise-left : (xs ys : List Access) → CountsRise (xs ++ ys) → CountsRise xs
 rise-left [] ys r = tt
-rise-left (x ∷ xs) ys r = (r.0, (λ b s. r.1 b (stands-left xs ys b s)), rise-left xs ys r.2)
+rise-left (x ∷ xs) ys r = (r.0, (λ b s. r.1 b (stands_left xs ys b s)), rise-left xs ys r.2)
 
 -- a pair of h is no pair into a
 not_newest : (a : Access) (h : List Access) (x y : Instr) → Rising (a ∷ h) → Pair h x y → y ≢ a.at
@@ -171,7 +171,7 @@ prefix_rise l t d lt r = rise-left (take t l ++ (get_or l t d ∷ [])) (drop (t 
 pub prefix_cores : (l : List Access) (t : ℕ) (d : Access) → t < length l → AreCores l →
     AreCores (take t l ++ (get_or l t d ∷ []))
 prefix_cores l t d lt r a s =
-    r a (subst (λ (g : List Access). StandsIn g a) (next_is l t d lt) (stands-left (take t l ++ (get_or l t d ∷ []))
+    r a (subst (λ (g : List Access). StandsIn g a) (next_is l t d lt) (stands_left (take t l ++ (get_or l t d ∷ []))
     (drop (t + 1) l) a s))
 
 -- ---- the test of a list

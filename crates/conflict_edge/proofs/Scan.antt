@@ -18,28 +18,11 @@ use Rattle.rtr_types.specs.declared.TheConstants.{CORES_MAX}
 use Rattle.rtr_types.specs.declared.access.Access.{Access}
 use Rattle.rtr_types.specs.declared.instr.Edge.{Edge}
 use Rattle.rtr_types.specs.declared.instr.Instr.{Instr}
+use Rattle.conflict_edge.proofs.Standing.{stands_left, stands_right, stands_which}
 
 -- b leads to a by one step, or along the core
 abbrev pub Direct : Access → Access → Type 0
 Direct b a = (b.at.core ≡ a.at.core) ⊎ Conflicts b a
-
-pub stands-left : (g : List Access) (k : List Access) (b : Access) → StandsIn g b → StandsIn (g ++ k) b
-stands-left [] k b s = absurd s
-stands-left (c ∷ g) k b (inl e) = inl e
-stands-left (c ∷ g) k b (inr s) = inr (stands-left g k b s)
-
-pub stands-right : (g : List Access) (k : List Access) (b : Access) → StandsIn k b → StandsIn (g ++ k) b
-stands-right [] k b s = s
-stands-right (c ∷ g) k b s = inr (stands-right g k b s)
-
-pub stands-split : (g : List Access) (k : List Access) (b : Access) → StandsIn (g ++ k) b → StandsIn g b ⊎ StandsIn k b
-stands-split [] k b s = inr s
-stands-split (c ∷ g) k b (inl e) = inl (inl e)
-stands-split (c ∷ g) k b (inr s) = on (stands-split g k b s)
-  where
-    on : StandsIn g b ⊎ StandsIn k b → StandsIn (c ∷ g) b ⊎ StandsIn k b
-    on (inl t) = inl (inr t)
-    on (inr t) = inr t
 
 pub rank-newer : (newer : List Access) (b : Access) (g : List Access) (r : Access) → Rising (newer ++ (b ∷ g)) →
     StandsIn newer r →
@@ -50,14 +33,14 @@ rank-newer (c ∷ newer) b g r rising (inl e) =
     (reaches-yes c c.at refl (omega arith)) in
     omega (arith, rank-newest c (newer ++ (b ∷ g)) r.at yes, length-append newer (b ∷ g))
 rank-newer (c ∷ newer) b g r rising (inr s) =
-    let no : reaches c r.at ≡ false = older c (newer ++ (b ∷ g)) r r.at rising (stands-left newer (b ∷ g) r s) refl in
+    let no : reaches c r.at ≡ false = older c (newer ++ (b ∷ g)) r r.at rising (stands_left newer (b ∷ g) r s) refl in
     omega (arith, rank-older c (newer ++ (b ∷ g)) r.at no, rank-newer newer b g r rising.2 s)
 
 pub rank-mid : (newer : List Access) (b : Access) (g : List Access) → Rising (newer ++ (b ∷ g)) →
     rank (newer ++ (b ∷ g)) b.at ≡ suc (length g)
 rank-mid [] b g rising = rank-newest b g b.at (reaches-yes b b.at refl (omega arith))
 rank-mid (c ∷ newer) b g rising =
-    let no : reaches c b.at ≡ false = older c (newer ++ (b ∷ g)) b b.at rising (stands-right newer (b ∷ g) b (inl refl))
+    let no : reaches c b.at ≡ false = older c (newer ++ (b ∷ g)) b b.at rising (stands_right newer (b ∷ g) b (inl refl))
     refl in
     rank-older c (newer ++ (b ∷ g)) b.at no ∙ rank-mid newer b g rising.2
 
@@ -68,7 +51,7 @@ rank-below [] b g r rising s =
     let no : reaches b r.at ≡ false = older b g r r.at rising s refl in
     omega (arith, rank-older b g r.at no, rank-le g r.at)
 rank-below (c ∷ newer) b g r rising s =
-    let no : reaches c r.at ≡ false = older c (newer ++ (b ∷ g)) r r.at rising (stands-right newer (b ∷ g) r (inr s))
+    let no : reaches c r.at ≡ false = older c (newer ++ (b ∷ g)) r r.at rising (stands_right newer (b ∷ g) r (inr s))
     refl in
     omega (arith, rank-older c (newer ++ (b ∷ g)) r.at no, rank-below newer b g r rising.2 s)
 
@@ -144,14 +127,14 @@ free_kept newer b g a rising conflict free = record {
     h = newer ++ (b ∷ g)
 
     stands_b : StandsIn h b
-    stands_b = stands-right newer (b ∷ g) b (inl refl)
+    stands_b = stands_right newer (b ∷ g) b (inl refl)
 
     pos : 1 ≤ b.at.count
     pos = stands_pos h b rising.2 stands_b
 
     -- b leads only to newer ones
     newer_than : (r : Access) → StandsIn h r → Before (Pair h) b.at r.at → StandsIn newer r
-    newer_than r s p = by (stands-split newer (b ∷ g) r s)
+    newer_than r s p = by (stands_which newer (b ∷ g) r s)
       where
         up : rank h b.at < rank h r.at
         up = rank-before h rising.2 r b.at r.at s refl p
@@ -207,7 +190,7 @@ kept_free newer b g a rising k r s direct = by direct
     h = newer ++ (b ∷ g)
 
     stands_r : StandsIn h r
-    stands_r = stands-left newer (b ∷ g) r s
+    stands_r = stands_left newer (b ∷ g) r s
 
     apart : r.at ≢ b.at
     apart e = let f : rank h r.at ≡ rank h b.at = ap (λ (v : Instr). rank h v) e in
@@ -290,8 +273,8 @@ FoundFrom h newer a old new =
 pub reached_skip : (h newer : List Access) (a b : Access) (m : ℕ → ℕ) → (Direct b a → ⊥) → Reached h newer a m →
     Reached h (newer ++ (b ∷ [])) a m
 reached_skip h newer a b m not_direct reached i n lt pos = (
-  λ le. let q = (reached i n lt pos).0 le in (q.0, stands-left newer (b ∷ []) q.0 q.1, q.2, q.3),
-  λ q. (reached i n lt pos).1 (by q.0 (stands-split newer (b ∷ []) q.0 q.1) q.2 q.3),
+  λ le. let q = (reached i n lt pos).0 le in (q.0, stands_left newer (b ∷ []) q.0 q.1, q.2, q.3),
+  λ q. (reached i n lt pos).1 (by q.0 (stands_which newer (b ∷ []) q.0 q.1) q.2 q.3),
 )
   where
     by : (r : Access) → StandsIn newer r ⊎ StandsIn (b ∷ []) r → Direct r a → n ≤ clock h r.at i →
@@ -306,15 +289,15 @@ pub reached_merge : (h newer : List Access) (a b : Access) (m c w : ℕ → ℕ)
     Reached h (newer ++ (b ∷ [])) a w
 reached_merge h newer a b m c w direct reached exact merged i n lt pos = (
   λ le. to (split n (m i) (c i) (let e = merged i in omega arith)),
-  λ q. back q.0 (stands-split newer (b ∷ []) q.0 q.1) q.2 q.3,
+  λ q. back q.0 (stands_which newer (b ∷ []) q.0 q.1) q.2 q.3,
 )
   where
     split : (n x y : ℕ) → n ≤ max x y → (n ≤ x) ⊎ (n ≤ y)
     split n x y h = grind arith
 
     to : (n ≤ m i) ⊎ (n ≤ c i) → (r : Access) × StandsIn (newer ++ (b ∷ [])) r × Direct r a × (n ≤ clock h r.at i)
-    to (inl le) = let q = (reached i n lt pos).0 le in (q.0, stands-left newer (b ∷ []) q.0 q.1, q.2, q.3)
-    to (inr le) = (b, stands-right newer (b ∷ []) b (inl refl), direct, omega (arith, exact i lt))
+    to (inl le) = let q = (reached i n lt pos).0 le in (q.0, stands_left newer (b ∷ []) q.0 q.1, q.2, q.3)
+    to (inr le) = (b, stands_right newer (b ∷ []) b (inl refl), direct, omega (arith, exact i lt))
 
     back : (r : Access) → StandsIn newer r ⊎ StandsIn (b ∷ []) r → Direct r a → n ≤ clock h r.at i → n ≤ w i
     back r (inl s) d le = let q = (reached i n lt pos).1 (r, s, d, le) in let e = merged i in omega arith
@@ -334,7 +317,7 @@ found_skip h newer a b old new not_cover found x y = (λ s. to ((found x y).0 s)
         Among old x y
         ⊎ ((y ≡ a.at) × (r : Access) × StandsIn (newer ++ (b ∷ [])) r × (r.at ≡ x) × Cover (a ∷ h) x a.at)
     to (inl s) = inl s
-    to (inr q) = inr (q.0, q.1, stands-left newer (b ∷ []) q.1 q.2, q.3, q.4)
+    to (inr q) = inr (q.0, q.1, stands_left newer (b ∷ []) q.1 q.2, q.3, q.4)
 
     back_by : y ≡ a.at → (r : Access) → StandsIn newer r ⊎ StandsIn (b ∷ []) r → r.at ≡ x → Cover (a ∷ h) x a.at →
         Among old x y
@@ -348,7 +331,7 @@ found_skip h newer a b old new not_cover found x y = (λ s. to ((found x y).0 s)
         a.at) → Among old x y
         ⊎ ((y ≡ a.at) × (r : Access) × StandsIn newer r × (r.at ≡ x) × Cover (a ∷ h) x a.at)
     back (inl s) = inl s
-    back (inr q) = back_by q.0 q.1 (stands-split newer (b ∷ []) q.1 q.2) q.3 q.4
+    back (inr q) = back_by q.0 q.1 (stands_which newer (b ∷ []) q.1 q.2) q.3 q.4
 
 pub among-push : (es : List Edge) (e : Edge) (x y : Instr) →
     Among (es ++ (e ∷ [])) x y ↔ (Among es x y ⊎ ((e.from ≡ x) × (e.to ≡ y)))
@@ -383,7 +366,7 @@ found_push h newer a b old new next e from_is to_is is cover found x y = (
         Among old x y
         ⊎ ((y ≡ a.at) × (r : Access) × StandsIn (newer ++ (b ∷ [])) r × (r.at ≡ x) × Cover (a ∷ h) x a.at)
     old_to (inl s) = inl s
-    old_to (inr q) = inr (q.0, q.1, stands-left newer (b ∷ []) q.1 q.2, q.3, q.4)
+    old_to (inr q) = inr (q.0, q.1, stands_left newer (b ∷ []) q.1 q.2, q.3, q.4)
 
     to : Among new x y ⊎ ((e.from ≡ x) × (e.to ≡ y)) → Among old x y
         ⊎ ((y ≡ a.at) × (r : Access) × StandsIn (newer ++ (b ∷ [])) r × (r.at ≡ x) × Cover (a ∷ h) x a.at)
@@ -391,7 +374,7 @@ found_push h newer a b old new next e from_is to_is is cover found x y = (
     to (inr s) = inr (
       sym s.1 ∙ to_is,
       b,
-      stands-right newer (b ∷ []) b (inl refl),
+      stands_right newer (b ∷ []) b (inl refl),
       sym from_is
           ∙ s.0,
       subst (λ (v : Instr). Cover (a ∷ h) v a.at) (sym from_is ∙ s.0) cover,
@@ -407,7 +390,7 @@ found_push h newer a b old new next e from_is to_is is cover found x y = (
         a.at) → Among new x y
         ⊎ ((e.from ≡ x) × (e.to ≡ y))
     back (inl s) = inl ((found x y).1 (inl s))
-    back (inr q) = back_by q.0 q.1 (stands-split newer (b ∷ []) q.1 q.2) q.3 q.4
+    back (inr q) = back_by q.0 q.1 (stands_which newer (b ∷ []) q.1 q.2) q.3 q.4
 
 -- m covers b: some newer one has it in its clock
 pub covered_not : (newer : List Access) (b : Access) (g : List Access) (a : Access) (m : ℕ → ℕ) →
@@ -415,7 +398,7 @@ pub covered_not : (newer : List Access) (b : Access) (g : List Access) (a : Acce
     Reached (newer ++ (b ∷ g)) newer a m → b.at.count ≤ m b.at.core → Cover (a ∷ newer ++ (b ∷ g)) b.at a.at → ⊥
 covered_not newer b g a m rising fits reached le cover =
     let h : List Access = newer ++ (b ∷ g) in
-    let pos = stands_pos h b rising.2 (stands-right newer (b ∷ g) b (inl refl)) in
+    let pos = stands_pos h b rising.2 (stands_right newer (b ∷ g) b (inl refl)) in
     let q = (reached b.at.core b.at.count fits pos).0 le in
     let lt = kept_free newer b g a rising (covers_kept (a ∷ h) b.at a.at rising cover) q.0 q.1 q.2 in
     let le' = q.3 in
@@ -429,7 +412,7 @@ not_covered newer b g a m rising fits conflict reached lt = kept_covers (a ∷ n
     (free_kept newer b g a rising conflict free)
   where
     pos : 1 ≤ b.at.count
-    pos = stands_pos (newer ++ (b ∷ g)) b rising.2 (stands-right newer (b ∷ g) b (inl refl))
+    pos = stands_pos (newer ++ (b ∷ g)) b rising.2 (stands_right newer (b ∷ g) b (inl refl))
 
     by : (r : Access) → StandsIn newer r → Direct r a → (clock (newer ++ (b ∷ g)) r.at b.at.core < b.at.count)
         ⊎ (b.at.count ≤ clock (newer ++ (b ∷ g)) r.at b.at.core) → clock (newer ++ (b ∷ g)) r.at b.at.core < b.at.count

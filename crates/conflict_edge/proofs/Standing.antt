@@ -56,10 +56,22 @@ one_first (d ∷ later) a b (inr s) (inr t) c = by (one_first later a b s t c)
     by (inl p) = inl (inr p)
     by (inr p) = inr (inr p)
 
-pub stands_which : (xs ys : List Access) (a : Access) → StandsIn (xs ++ ys) a → StandsIn xs a ⊎ StandsIn ys a
-stands_which [] ys a s = inr s
-stands_which (x ∷ xs) ys a (inl same) = inl (inl same)
-stands_which (x ∷ xs) ys a (inr s) = elim (stands_which xs ys a s) [
-  | inl there ↦ inl (inr there)
-  | inr there ↦ inr there
-]
+-- ---- lists that were put together
+
+module _ {X : Type 0} where
+  pub stands_left : (xs ys : List X) (a : X) → StandsIn xs a → StandsIn (xs ++ ys) a
+  stands_left [] ys a s = absurd s
+  stands_left (x ∷ xs) ys a (inl same) = inl same
+  stands_left (x ∷ xs) ys a (inr s) = inr (stands_left xs ys a s)
+
+  pub stands_right : (xs ys : List X) (a : X) → StandsIn ys a → StandsIn (xs ++ ys) a
+  stands_right [] ys a s = s
+  stands_right (x ∷ xs) ys a s = inr (stands_right xs ys a s)
+
+  pub stands_which : (xs ys : List X) (a : X) → StandsIn (xs ++ ys) a → StandsIn xs a ⊎ StandsIn ys a
+  stands_which [] ys a s = inr s
+  stands_which (x ∷ xs) ys a (inl same) = inl (inl same)
+  stands_which (x ∷ xs) ys a (inr s) = elim (stands_which xs ys a s) [
+    | inl there ↦ inl (inr there)
+    | inr there ↦ inr there
+  ]

@@ -18,7 +18,7 @@ do_conflict a b =
     not (nat_eq a.at.core b.at.core) && (nat_eq a.word b.word && (is_write a.kind || is_write b.kind))
 
 -- a stands in the list
-abbrev pub StandsIn : List Access → Access → Type 0
+abbrev pub StandsIn : {X : Type 0} → List X → X → Type 0
 StandsIn [] a = ⊥
 StandsIn (b ∷ list) a = (b ≡ a) ⊎ StandsIn list a
 

@@ -10,10 +10,10 @@ use Rattle.rtr_types.specs.declared.instr.Instr.{Instr}
 use Rattle.clock_core.specs.Order.{Among}
 use Rattle.clock_core.proofs.Paths.{instr_eq}
 use Rattle.online_reduce.specs.declared.source.Source.{Source}
-use Rattle.online_reduce.specs.Sources.{IsOneOf}
 use Rattle.online_reduce.specs.Rule.{is_above, lets_pass, is_kept, edge_to}
 use Rattle.rtr_types.specs.Accesses.{is_same}
 use Rattle.online_reduce.proofs.Loops.{chosen}
+use Rattle.conflict_edge.specs.Conflicts.{StandsIn}
 
 same_instr : (x y : Instr) → is_same x y ≡ true → x ≡ y
 same_instr x y e =
@@ -28,7 +28,7 @@ same_instr x y e =
 
 -- no other candidate's clock knows of it
 abbrev pub Passes : List Source → Instr → Type 0
-Passes found at = (s : Source) → IsOneOf found s → s.at ≢ at → slice_index s.clock at.core < at.count
+Passes found at = (s : Source) → StandsIn found s → s.at ≢ at → slice_index s.clock at.core < at.count
 
 pub all_others : (found : List Source) (at : Instr) → is_kept found at ≡ true → Passes found at
 all_others [] at e s one d = absurd one
@@ -67,7 +67,7 @@ others_all (r ∷ found) at f = by (is_same r.at at) refl (others_all found at (
 
 -- the edge comes from one of some candidates, which is kept
 abbrev pub ComesFrom : Instr → List Source → List Source → Instr → Instr → Type 0
-ComesFrom at found some x y = (y ≡ at) × (s : Source) × IsOneOf some s × (s.at ≡ x) × (is_kept found s.at ≡ true)
+ComesFrom at found some x y = (y ≡ at) × (s : Source) × StandsIn some s × (s.at ≡ x) × (is_kept found s.at ≡ true)
 
 pub chosen_from : (at : Instr) (found some : List Source) (x y : Instr) → Among (chosen at found some) x y →
     ComesFrom at found some x y
@@ -86,7 +86,7 @@ chosen_from at found (s ∷ some) x y e = by (is_kept found s.at) refl e (λ f. 
     by true t (inr f) later = more (later f)
     by false t f later = more (later f)
 
-pub from_chosen : (at : Instr) (found some : List Source) (s : Source) → IsOneOf some s → is_kept found s.at ≡ true →
+pub from_chosen : (at : Instr) (found some : List Source) (s : Source) → StandsIn some s → is_kept found s.at ≡ true →
     Among (chosen at found some) s.at at
 from_chosen at found [] s one kept = absurd one
 from_chosen at found (r ∷ some) s (inl e) kept = by (is_kept found r.at) (ap (λ (v : Source). is_kept found v.at) e

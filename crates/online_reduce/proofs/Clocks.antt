@@ -15,10 +15,9 @@ use Rattle.clock_core.proofs.Paths.{joined}
 use Rattle.clock_core.specs.Order.{Before}
 use Rattle.conflict_edge.proofs.Clocks.{clock-newest, clock-older, clock-own, clock-before, clock-up_to, UpTo}
 use Rattle.conflict_edge.proofs.History.{Pair, Rising, reaches-true, reaches-false, reaches-yes, reaches-no}
-use Rattle.conflict_edge.proofs.Scan.{stands-split}
 use Rattle.online_reduce.specs.declared.source.Source.{Source}
-use Rattle.online_reduce.specs.Sources.{IsOneOf}
 use Rattle.online_reduce.specs.Rule.{merged_with}
+use Rattle.conflict_edge.proofs.Standing.{stands_which}
 
 -- ---- merged clocks
 
@@ -33,7 +32,7 @@ longer-fold before (s ∷ found) = omega (arith, longer-merged before s.clock, l
 
 -- n is no more than the count at place i of the first clock or of one of the candidates'
 abbrev pub IsBelow : Clock → List Source → ℕ → ℕ → Type 0
-IsBelow before found i n = (n ≤ slice_index before i) ⊎ ((s : Source) × IsOneOf found s × (n ≤ slice_index s.clock i))
+IsBelow before found i n = (n ≤ slice_index before i) ⊎ ((s : Source) × StandsIn found s × (n ≤ slice_index s.clock i))
 
 pub below_merged : (before : Clock) (found : List Source) (i n : ℕ) → n ≤ slice_index (fold merged_with before found)
     i → IsBelow before found i n
@@ -60,7 +59,7 @@ merged_above before (s ∷ found) i n (inl le) = merged_above (merged before s.c
     (inl (omega (arith, get_or-merged before s.clock i)))
 merged_above before (s ∷ found) i n (inr q) = merged_above (merged before s.clock) found i n (by q.0 q.1 q.2)
   where
-    by : (r : Source) → IsOneOf (s ∷ found) r → n ≤ slice_index r.clock i → IsBelow (merged before s.clock) found i n
+    by : (r : Source) → StandsIn (s ∷ found) r → n ≤ slice_index r.clock i → IsBelow (merged before s.clock) found i n
     by r (inl e) le = inl (omega (arith, get_or-merged before s.clock i, ap (λ (v : Source). slice_index v.clock i) e))
     by r (inr one) le = inr (r, one, le)
 
@@ -126,7 +125,7 @@ pub rise_next : (list : List Access) (a : Access) → CountsRise list → 1 ≤ 
 rise_next [] a r pos before = (pos, (λ b s e. absurd s), tt)
 rise_next (b ∷ list) a r pos before = (
   r.0,
-  (λ c s e. by c (stands-split list (a ∷ []) c s) e),
+  (λ c s e. by c (stands_which list (a ∷ []) c s) e),
   rise_next list a r.2
       pos (λ c s e. before c (inr s) e),
 )

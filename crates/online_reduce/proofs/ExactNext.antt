@@ -20,7 +20,6 @@ use Rattle.conflict_edge.proofs.Clocks.{own_clock}
 use Rattle.conflict_edge.proofs.History.{Rising}
 use Rattle.conflict_edge.proofs.Reach.{online_clock_law, kept_clock_law}
 use Rattle.conflict_edge.proofs.Reversed.{rising_back, stands_back}
-use Rattle.conflict_edge.proofs.Scan.{stands-split}
 use Rattle.online_reduce.specs.Rule.{clock_into, merged_with}
 use Rattle.online_reduce.specs.Reduced.{Reduced, IsNext, clock_of, count_of, counted, retired, next_clock}
 use Rattle.online_reduce.specs.Reduced.{OtherClocksLaw}
@@ -28,6 +27,7 @@ use Rattle.online_reduce.specs.Exact.{IsExact, last_of}
 use Rattle.online_reduce.proofs.Clocks.{longer-fold, IsBelow, below_merged, merged_above, same_clock, up_clock}
 use Rattle.online_reduce.proofs.Noted.{IsLed}
 use Rattle.online_reduce.proofs.Step.{Next, found_of}
+use Rattle.conflict_edge.proofs.Standing.{stands_which}
 
 -- ---- a clock is put in its core's place
 
@@ -219,7 +219,7 @@ retired_exact list r a t next = record {
   places = length-set r.clocks a.at.core (next_clock r a t) ∙ next.exact.places;
   wide = parts.wide;
   rise = next.rise;
-  within = λ b s. within b (stands-split list (a ∷ []) b s);
+  within = λ b s. within b (stands_which list (a ∷ []) b s);
   clocks = parts.clocks;
 }
   where

@@ -18,38 +18,22 @@ use Rattle.access_times.specs.Times.{write_at, read_at}
 use Rattle.online_reduce.specs.declared.TheConstants.{EDGES_MAX}
 use Rattle.online_reduce.specs.declared.source.Source.{Source}
 use Rattle.online_reduce.specs.Rule.{is_above}
-use Rattle.online_reduce.specs.Sources.{is_live, write_from, read_from, reads_from, or_write, candidates, IsOneOf}
+use Rattle.online_reduce.specs.Sources.{is_live, write_from, read_from, reads_from, or_write, candidates}
+use Rattle.conflict_edge.specs.Conflicts.{StandsIn}
+use Rattle.conflict_edge.proofs.Standing.{stands_left, stands_right, stands_which}
 
 -- ---- one of a list
 
-module _ {X : Type 0} where
-  pub one_left : (xs ys : List X) (s : X) → IsOneOf xs s → IsOneOf (xs ++ ys) s
-  one_left [] ys s o = absurd o
-  one_left (x ∷ xs) ys s (inl e) = inl e
-  one_left (x ∷ xs) ys s (inr o) = inr (one_left xs ys s o)
-
-  pub one_right : (xs ys : List X) (s : X) → IsOneOf ys s → IsOneOf (xs ++ ys) s
-  one_right [] ys s o = o
-  one_right (x ∷ xs) ys s o = inr (one_right xs ys s o)
-
-  pub one_cases : (xs ys : List X) (s : X) → IsOneOf (xs ++ ys) s → IsOneOf xs s ⊎ IsOneOf ys s
-  one_cases [] ys s o = inr o
-  one_cases (x ∷ xs) ys s (inl e) = inl (inl e)
-  one_cases (x ∷ xs) ys s (inr o) = elim (one_cases xs ys s o) [
-    | inl p ↦ inl (inr p)
-    | inr p ↦ inr p
-  ]
-
-pub all_from_one : (P : Source → Type 0) (xs : List Source) → ((s : Source) → IsOneOf xs s → P s) → All P xs
+pub all_from_one : (P : Source → Type 0) (xs : List Source) → ((s : Source) → StandsIn xs s → P s) → All P xs
 all_from_one P [] f = All-nil P
 all_from_one P (x ∷ xs) f = All-cons P x xs (f x (inl refl)) (all_from_one P xs (λ s o. f s (inr o)))
 
-one_option : (o : Option Source) (s : Source) → IsOneOf (option_to_list o) s → o ≡ Some s
+one_option : (o : Option Source) (s : Source) → StandsIn (option_to_list o) s → o ≡ Some s
 one_option None s p = absurd p
 one_option (Some r) s (inl e) = ap (λ (v : Source). Some v) e
 one_option (Some r) s (inr p) = absurd p
 
-option_one : (o : Option Source) (s : Source) → o ≡ Some s → IsOneOf (option_to_list o) s
+option_one : (o : Option Source) (s : Source) → o ≡ Some s → StandsIn (option_to_list o) s
 option_one None s e = absurd cc
 option_one (Some r) s e = inl (same r s e)
   where
@@ -182,18 +166,18 @@ pub reads_more : (n : ℕ) (before : Clock) (a : Access) (t : Times) → reads_f
 unfolding reads_from
 reads_more n before a t = ap (λ (k : ℕ). reads_from k before a t) (let e : n + 1 ≡ suc n = omega arith in e)
 
-pub one_read : (n : ℕ) (before : Clock) (a : Access) (t : Times) (s : Source) → IsOneOf (reads_from n before a t) s →
+pub one_read : (n : ℕ) (before : Clock) (a : Access) (t : Times) (s : Source) → StandsIn (reads_from n before a t) s →
     (s.at.core < n) × IsReadIn before a t s
 unfolding reads_from
 one_read zero before a t s o = absurd o
 one_read (suc n) before a t s o =
     by (λ p. one_read n before a t s p)
-    (one_cases (reads_from n before a t) (option_to_list (read_from before a n (read_at t (a.word % BLOCK_WORDS) n)))
+    (stands_which (reads_from n before a t) (option_to_list (read_from before a n (read_at t (a.word % BLOCK_WORDS) n)))
     s o)
   where
-    by : (IsOneOf (reads_from n before a t) s → (s.at.core < n) × IsReadIn before a t s)
-        → IsOneOf (reads_from n before a t) s
-        ⊎ IsOneOf (option_to_list (read_from before a n (read_at t (a.word % BLOCK_WORDS) n))) s →
+    by : (StandsIn (reads_from n before a t) s → (s.at.core < n) × IsReadIn before a t s)
+        → StandsIn (reads_from n before a t) s
+        ⊎ StandsIn (option_to_list (read_from before a n (read_at t (a.word % BLOCK_WORDS) n))) s →
         (s.at.core < suc n) × IsReadIn before a t s
     by earlier (inl p) = let q = earlier p in let lt = q.0 in (omega arith, q.1)
     by earlier (inr p) =
@@ -210,7 +194,7 @@ one_read (suc n) before a t s o =
         )
 
 pub read_one : (n : ℕ) (before : Clock) (a : Access) (t : Times) (s : Source) → s.at.core < n → IsReadIn before a t s
-    → IsOneOf (reads_from n before a t) s
+    → StandsIn (reads_from n before a t) s
 unfolding reads_from
 read_one zero before a t s lt r = absurd (omega arith)
 read_one (suc n) before a t s lt r = by (λ below. read_one n before a t s below r) (split s.at.core n)
@@ -218,17 +202,17 @@ read_one (suc n) before a t s lt r = by (λ below. read_one n before a t s below
     split : (i j : ℕ) → (i < j) ⊎ (j ≤ i)
     split i j = grind arith
 
-    by : (s.at.core < n → IsOneOf (reads_from n before a t) s) → (s.at.core < n) ⊎ (n ≤ s.at.core)
-        → IsOneOf (reads_from n before a t
+    by : (s.at.core < n → StandsIn (reads_from n before a t) s) → (s.at.core < n) ⊎ (n ≤ s.at.core)
+        → StandsIn (reads_from n before a t
         ++ option_to_list (read_from before a n (read_at t (a.word % BLOCK_WORDS) n))) s
     by earlier (inl below) =
-        one_left (reads_from n before a t)
+        stands_left (reads_from n before a t)
         (option_to_list (read_from before a n (read_at t (a.word % BLOCK_WORDS) n))) s (earlier below)
     by earlier (inr past) =
         let e : s.at.core ≡ n = omega arith in
-        one_right (reads_from n before a t)
+        stands_right (reads_from n before a t)
         (option_to_list (read_from before a n (read_at t (a.word % BLOCK_WORDS) n))) s
-        (subst (λ (k : ℕ). IsOneOf (option_to_list (read_from before a k (read_at t (a.word % BLOCK_WORDS) k))) s) e
+        (subst (λ (k : ℕ). StandsIn (option_to_list (read_from before a k (read_at t (a.word % BLOCK_WORDS) k))) s) e
         (option_one (read_from before a s.at.core (read_at t (a.word % BLOCK_WORDS) s.at.core)) s
         (ap (read_from before a s.at.core) r.noted ∙ read_back before a s r.writes r.lives)))
 
@@ -286,30 +270,30 @@ load_reads n before a t loads = reads_none n before a t
 -- ---- the reads, or the write
 
 -- where there are reads, they are the candidates
-or_reads : (reads : List Source) (write : Option Source) (s : Source) → IsOneOf reads s
-    → IsOneOf (or_write reads write) s
+or_reads : (reads : List Source) (write : Option Source) (s : Source) → StandsIn reads s
+    → StandsIn (or_write reads write) s
 or_reads [] write s one = absurd one
 or_reads (r ∷ reads) write s one = one
 
-pub read_found : (n : ℕ) (before : Clock) (a : Access) (t : Times) (s : Source) → IsOneOf (reads_from n before a t) s
-    → IsOneOf (candidates n before a t) s
+pub read_found : (n : ℕ) (before : Clock) (a : Access) (t : Times) (s : Source) → StandsIn (reads_from n before a t) s
+    → StandsIn (candidates n before a t) s
 read_found n before a t s one = or_reads (reads_from n before a t)
     (write_from n before a (write_at t (a.word % BLOCK_WORDS))) s one
 
 -- the write is a candidate, or there is a read
 or_other : (reads : List Source) (write : Option Source) (s : Source) → write ≡ Some s
-    → IsOneOf (or_write reads write) s ⊎ ((r : Source) × IsOneOf reads r)
+    → StandsIn (or_write reads write) s ⊎ ((r : Source) × StandsIn reads r)
 or_other [] write s e = inl (option_one write s e)
 or_other (r ∷ reads) write s e = inr (r, inl refl)
 
 pub write_or_read : (n : ℕ) (before : Clock) (a : Access) (t : Times) (s : Source) → write_from n before a
     (write_at t (a.word % BLOCK_WORDS)) ≡ Some s →
-    IsOneOf (candidates n before a t) s ⊎ ((r : Source) × IsOneOf (reads_from n before a t) r)
+    StandsIn (candidates n before a t) s ⊎ ((r : Source) × StandsIn (reads_from n before a t) r)
 write_or_read n before a t s e = or_other (reads_from n before a t)
     (write_from n before a (write_at t (a.word % BLOCK_WORDS))) s e
 
-or_cases : (reads : List Source) (write : Option Source) (s : Source) → IsOneOf (or_write reads write) s
-    → IsOneOf reads s ⊎ (write ≡ Some s)
+or_cases : (reads : List Source) (write : Option Source) (s : Source) → StandsIn (or_write reads write) s
+    → StandsIn reads s ⊎ (write ≡ Some s)
 or_cases [] write s one = inr (one_option write s one)
 or_cases (r ∷ reads) write s one = inl one
 
@@ -319,12 +303,12 @@ pub record IsNotedIn (before : Clock) (a : Access) (t : Times) (s : Source) : Ty
   pub noted : (write_at t (a.word % BLOCK_WORDS) ≡ Some (s.at, s.clock))
       ⊎ ((is_write a.kind ≡ true) × (read_at t (a.word % BLOCK_WORDS) s.at.core ≡ Some (s.at.count, s.clock)))
 
-pub one_noted : (n : ℕ) (before : Clock) (a : Access) (t : Times) (s : Source) → IsOneOf (candidates n before a t) s →
+pub one_noted : (n : ℕ) (before : Clock) (a : Access) (t : Times) (s : Source) → StandsIn (candidates n before a t) s →
     (s.at.core < n) × IsNotedIn before a t s
 one_noted n before a t s one = by
     (or_cases (reads_from n before a t) (write_from n before a (write_at t (a.word % BLOCK_WORDS))) s one)
   where
-    by : IsOneOf (reads_from n before a t) s ⊎ (write_from n before a (write_at t (a.word % BLOCK_WORDS)) ≡ Some s) →
+    by : StandsIn (reads_from n before a t) s ⊎ (write_from n before a (write_at t (a.word % BLOCK_WORDS)) ≡ Some s) →
         (s.at.core < n) × IsNotedIn before a t s
     by (inl p) = let q = one_read n before a t s p in
         (q.0, record { lives = q.1.lives; noted = inr (q.1.writes, q.1.noted) })
@@ -359,7 +343,7 @@ abbrev CoresBelow : ℕ → List Source → Type 0
 CoresBelow n [] = ⊤
 CoresBelow n (s ∷ found) = (s.at.core < n) × CoresBelow n found
 
-each_below : (n : ℕ) (found : List Source) → ((s : Source) → IsOneOf found s → s.at.core < n) → CoresBelow n found
+each_below : (n : ℕ) (found : List Source) → ((s : Source) → StandsIn found s → s.at.core < n) → CoresBelow n found
 each_below n [] each = tt
 each_below n (s ∷ found) each = (each s (inl refl), each_below n found (λ r o. each r (inr o)))
 

@@ -25,7 +25,7 @@ use Rattle.conflict_edge.proofs.Online.{last_read-word, last_read-store, last_re
 use Rattle.conflict_edge.proofs.Online.{IsWrite, last_read-core, last_write-is, last_read-is}
 use Rattle.online_reduce.specs.declared.source.Source.{Source}
 use Rattle.online_reduce.specs.Rule.{is_above}
-use Rattle.online_reduce.specs.Sources.{write_from, reads_from, candidates, IsOneOf}
+use Rattle.online_reduce.specs.Sources.{write_from, reads_from, candidates}
 use Rattle.online_reduce.specs.Exact.{AreExactFor}
 use Rattle.online_reduce.proofs.Found.{IsNotedIn, Lives, is_live_of, one_noted, one_read, read_one, read_found}
 use Rattle.online_reduce.proofs.Found.{write_or_read, wrote_back}
@@ -104,15 +104,15 @@ read_later (d ∷ h) word core b c rising w r =
 
 -- z is one of these or leads to one, or leads to the instruction before a
 abbrev pub IsLed : List Access → Access → List Source → Instr → Type 0
-IsLed h a found z = ((s : Source) × IsOneOf found s × UpTo h z s.at) ⊎ UpTo h z (previous a.at)
+IsLed h a found z = ((s : Source) × StandsIn found s × UpTo h z s.at) ⊎ UpTo h z (previous a.at)
 
 -- each of these is a candidate that the clock before does not know of, with its exact clock, and each candidate is one
 -- of these or known by way of one, or by the clock before
 pub record AreCandidates (list : List Access) (before : Clock) (a : Access) (found : List Source) : Type 0 where
-  pub fits : (s : Source) → IsOneOf found s → s.at.core < CORES_MAX
-  pub candidate : (s : Source) → IsOneOf found s → Candidate (reverse list) a s.at
-  pub exact : (s : Source) → IsOneOf found s → IsExactClock list s.at s.clock
-  pub above : (s : Source) → IsOneOf found s → slice_index before s.at.core < s.at.count
+  pub fits : (s : Source) → StandsIn found s → s.at.core < CORES_MAX
+  pub candidate : (s : Source) → StandsIn found s → Candidate (reverse list) a s.at
+  pub exact : (s : Source) → StandsIn found s → IsExactClock list s.at s.clock
+  pub above : (s : Source) → StandsIn found s → slice_index before s.at.core < s.at.count
   pub all : (z : Instr) → Candidate (reverse list) a z → IsLed (reverse list) a found z
 
 -- why a candidate that is found is one
@@ -184,10 +184,10 @@ are_candidates n list before a t few rising known within exact = record {
   all = λ z c. all z c.0 c.1 c.2 c.3;
 }
   where
-    fits : (s : Source) → IsOneOf (candidates n before a t) s → s.at.core < CORES_MAX
+    fits : (s : Source) → StandsIn (candidates n before a t) s → s.at.core < CORES_MAX
     fits s one = let lt = (one_noted n before a t s one).0 in omega arith
 
-    stands : (s : Source) → IsOneOf (candidates n before a t) s → Stands list a s
+    stands : (s : Source) → StandsIn (candidates n before a t) s → Stands list a s
     stands s one =
         noted_stands list before a t s (let lt = (one_noted n before a t s one).0 in omega arith) exact
         (one_noted n before a t s one).1
@@ -197,7 +197,7 @@ are_candidates n list before a t few rising known within exact = record {
 
     -- a live read comes after the write
     through : (b : Access) → last_write (reverse list) a.word ≡ Some b → (r : Source)
-        → IsOneOf (reads_from n before a t) r →
+        → StandsIn (reads_from n before a t) r →
         IsLed (reverse list) a (candidates n before a t) b.at
     through b w r one =
         let q = one_read n before a t r one in
@@ -223,7 +223,7 @@ are_candidates n list before a t few rising known within exact = record {
         by (write_or_read n before a t s (ap (write_from n before a) noted ∙ wrote_back n before a s lt
         (is_live_of before a s.at lives)))
       where
-        by : IsOneOf (candidates n before a t) s ⊎ ((r : Source) × IsOneOf (reads_from n before a t) r) →
+        by : StandsIn (candidates n before a t) s ⊎ ((r : Source) × StandsIn (reads_from n before a t) r) →
             IsLed (reverse list) a (candidates n before a t) z
         by (inl one) = inl (s, one, inl (sym e ∙ sym is))
         by (inr q) = subst (λ (v : Instr). IsLed (reverse list) a (candidates n before a t) v) e (through b w q.0 q.1)

@@ -12,8 +12,8 @@ use Rattle.conflict_edge.specs.Conflicts.{ConflictPair, CountsRise, StandsIn}
 use Rattle.conflict_edge.specs.Least.{Covering}
 use Rattle.conflict_edge.proofs.History.{ends}
 use Rattle.conflict_edge.proofs.Reversed.{pair_forth, stands_back}
-use Rattle.conflict_edge.proofs.Scan.{stands-left}
 use Rattle.rtr_types.specs.PairEdges.{EdgeStands, AreEdgesAfter}
+use Rattle.conflict_edge.proofs.Standing.{stands_left}
 
 -- ---- lists of counts
 
@@ -61,7 +61,7 @@ all_among P (e ∷ edges) f = (f e.from e.to (inl (refl, refl)), all_among P edg
 
 pub conflict_left : (list more : List Access) (x y : Instr) → ConflictPair list x y → ConflictPair (list ++ more) x y
 conflict_left [] more x y p = absurd p
-conflict_left (a ∷ list) more x y (inl p) = inl (p.0, p.1, stands-left list more p.1 p.2, p.3, p.4)
+conflict_left (a ∷ list) more x y (inl p) = inl (p.0, p.1, stands_left list more p.1 p.2, p.3, p.4)
 conflict_left (a ∷ list) more x y (inr p) = inr (conflict_left list more x y p)
 
 -- an access of the list

@@ -18,7 +18,7 @@ use Rattle.conflict_edge.proofs.Ranks.{no_cycle}
 use Rattle.conflict_edge.proofs.Reach.{online_law}
 use Rattle.conflict_edge.proofs.Reversed.{rising_back}
 use Rattle.online_reduce.specs.declared.source.Source.{Source}
-use Rattle.online_reduce.specs.Sources.{candidates, IsOneOf}
+use Rattle.online_reduce.specs.Sources.{candidates}
 use Rattle.online_reduce.specs.Rule.{is_kept, edges_into}
 use Rattle.online_reduce.specs.Reduced.{Reduced, IsNext, clock_of, count_of, edges_of}
 use Rattle.online_reduce.specs.Exact.{AreExactFor, IsExact, last_of, AreCoveringInto}
@@ -75,22 +75,22 @@ not_before list r a t n x own up = let le = up_counts (reverse list) x (previous
     up in omega arith
 
 own_below : (list : List Access) (r : Reduced) (a : Access) (t : Times) → Next list r a t → (s : Source)
-    → IsOneOf (found_of r a t) s →
+    → StandsIn (found_of r a t) s →
     clock (reverse list) (previous a.at) s.at.core < s.at.count
 own_below list r a t n s one = let e = n.before s.at.core (n.found.fits s one) in let lt = n.found.above s one in
     omega arith
 
 -- another candidate that is found does not know of one that is kept
 passes_below : (list : List Access) (r : Reduced) (a : Access) (t : Times) → Next list r a t → (s q : Source)
-    → IsOneOf (found_of r a t) s →
-    IsOneOf (found_of r a t) q → Passes (found_of r a t) s.at → q.at ≢ s.at → clock (reverse list) q.at s.at.core <
+    → StandsIn (found_of r a t) s →
+    StandsIn (found_of r a t) q → Passes (found_of r a t) s.at → q.at ≢ s.at → clock (reverse list) q.at s.at.core <
     s.at.count
 passes_below list r a t n s q one other passes apart =
     let e = n.found.exact q other s.at.core (n.found.fits s one) in let lt = passes q other apart in omega arith
 
 -- a candidate that is found is kept exactly where the online rule keeps it
 kept_rule : (list : List Access) (r : Reduced) (a : Access) (t : Times) → Next list r a t → (s : Source)
-    → IsOneOf (found_of r a t) s →
+    → StandsIn (found_of r a t) s →
     is_kept (found_of r a t) s.at ≡ true → IsKept (reverse list) a s.at
 kept_rule list r a t n s one kept = record {
   candidate = n.found.candidate s one;
@@ -109,7 +109,7 @@ kept_rule list r a t n s one kept = record {
     turns z apart (inl e) (inr p) = apart (sym e)
     turns z apart (inr q) (inr p) = no_cycle (reverse list) rising s.at (joined (Pair (reverse list)) s.at z s.at q p)
 
-    led : (z : Instr) → z ≢ s.at → UpTo (reverse list) s.at z → (q : Source) → IsOneOf (found_of r a t) q
+    led : (z : Instr) → z ≢ s.at → UpTo (reverse list) s.at z → (q : Source) → StandsIn (found_of r a t) q
         → UpTo (reverse list) z q.at →
         (q.at ≡ s.at) ⊎ (q.at ≢ s.at) → ⊥
     led z apart up q other on (inl e) = turns z apart up (subst (λ (v : Instr). UpTo (reverse list) z v) e on)
@@ -133,7 +133,7 @@ kept_rule list r a t n s one kept = record {
         absurd (not_known z apart (clock-up_to (reverse list) s.at z (omega arith) le) led)
 
 rule_kept : (list : List Access) (r : Reduced) (a : Access) (t : Times) → Next list r a t → (s : Source)
-    → IsOneOf (found_of r a t) s →
+    → StandsIn (found_of r a t) s →
     IsKept (reverse list) a s.at → is_kept (found_of r a t) s.at ≡ true
 rule_kept list r a t n s one kept = others_all (found_of r a t) s.at (
     λ q other apart.
@@ -144,20 +144,20 @@ rule_kept list r a t n s one kept = others_all (found_of r a t) s.at (
 -- what the online rule keeps is found
 kept_found : (list : List Access) (r : Reduced) (a : Access) (t : Times) → Next list r a t → (x : Instr)
     → IsKept (reverse list) a x →
-    (s : Source) × IsOneOf (found_of r a t) s × (s.at ≡ x)
+    (s : Source) × StandsIn (found_of r a t) s × (s.at ≡ x)
 kept_found list r a t n x kept = by (n.found.all x kept.candidate)
   where
     rising : Rising (reverse list)
     rising = rising_back list n.exact.rise
 
-    before : (q : Source) → IsOneOf (found_of r a t) q → Before (Pair (reverse list)) x q.at → ⊥
+    before : (q : Source) → StandsIn (found_of r a t) q → Before (Pair (reverse list)) x q.at → ⊥
     before q one p =
         let le = clock-before (reverse list) x q.at rising p in
         let lt = kept.others q.at (n.found.candidate q one)
         (λ e. no_cycle (reverse list) rising x (subst (λ (v : Instr). Before (Pair (reverse list)) x v) e p)) in
         omega arith
 
-    by : IsLed (reverse list) a (found_of r a t) x → (s : Source) × IsOneOf (found_of r a t) s × (s.at ≡ x)
+    by : IsLed (reverse list) a (found_of r a t) x → (s : Source) × StandsIn (found_of r a t) s × (s.at ≡ x)
     by (inl (q, one, inl e)) = (q, one, sym e)
     by (inl (q, one, inr p)) = absurd (before q one p)
     by (inr up) = absurd (not_before list r a t n x kept.own up)

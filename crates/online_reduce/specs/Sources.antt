@@ -44,8 +44,3 @@ or_write (read ∷ reads) write = read ∷ reads
 abbrev pub candidates : ℕ → Clock → Access → Times → List Source
 candidates cores before a t =
     or_write (reads_from cores before a t) (write_from cores before a (write_at t (a.word % BLOCK_WORDS)))
-
--- it is one of these
-abbrev pub IsOneOf : {X : Type 0} → List X → X → Type 0
-IsOneOf [] s = ⊥
-IsOneOf (r ∷ found) s = (r ≡ s) ⊎ IsOneOf found s

@@ -19,13 +19,13 @@ use Rattle.clock_core.specs.Order.{Among}
 use Rattle.clock_core.proofs.Paths.{joined, one}
 use Rattle.conflict_edge.specs.Conflicts.{ConflictPair, CountsRise, StandsIn}
 use Rattle.conflict_edge.specs.Least.{Suffices}
-use Rattle.conflict_edge.proofs.Standing.{one_access, stands_which}
+use Rattle.conflict_edge.proofs.Standing.{one_access, stands_which, stands_right}
 use Rattle.clock_entries.specs.Laws.{IsAcyclic}
 use Rattle.race_log.specs.Sources.{log_edges}
 use Rattle.replay_audit.specs.Audits.{Findings}
 use Rattle.replay_audit.specs.Determinate.{low_order_of}
 use Rattle.replay_audit.proofs.Logs.{acyclic_law}
-use Rattle.replay_audit.proofs.Pairs.{pairs_across, stands_right}
+use Rattle.replay_audit.proofs.Pairs.{pairs_across}
 use Rattle.replay_audit.proofs.Rise.{accesses_rise}
 use Rattle.race_queries.specs.Places.{IsLastPlace}
 use Rattle.race_queries.specs.Queries.{AreReadsSince, is_held, is_load_of, is_write_of, IsAudited, IsLastWrite}

@@ -13,7 +13,7 @@ use Rattle.rtr_types.specs.declared.pairs.Which.{Which}
 use Rattle.clock_core.specs.Order.{Within, Among}
 use Rattle.conflict_edge.specs.Conflicts.{ConflictPair, StandsIn}
 use Rattle.conflict_edge.specs.Least.{Suffices}
-use Rattle.conflict_edge.proofs.Standing.{one_access}
+use Rattle.conflict_edge.proofs.Standing.{one_access, stands_left}
 use Rattle.rv_core.specs.declared.outcome.LoadNote.{LoadNote}
 use Rattle.rv_core.specs.declared.outcome.Outcome.{Outcome}
 use Rattle.race_log.specs.declared.recording.Recording.{Recording}
@@ -34,7 +34,7 @@ use Rattle.replay_core.specs.Orders.{bump}
 use Rattle.replay_audit.specs.Determinate.{Decides, DecidesValued, IsDeterminate}
 use Rattle.replay_audit.specs.Laws.{Clash, GoesOn, GoesOnValued, Agrees, AgreesValued, EveryOrderLaw, EveryValuedLaw}
 use Rattle.replay_audit.specs.Laws.{OneAccessLaw, NeverBothLaw, AnyWholeLaw}
-use Rattle.replay_audit.proofs.Pairs.{pairs_left, pairs_right, stands_left}
+use Rattle.replay_audit.proofs.Pairs.{pairs_left, pairs_right}
 use Rattle.replay_audit.proofs.Logs.{Closed, closed_none, closed_log}
 use Rattle.replay_audit.proofs.Rise.{touched_is, accesses_rise}
 use Rattle.replay_audit.proofs.Swaps.{use_at, clash_back, conflict_clash, one_at}

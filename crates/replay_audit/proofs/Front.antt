@@ -21,12 +21,13 @@ use Rattle.replay_core.specs.Laws.{PlayKnown}
 use Rattle.replay_core.proofs.Counts.{bump_same, bump_else, bump_more}
 use Rattle.replay_core.proofs.Places.{place_given_law, given_known}
 use Rattle.replay_audit.proofs.Pairs.{Parts, parts_after, pairs_after, pairs_right, pairs_swap, parts_swap}
-use Rattle.replay_audit.proofs.Pairs.{pairs_across_at, stands_left}
+use Rattle.replay_audit.proofs.Pairs.{pairs_across_at}
 use Rattle.replay_audit.proofs.Logs.{Closed, closed_bump, ready_before}
 use Rattle.replay_audit.specs.Laws.{Clash}
 use Rattle.replay_audit.proofs.Swaps.{use_in, valued_use, valued_old, valued_new, valued_touch_is, clash_back, Meets}
 use Rattle.replay_audit.proofs.Swaps.{clash_meets, conflict_clash, touched_place}
 use Rattle.replay_audit.proofs.Swaps.{place_swap}
+use Rattle.conflict_edge.proofs.Standing.{stands_left}
 
 -- ---- counts
 

@@ -19,10 +19,10 @@ use Rattle.replay_core.specs.Play.{touched, start, play, accesses_from, played}
 use Rattle.replay_core.specs.Play.{accesses_of}
 use Rattle.replay_core.proofs.Places.{place_law}
 use Rattle.replay_audit.specs.Laws.{OneLoadLaw}
-use Rattle.replay_audit.proofs.Pairs.{stands_left, stands_right}
 use Rattle.replay_audit.proofs.Rise.{touched_is}
 use Rattle.replay_audit.proofs.Swaps.{use_at, place_is}
 use Rattle.replay_audit.proofs.Agreed.{one_access_law}
+use Rattle.conflict_edge.proofs.Standing.{stands_left, stands_right}
 
 -- the note tells of an access of core i
 pub record TellsOf (list : List Access) (i : ℕ) (note : LoadNote) : Type 0 where

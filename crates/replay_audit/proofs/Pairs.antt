@@ -5,16 +5,7 @@ use Rattle.rtr_types.specs.declared.access.Access.{Access}
 use Rattle.clock_core.specs.Order.{Within}
 use Rattle.conflict_edge.specs.Conflicts.{Conflicts, ConflictPair, StandsIn}
 use Rattle.conflict_edge.proofs.History.{Ends, ends_more}
-use Rattle.conflict_edge.proofs.Standing.{stands_which}
-
-pub stands_left : (xs ys : List Access) (a : Access) → StandsIn xs a → StandsIn (xs ++ ys) a
-stands_left [] ys a s = absurd s
-stands_left (x ∷ xs) ys a (inl e) = inl e
-stands_left (x ∷ xs) ys a (inr s) = inr (stands_left xs ys a s)
-
-pub stands_right : (xs ys : List Access) (a : Access) → StandsIn ys a → StandsIn (xs ++ ys) a
-stands_right [] ys a s = s
-stands_right (x ∷ xs) ys a s = inr (stands_right xs ys a s)
+use Rattle.conflict_edge.proofs.Standing.{stands_left, stands_right, stands_which}
 
 -- each access of the one list stands in the other
 abbrev pub Parts : List Access → List Access → Type 0

@@ -15,7 +15,7 @@ use Rattle.clock_core.specs.Order.{Before, Among}
 use Rattle.clock_core.proofs.Paths.{instr_eq}
 use Rattle.conflict_edge.specs.Conflicts.{ConflictPair, CountsRise, StandsIn}
 use Rattle.conflict_edge.specs.Least.{Suffices}
-use Rattle.conflict_edge.proofs.Standing.{stands_which}
+use Rattle.conflict_edge.proofs.Standing.{stands_which, stands_left, stands_right}
 use Rattle.race_log.specs.declared.recording.Recording.{Recording}
 use Rattle.race_log.specs.Sources.{log_edges}
 use Rattle.race_log.specs.Validity.{Valid}
@@ -41,7 +41,7 @@ use Rattle.replay_audit.specs.Walks.{Walked, IsWalk}
 use Rattle.replay_audit.proofs.Agreed.{low_ordered, touched_at}
 use Rattle.replay_audit.proofs.Judging.{NeverBack, judge_law, suffices_settled, settled_suffices}
 use Rattle.replay_audit.proofs.Logs.{Closed, closed_none, closed_bump, leads_back, acyclic_law}
-use Rattle.replay_audit.proofs.Pairs.{Apart, both_left, both_right, across, pairs_which, stands_left, stands_right}
+use Rattle.replay_audit.proofs.Pairs.{Apart, both_left, both_right, across, pairs_which}
 use Rattle.replay_audit.proofs.Refused.{unordered_pair}
 use Rattle.replay_audit.proofs.Rise.{accesses_within, rises}
 use Rattle.replay_audit.proofs.Marking.{marked_at}

@@ -11,7 +11,7 @@ use Rattle.clock_core.specs.declared.clock.Clock.{Clock}
 use Rattle.conflict_edge.specs.Times.{IsExactClock}
 use Rattle.conflict_edge.proofs.Once.{Noted, noted_push, noted_skip}
 use Rattle.conflict_edge.proofs.Reversed.{stands_forth}
-use Rattle.conflict_edge.proofs.Scan.{Direct, Reached, FoundFrom, stands-left, stands-right}
+use Rattle.conflict_edge.proofs.Scan.{Direct, Reached, FoundFrom}
 use Rattle.conflict_edge.proofs.Steps.{At, at, test_no, fact_no, not_direct, stands_at, skip_reached, merge_reached}
 use Rattle.conflict_edge.proofs.Steps.{no_conflict, covered, end_clock}
 use Rattle.conflict_edge.proofs.Steps.{end_found}
@@ -24,6 +24,7 @@ use Rattle.conflict_edge.proofs.least_set.push_covering.Goals.{then-conflict-2-v
 use Rattle.conflict_edge.proofs.least_set.push_covering.Goals.{Joined-conflict}
 use Rattle.conflict_edge.proofs.History.{Rising}
 use Rattle.conflict_edge.proofs.Reach.{rising_next}
+use Rattle.conflict_edge.proofs.Standing.{stands_left, stands_right}
 
 -- what stands at an index past the end
 abbrev nothing : Access
@@ -37,7 +38,7 @@ exact_clock list b clocks place clock is exact = subst (λ (read : Clock). IsExa
 
 pub covers-requires : goal.covers-requires
 covers-requires c = c.requires.cores _
-    (stands-left c.args.earlier.now (c.args.access.now ∷ []) _ (stands_at c.args.earlier.now (c.loop-place.place - 1) _
+    (stands_left c.args.earlier.now (c.args.access.now ∷ []) _ (stands_at c.args.earlier.now (c.loop-place.place - 1) _
     (omega arith)))
 
 -- the access that is read, where it stands, and that counts rise
@@ -56,7 +57,7 @@ noted : (c : Joined-conflict) → Noted c.args.earlier.now c.loop-place.place c.
 noted c =
     let b = read c in
     let at_b = stands_at c.args.earlier.now (c.loop-place.place - 1) nothing (omega arith) in
-    let fits : b.at.core < CORES_MAX = c.requires.cores b (stands-left c.args.earlier.now (c.args.access.now ∷ []) b
+    let fits : b.at.core < CORES_MAX = c.requires.cores b (stands_left c.args.earlier.now (c.args.access.now ∷ []) b
     at_b) in
     let kept = c.loop-place.invariant in
     elim c.if-conflict.branch [
@@ -113,7 +114,7 @@ loop-place-preserved c =
     }
 
 pub set-requires : goal.set-requires
-set-requires c = c.requires.cores c.args.access.now (stands-right c.args.earlier.now (c.args.access.now ∷ [])
+set-requires c = c.requires.cores c.args.access.now (stands_right c.args.earlier.now (c.args.access.now ∷ [])
     c.args.access.now (inl refl))
 
 -- the loop ends at the whole list
