@@ -1,6 +1,6 @@
 -- Forgetting riders goes through each step of a home.
 use Rattle.std.proofs.Common.{rules, ◌≡◌, ◌∙◌, ap, refl, ℕ, Bool, true, false, List, Option, Some, None}
-use Rattle.std.specs.Prelude.{slice_set, if◌then◌else◌}
+use Rattle.std.specs.Prelude.{is_some, slice_set, if◌then◌else◌}
 use Rattle.std.proofs.lemmas.List.{map-set}
 use Rattle.std.proofs.Math.ListN.{get_or-map}
 use Rattle.access_times.specs.Riding.{Riding, none_riding}
@@ -12,8 +12,9 @@ use Rattle.msi_directory.specs.Table.{HomeRow, Send, gives, request_row, respons
 use Rattle.msi_directory.specs.Entries.{entry_by, entry_left, entry_met, sent, answer_by, request_words, request_rider}
 use Rattle.msi_directory.specs.Entries.{response_words, response_rider}
 use Rattle.msi_directory.specs.Blocks.{entry_at, no_entry}
-use Rattle.msi_directory.specs.PlainPart.{plain_entry, plain_entries, plain_send, plain_home_answer, PlainRequest}
-use Rattle.msi_directory.specs.PlainPart.{PlainResponse}
+use Rattle.msi_directory.specs.Deeds.{Deed, deed}
+use Rattle.msi_directory.specs.PlainPart.{IsAlike, PlainRequest, PlainResponse, plain_entry, plain_entries, plain_send}
+use Rattle.msi_directory.specs.PlainPart.{plain_home_answer}
 use Rattle.msi_directory.specs.declared.entry.Entry.{Entry}
 use Rattle.msi_directory.specs.declared.entry.Stage.{Stage}
 
@@ -77,68 +78,53 @@ module _ {R : Type 0} where
   plain_answer_by None block e = refl
   plain_answer_by (Some r) block e = rw (plain_sent r.send block e)
 
--- a message about the block comes with these words and this rider, and meets this row at each stage
-module _ {R : Type 0} (riding : Riding R) (entries : List (Entry R)) (block : ℕ) (row : Stage → Option HomeRow)
-    (words : List ℕ → List ℕ) (rider : R → R) where
-  -- the block's entry, before
-  abbrev before : Entry R
-  before = entry_at riding.fresh entries block
+-- A message of some kind is about a block, comes with these words and this rider, and meets at each stage the row of
+-- its kind. So does the plain one, which is of the same kind, about the same block, with the same words.
+module _ {Kind R : Type 0} (riding : Riding R) (entries : List (Entry R)) (row : Kind → Stage → Option HomeRow) where
+  -- what a message does
+  abbrev met : {X : Type 0} → Riding X → Kind → ℕ → (List ℕ → List ℕ) → (X → X) → Deed X
+  met rides kind block words rider =
+      deed block (λ e. entry_by rides (row kind e.stage) e (words e.words) (rider e.rider))
+      (λ e. answer_by (row kind e.stage) block
+      (entry_met rides.absorbed (row kind e.stage) e (words e.words) (rider e.rider)))
 
-  abbrev plain_before : Entry (Unit {0})
-  plain_before = entry_at tt (plain_entries entries) block
-
-  record Forgets : Type 0 where
-    found : plain_entry before ≡ plain_before
-    left : plain_entries (slice_set entries block
-        (entry_by riding (row before.stage) before (words before.words) (rider before.rider)))
-        ≡ slice_set (plain_entries entries) block
-        (entry_by none_riding (row plain_before.stage) plain_before (words plain_before.words) tt)
-    answer : plain_home_answer (answer_by (row before.stage) block
-        (entry_met riding.absorbed (row before.stage) before (words before.words) (rider before.rider)))
-        ≡ answer_by (row plain_before.stage) block
-        (entry_met none_riding.absorbed (row plain_before.stage) plain_before (words plain_before.words) tt)
-
-  forgets : Forgets
-  forgets =
-      let e : Entry R = before in
+  forgets : (kind kind' : Kind) → kind' ≡ kind → (block block' : ℕ) → block' ≡ block →
+      (words words' : List ℕ → List ℕ) → ((old : List ℕ) → words' old ≡ words old) → (rider : R → R) →
+      IsAlike riding entries (met riding kind block words rider) (met none_riding kind' block' words' (λ own. tt))
+      (λ stage. is_some (row kind stage)) (λ stage. is_some (row kind' stage))
+  forgets kind kind' as_kind block block' as_block words words' as_words rider =
+      let e : Entry R = entry_at riding.fresh entries block in
       record {
-        found = rw (plain_entry_at riding.fresh entries block);
-        left = rw (
-          plain_set entries block (entry_by riding (row e.stage) e (words e.words) (rider e.rider)),
+        same_entry = rw (plain_entry_at riding.fresh entries block);
+        same_row = rw (plain_entry_at riding.fresh entries block, as_kind);
+        same_entries = rw (
+          as_block,
+          as_kind,
           plain_entry_at riding.fresh entries block,
-          plain_entry_by riding (row e.stage) e (words e.words) (rider e.rider),
+          as_words e.words,
+          plain_set entries block (entry_by riding (row kind e.stage) e (words e.words) (rider e.rider)),
+          plain_entry_by riding (row kind e.stage) e (words e.words) (rider e.rider),
         );
-        answer = rw (
+        same_answer = rw (
+          as_block,
+          as_kind,
           plain_entry_at riding.fresh entries block,
-          plain_answer_by (row e.stage) block
-              (entry_met riding.absorbed (row e.stage) e (words e.words) (rider e.rider)),
-          plain_entry_met riding.absorbed (row e.stage) e (words e.words) (rider e.rider),
+          as_words e.words,
+          plain_answer_by (row kind e.stage) block
+              (entry_met riding.absorbed (row kind e.stage) e (words e.words) (rider e.rider)),
+          plain_entry_met riding.absorbed (row kind e.stage) e (words e.words) (rider e.rider),
         );
       }
 
 module _ {R : Type 0} (riding : Riding R) (entries : List (Entry R)) (c : ℕ) where
   pub plain_on_request : (request : Request R) → PlainRequest riding entries c request
   plain_on_request request =
-      let is =
-      forgets riding entries (request_block request) (λ stage. request_row stage c (ask_of request))
-      (request_words request) (request_rider request) in
-      let words = plain_request_words request (entry_at tt (plain_entries entries) (request_block request)).words in
-      record {
-        same_entry = is.found;
-        same_row = rw (plain_entry_at riding.fresh entries (request_block request), plain_ask request);
-        same_entries = rw (plain_request_block request, plain_ask request, words) is.left;
-        same_answer = rw (plain_request_block request, plain_ask request, words) is.answer;
-      }
+      forgets riding entries (λ kind stage. request_row stage c kind) (ask_of request) _ (plain_ask request)
+      (request_block request) _ (plain_request_block request) (request_words request)
+      (request_words (plain_request request)) (plain_request_words request) (request_rider request)
 
   pub plain_on_response : (response : Response R) → PlainResponse riding entries c response
   plain_on_response response =
-      let is =
-      forgets riding entries (response_block response) (λ stage. response_row stage c (reply_of response))
-      (response_words response) (λ own. response_rider response) in
-      let words = plain_response_words response (entry_at tt (plain_entries entries) (response_block response)).words in
-      record {
-        same_entry = is.found;
-        same_row = rw (plain_entry_at riding.fresh entries (response_block response), plain_reply response);
-        same_entries = rw (plain_response_block response, plain_reply response, words) is.left;
-        same_answer = rw (plain_response_block response, plain_reply response, words) is.answer;
-      }
+      forgets riding entries (λ kind stage. response_row stage c kind) (reply_of response) _ (plain_reply response)
+      (response_block response) _ (plain_response_block response) (response_words response)
+      (response_words (plain_response response)) (plain_response_words response) (λ own. response_rider response)

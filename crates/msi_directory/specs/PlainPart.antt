@@ -1,15 +1,16 @@
 -- The plain part of a home and of its answers: what is left where the riders are forgotten.
-use Rattle.std.specs.Prelude.{◌≡◌, ℕ, List, Option, Some, None, map}
+use Rattle.std.specs.Prelude.{◌≡◌, ℕ, Bool, List, Option, Some, None, map, slice_set}
 use Rattle.access_times.specs.Riding.{Riding, none_riding}
-use Rattle.msi_cache.specs.Messages.{request_block, response_block}
 use Rattle.msi_cache.specs.PlainPart.{plain_request, plain_response, plain_message}
 use Rattle.msi_cache.specs.declared.messages.FromHome.{FromHome}
 use Rattle.msi_cache.specs.declared.messages.Response.{Response}
 use Rattle.msi_cache.specs.declared.messages.Request.{Request}
-use Rattle.msi_directory.specs.Entries.{has_request_row, has_response_row, answer_to_request, answer_to_response}
-use Rattle.msi_directory.specs.Blocks.{entry_at, entries_after_request, entries_after_response}
+use Rattle.msi_directory.specs.Entries.{has_request_row, has_response_row}
+use Rattle.msi_directory.specs.Blocks.{entry_at}
+use Rattle.msi_directory.specs.Deeds.{Deed, request_deed, response_deed}
 use Rattle.msi_directory.specs.declared.entry.Entry.{Entry}
 use Rattle.msi_directory.specs.declared.entry.HomeAnswer.{HomeAnswer}
+use Rattle.msi_directory.specs.declared.entry.Stage.{Stage}
 
 module _ {R : Type 0} where
   abbrev pub plain_entry : Entry R → Entry (Unit {0})
@@ -25,29 +26,28 @@ module _ {R : Type 0} where
   abbrev pub plain_home_answer : HomeAnswer R → HomeAnswer (Unit {0})
   plain_home_answer answer = record { invalidate = answer.invalidate; send = plain_send answer.send }
 
-  -- a request does to the plain part what it does where nothing rides, and is answered as there
-  pub record PlainRequest (riding : Riding R) (entries : List (Entry R)) (c : ℕ) (request : Request R) : Type 0 where
-    pub same_entry : plain_entry (entry_at riding.fresh entries (request_block request))
-        ≡ entry_at tt (plain_entries entries) (request_block request)
-    pub same_row : has_request_row (entry_at riding.fresh entries (request_block request)).stage c request
-        ≡ has_request_row (entry_at tt (plain_entries entries) (request_block request)).stage c (plain_request request)
-    pub same_entries : plain_entries (entries_after_request riding entries c request)
-        ≡ entries_after_request none_riding (plain_entries entries) c (plain_request request)
-    pub same_answer : plain_home_answer
-        (answer_to_request riding.absorbed (entry_at riding.fresh entries (request_block request)) c request)
-        ≡ answer_to_request none_riding.absorbed (entry_at tt (plain_entries entries) (request_block request)) c
-        (plain_request request)
+  -- what this message does to a home, the plain one does to its plain part, where nothing rides: it finds the entry
+  -- there, has a row where these tests say so, and is answered alike
+  pub record IsAlike (riding : Riding R) (entries : List (Entry R)) (done : Deed R) (plain : Deed (Unit {0}))
+      (has_row plain_has_row : Stage → Bool) : Type 0 where
+    pub same_entry : plain_entry (entry_at riding.fresh entries done.block)
+        ≡ entry_at tt (plain_entries entries) done.block
+    pub same_row : has_row (entry_at riding.fresh entries done.block).stage
+        ≡ plain_has_row (entry_at tt (plain_entries entries) done.block).stage
+    pub same_entries : plain_entries
+        (slice_set entries done.block (done.after (entry_at riding.fresh entries done.block)))
+        ≡ slice_set (plain_entries entries) plain.block (plain.after (entry_at tt (plain_entries entries) plain.block))
+    pub same_answer : plain_home_answer (done.answer (entry_at riding.fresh entries done.block))
+        ≡ plain.answer (entry_at tt (plain_entries entries) done.block)
 
-  -- a response does to the plain part what it does where nothing rides, and is answered as there
-  pub record PlainResponse (riding : Riding R) (entries : List (Entry R)) (c : ℕ) (response : Response R) : Type 0 where
-    pub same_entry : plain_entry (entry_at riding.fresh entries (response_block response))
-        ≡ entry_at tt (plain_entries entries) (response_block response)
-    pub same_row : has_response_row (entry_at riding.fresh entries (response_block response)).stage c response
-        ≡ has_response_row (entry_at tt (plain_entries entries) (response_block response)).stage c
-        (plain_response response)
-    pub same_entries : plain_entries (entries_after_response riding entries c response)
-        ≡ entries_after_response none_riding (plain_entries entries) c (plain_response response)
-    pub same_answer : plain_home_answer
-        (answer_to_response riding.absorbed (entry_at riding.fresh entries (response_block response)) c response)
-        ≡ answer_to_response none_riding.absorbed (entry_at tt (plain_entries entries) (response_block response)) c
-        (plain_response response)
+  -- a request does to the plain part what it does where nothing rides, and is answered as there
+  abbrev pub PlainRequest : Riding R → List (Entry R) → ℕ → Request R → Type 0
+  PlainRequest riding entries c request =
+      IsAlike riding entries (request_deed riding c request) (request_deed none_riding c (plain_request request))
+      (λ stage. has_request_row stage c request) (λ stage. has_request_row stage c (plain_request request))
+
+  -- and so does a response
+  abbrev pub PlainResponse : Riding R → List (Entry R) → ℕ → Response R → Type 0
+  PlainResponse riding entries c response =
+      IsAlike riding entries (response_deed riding c response) (response_deed none_riding c (plain_response response))
+      (λ stage. has_response_row stage c response) (λ stage. has_response_row stage c (plain_response response))
