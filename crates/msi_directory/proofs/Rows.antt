@@ -1,15 +1,17 @@
 -- A row of the table on an entry that a sparse home keeps, as contracts see it.
-use Rattle.std.proofs.Common.{◌≡◌, ◌∙◌, ℕ, ◌+◌, ◌*◌, ◌^◌, ◌<◌, Bool, false, IsTrue, Some, None, ap, arith, subst}
-use Rattle.std.proofs.Common.{sym}
+use Rattle.std.proofs.Common.{◌≡◌, ◌∙◌, ℕ, ◌+◌, ◌*◌, ◌^◌, ◌<◌, Bool, false, IsTrue, Some, None, ap, arith, refl}
+use Rattle.std.proofs.Common.{subst, sym}
 use Rattle.std.specs.Prelude.{length, slice_index_or, slice_set}
 use Rattle.std.proofs.lemmas.List.{get_or-set_other}
 use Rattle.std.proofs.lemmas.List.Elements.{All-set}
 use Rattle.msi_directory.specs.Blocks.{Blocks, entry_at, has_room, no_entry, opening_entry}
-use Rattle.msi_directory.specs.Deeds.{Deed, IsDoneAt, IsServed}
+use Rattle.msi_directory.specs.Deeds.{Deed, IsAnswered, IsDoneAt, IsServed}
+use Rattle.msi_directory.specs.Entries.{answer_riding}
 use Rattle.msi_directory.specs.Fitting.{stage_fits}
 use Rattle.msi_directory.specs.Kept.{HomeFits, IsAt, Kept, Sparse, blocks_in, is_kept, kept_at, kept_with, place_of}
 use Rattle.msi_directory.specs.Table.{is_free}
 use Rattle.msi_directory.specs.declared.entry.Entry.{Entry}
+use Rattle.msi_directory.specs.declared.entry.HomeAnswer.{HomeAnswer}
 use Rattle.msi_directory.specs.declared.entry.Served.{Served}
 use Rattle.msi_directory.specs.declared.entry.Stage.{Stage}
 use Rattle.msi_directory.specs.declared.entry.Stage.TheVariants.{Unshared}
@@ -97,12 +99,20 @@ module _ {R : Type 0} (home : Sparse R) (now : Blocks R) (view : blocks_in home 
           found.stage found.copy (done.after entry_before))
           ∙ ap (λ (b : Blocks R). record b { entries = slice_set b.entries done.block (done.after entry_before) }) view
 
-      pub is_served : IsServed fresh done now (blocks_in home_after) hand served
-      is_served =
+      pub is_answered : (rider : R) (answer : HomeAnswer R) → rider ≡ hand →
+          answer ≡ answer_riding rider served.answer → IsAnswered fresh done now (blocks_in home_after) answer
+      is_answered rider answer handed rides =
           record {
             blocks = blocks_after;
             elsewhere = λ other apart. ap (λ (b : Blocks R). entry_at fresh b.entries other) blocks_after
                 ∙ get_or-set_other now.entries done.block other (done.after entry_before) (no_entry fresh) apart;
-            answer = did.answer opens ∙ ap done.answer (sym reads);
+            answer = rides ∙ ap (λ (own : R). answer_riding own served.answer) handed ∙ did.answer opens
+                ∙ ap done.answer (sym reads);
+          }
+
+      pub is_served : IsServed fresh done now (blocks_in home_after) hand served
+      is_served =
+          record {
+            home = is_answered hand (answer_riding hand served.answer) refl refl;
             free = did.free opens ∙ ap (λ (e : Entry R). is_free (done.after e).stage) (sym reads);
           }

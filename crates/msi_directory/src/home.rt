@@ -4,10 +4,8 @@ ghost use Rattle.std.specs.Prelude.{if◌then◌else◌, OnErr, OnOk, length, sl
 ghost use Rattle.msi_cache.specs.Messages.{request_block, request_seen, response_block};
 ghost use Rattle.msi_cache.specs.declared.messages.Request.{Request};
 ghost use Rattle.msi_cache.specs.declared.messages.Response.{Response};
-ghost use Rattle.msi_directory.specs.Blocks.{SameElsewhere, block_count, entries_after_request, entries_after_response};
-ghost use Rattle.msi_directory.specs.Blocks.{entry_at, has_room, opening_entries, opening_entry, touched};
-ghost use Rattle.msi_directory.specs.Deeds.{IsServed, request_deed, response_deed};
-ghost use Rattle.msi_directory.specs.Entries.{answer_to_request, answer_to_response};
+ghost use Rattle.msi_directory.specs.Blocks.{block_count, entry_at, has_room, opening_entries, opening_entry, touched};
+ghost use Rattle.msi_directory.specs.Deeds.{IsAnswered, IsServed, request_deed, response_deed};
 ghost use Rattle.msi_directory.specs.Entries.{entry_after_request, entry_after_response, has_request_row};
 ghost use Rattle.msi_directory.specs.Entries.{has_response_row};
 ghost use Rattle.msi_directory.specs.Fitting.{stage_fits};
@@ -163,13 +161,7 @@ impl<R: Rider> Home<R> {
         requires room { IsTrue (has_room self.old.rooms (request_block request)) }
         requires row { IsTrue (has_request_row
             (entry_at R.riding.fresh self.old.entries (request_block request)).stage from request) }
-        ensures blocks { self.new ≡ record self.old {
-          entries =
-              entries_after_request R.riding self.old.entries from request;
-        } }
-        ensures elsewhere { SameElsewhere R.riding.fresh self.old.entries self.new.entries (request_block request) }
-        ensures answer { result ≡ answer_to_request R.riding.absorbed
-            (entry_at R.riding.fresh self.old.entries (request_block request)) from request }
+        ensures { IsAnswered R.riding.fresh (request_deed R.riding from request) self.old self.new result }
     {
         let place = self.kept.find(request.block());
         let lent = request.lent();
@@ -200,13 +192,7 @@ impl<R: Rider> Home<R> {
         requires within { response_block response < length self.old.entries }
         requires row { IsTrue (has_response_row
             (entry_at R.riding.fresh self.old.entries (response_block response)).stage from response) }
-        ensures blocks { self.new ≡ record self.old {
-          entries =
-              entries_after_response R.riding self.old.entries from response;
-        } }
-        ensures elsewhere { SameElsewhere R.riding.fresh self.old.entries self.new.entries (response_block response) }
-        ensures answer { result ≡ answer_to_response R.riding.absorbed
-            (entry_at R.riding.fresh self.old.entries (response_block response)) from response }
+        ensures { IsAnswered R.riding.fresh (response_deed R.riding from response) self.old self.new result }
     {
         let place = self.kept.find(response.block());
         self.mail.put(response.lent());

@@ -4,9 +4,10 @@ ghost use Rattle.msi_cache.specs.Messages.{request_seen};
 ghost use Rattle.msi_cache.specs.Table.{Ask, Reply};
 ghost use Rattle.msi_cache.specs.declared.messages.FromHome.{FromHome};
 ghost use Rattle.msi_cache.specs.declared.messages.Request.{Request};
-ghost use Rattle.msi_directory.specs.Entries.{answer_by, answer_riding, answer_to_request, answer_to_response};
-ghost use Rattle.msi_directory.specs.Entries.{entry_after_request, entry_after_response, entry_by, entry_left};
-ghost use Rattle.msi_directory.specs.Entries.{entry_met, has_request_row, has_response_row};
+ghost use Rattle.msi_directory.specs.Deeds.{IsDoneTo, request_deed, response_deed, row_deed};
+ghost use Rattle.msi_directory.specs.Entries.{answer_by, answer_riding, answer_to_request};
+ghost use Rattle.msi_directory.specs.Entries.{entry_after_request, entry_by, entry_met, has_request_row};
+ghost use Rattle.msi_directory.specs.Entries.{has_response_row};
 ghost use Rattle.msi_directory.specs.Fitting.{stage_fits};
 ghost use Rattle.msi_directory.specs.Kept.{entry_of};
 ghost use Rattle.msi_directory.specs.Table.{own_from, request_row, response_row};
@@ -47,10 +48,8 @@ impl<R: Rider> HomeCopy<R> {
     ) -> HomeAnswer<()>
         requires from { from < CORES_MAX }
         requires row { IsTrue (has_request_row stage.old from (request_seen request)) }
-        ensures entry { entry_of stage.new self.new
-            ≡ entry_after_request R.riding (entry_of stage.old self.old) from (request_seen request.entry) }
-        ensures answer { answer_riding hand.new result
-            ≡ answer_to_request R.riding.absorbed (entry_of stage.old self.old) from (request_seen request.entry) }
+        ensures { IsDoneTo (request_deed R.riding from (request_seen request.entry)) (entry_of stage.old self.old)
+            (entry_of stage.new self.new) hand.new result }
     {
         match request {
             Request::GetS { block } => self.get_shared(stage, About { from, block }, hand),
@@ -76,10 +75,8 @@ impl<R: Rider> HomeCopy<R> {
         requires from { from < CORES_MAX }
         requires fits { IsTrue (stage_fits stage.old) }
         requires row { IsTrue (has_response_row stage.old from response.old) }
-        ensures entry { entry_of stage.new self.new
-            ≡ entry_after_response R.riding (entry_of stage.old self.old) from response.old }
-        ensures answer { answer_riding hand.new result
-            ≡ answer_to_response R.riding.absorbed (entry_of stage.old self.old) from response.old }
+        ensures { IsDoneTo (response_deed R.riding from response.old) (entry_of stage.old self.old)
+            (entry_of stage.new self.new) hand.new result }
     {
         match response.open() {
             Response::InvAck {
@@ -100,10 +97,8 @@ impl<R: Rider> HomeCopy<R> {
     fn get_shared(&mut self, stage: &mut Stage, about: About, hand: &mut Held<R>) -> HomeAnswer<()>
         requires from { about.from < CORES_MAX }
         requires row { IsTrue (is_some (request_row stage.old about.from Ask.GetS)) }
-        ensures entry { entry_of stage.new self.new
-            ≡ entry_after_request R.riding (entry_of stage.old self.old) about.from (Request.GetS about.block) }
-        ensures answer { answer_riding hand.new result
-            ≡ answer_to_request R.riding.absorbed (entry_of stage.old self.old) about.from (Request.GetS about.block) }
+        ensures { IsDoneTo (request_deed R.riding about.from (Request.GetS about.block)) (entry_of stage.old self.old)
+            (entry_of stage.new self.new) hand.new result }
     {
         match *stage {
             Stage::Owned { owner } => ask_owner(stage, owner, about, true),
@@ -126,10 +121,8 @@ impl<R: Rider> HomeCopy<R> {
     fn get_owned(&mut self, stage: &mut Stage, about: About, hand: &mut Held<R>) -> HomeAnswer<()>
         requires from { about.from < CORES_MAX }
         requires row { IsTrue (is_some (request_row stage.old about.from Ask.GetM)) }
-        ensures entry { entry_of stage.new self.new
-            ≡ entry_after_request R.riding (entry_of stage.old self.old) about.from (Request.GetM about.block) }
-        ensures answer { answer_riding hand.new result
-            ≡ answer_to_request R.riding.absorbed (entry_of stage.old self.old) about.from (Request.GetM about.block) }
+        ensures { IsDoneTo (request_deed R.riding about.from (Request.GetM about.block)) (entry_of stage.old self.old)
+            (entry_of stage.new self.new) hand.new result }
     {
         match *stage {
             Stage::Owned { owner } => ask_owner(stage, owner, about, false),
@@ -226,13 +219,8 @@ impl<R: Rider> HomeCopy<R> {
     fn acknowledge(&mut self, stage: &mut Stage, about: About, hand: &mut Held<R>) -> HomeAnswer<()>
         requires from { about.from < CORES_MAX }
         requires row { IsTrue (is_some (response_row stage.old about.from Reply.InvAck)) }
-        ensures entry { entry_of stage.new self.new ≡ entry_left R.riding.fresh
-            (response_row stage.old about.from Reply.InvAck) (entry_met (λ old other. old)
-            (response_row stage.old about.from Reply.InvAck) (entry_of stage.old self.old) self.old.words
-            self.old.rider) }
-        ensures answer { answer_riding hand.new result ≡ answer_by (response_row stage.old about.from Reply.InvAck)
-            about.block (entry_met (λ old other. old) (response_row stage.old about.from Reply.InvAck)
-            (entry_of stage.old self.old) self.old.words self.old.rider) }
+        ensures { IsDoneTo (row_deed R.riding.fresh (λ at. response_row at about.from Reply.InvAck) about.block)
+            (entry_of stage.old self.old) (entry_of stage.new self.new) hand.new result }
     {
         let Stage::Acks { of, requester } = *stage else {
             return HomeAnswer::nothing();
@@ -254,13 +242,8 @@ impl<R: Rider> HomeCopy<R> {
         requires from { about.from < CORES_MAX }
         requires fits { IsTrue (stage_fits stage.old) }
         requires row { IsTrue (is_some (response_row stage.old about.from Reply.OwnerData)) }
-        ensures entry { entry_of stage.new self.new ≡ entry_left R.riding.fresh
-            (response_row stage.old about.from Reply.OwnerData) (entry_met (λ old other. old)
-            (response_row stage.old about.from Reply.OwnerData) (entry_of stage.old self.old) self.old.words
-            self.old.rider) }
-        ensures answer { answer_riding hand.new result ≡ answer_by (response_row stage.old about.from Reply.OwnerData)
-            about.block (entry_met (λ old other. old) (response_row stage.old about.from Reply.OwnerData)
-            (entry_of stage.old self.old) self.old.words self.old.rider) }
+        ensures { IsDoneTo (row_deed R.riding.fresh (λ at. response_row at about.from Reply.OwnerData) about.block)
+            (entry_of stage.old self.old) (entry_of stage.new self.new) hand.new result }
     {
         let Stage::Data {
             requester,

@@ -82,14 +82,14 @@ module _ {R K : Type 0} (fresh : R) (carrying : Carrying K) (done : Deed R) (sen
       }) new.rooms old.rooms (IsTurn done.block (done.answer (entry_at fresh old.entries done.block))) turn
   turned ports taken at within =
       let kept : new.entries ≡ slice_set old.entries done.block (done.after (entry_at fresh old.entries done.block)) =
-      ap (λ (b : Blocks R). b.entries) is.served.blocks in
+      ap (λ (b : Blocks R). b.entries) is.served.home.blocks in
       record {
         memory = same_memory carrying ports taken (answer_riding hand turn.answer)
             (done.answer (entry_at fresh old.entries done.block)) turn.block done.block after
-            (carrying.joined before sender) new.entries _ at is.served.answer is.block is.joined kept;
-        rooms = ap (λ (b : Blocks R). b.rooms) is.served.blocks;
+            (carrying.joined before sender) new.entries _ at is.served.home.answer is.block is.joined kept;
+        rooms = ap (λ (b : Blocks R). b.rooms) is.served.home.blocks;
         turn = turn_is hand (done.answer (entry_at fresh old.entries done.block)) done.block turn is.block
-            is.served.answer;
+            is.served.home.answer;
         free = frees fresh old.entries new.entries done.block turn.block
             (done.after (entry_at fresh old.entries done.block)) turn.free within is.block kept is.served.free;
       }
@@ -185,7 +185,7 @@ module _ {T R K : Type 0} {riding : Riding R} {carrying : Carrying K} {does : T 
       HasRoomTo carrying answer s.memory.ports → CanDeliver carrying (answer_riding hand turn.answer) told
   sends same few names room =
       deliverable carrying (answer_riding hand turn.answer) answer ports told c (with_link port left)
-      (done.served.answer ∙ sym first.answers) (at_start (λ x. length x.memory.ports ≤ CORES_MAX) few)
+      (done.served.home.answer ∙ sym first.answers) (at_start (λ x. length x.memory.ports ≤ CORES_MAX) few)
       (at_start (λ x. HasRoomTo carrying answer x.memory.ports) room)
       (first.to (at_start (λ x. NamesFit x.memory) names) (at_start (λ x. c < length x.memory.ports) here)) at
       (same ∙ ap (λ (p : Port R K). p.messages) found_there)
