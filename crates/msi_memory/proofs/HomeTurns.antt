@@ -16,7 +16,7 @@ use Rattle.msi_directory.specs.Deeds.{Deed, request_deed, response_deed}
 use Rattle.msi_directory.specs.Entries.{answer_riding}
 use Rattle.msi_directory.specs.Table.{is_free}
 use Rattle.msi_directory.specs.declared.entry.HomeAnswer.{HomeAnswer}
-use Rattle.msi_memory.specs.Acts.{delivered, take_request_in, take_response_in}
+use Rattle.msi_memory.specs.Acts.{delivered, take_in, take_request_in, take_response_in}
 use Rattle.msi_memory.specs.Heads.{OfHead}
 use Rattle.msi_memory.specs.Memories.{Memory, System, no_port, port_at}
 use Rattle.msi_memory.specs.Rests.{HasRoomTo, NamesFit, can_request_in, can_respond_in, request_answer_in}
@@ -107,15 +107,7 @@ module _ {T R K : Type 0} (riding : Riding R) (carrying : Carrying K) (does : T 
 
   -- the memory system once the home took the message, behind which these lie
   abbrev taken : Mail T K → List (Mail T K) → Memory R K → Memory R K
-  taken mail rest m =
-      let done : Deed R = does mail.item in
-      let carry : K = carrying.joined m.carry mail.carry in
-      record {
-        ports = delivered carrying (said mail.item m) done.block carry
-            (slice_set m.ports c (port_left (port_at carrying m.ports c) rest));
-        home = slice_set m.home done.block (done.after (entry_at riding.fresh m.home done.block));
-        carry = carry;
-      }
+  taken mail rest m = take_in (λ core message. does message) port_left (mail ∷ rest) riding carrying m c
 
   -- one of these is the oldest; the act with it leads to next, is answered so, and tells so
   pub record HasOldest (m : Memory R K) (items : List (Mail T K)) (next : Memory R K) (answer : HomeAnswer R)

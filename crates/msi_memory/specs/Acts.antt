@@ -15,14 +15,14 @@ use Rattle.msi_cache.specs.declared.messages.FromHome.{FromHome}
 use Rattle.msi_cache.specs.declared.messages.FromHome.TheVariants.{BlockData, Inv}
 use Rattle.msi_cache.specs.declared.messages.Response.{Response}
 use Rattle.msi_cache.specs.declared.messages.Request.{Request}
-use Rattle.msi_cache.specs.Messages.{block_of, request_block, response_block}
+use Rattle.msi_cache.specs.Messages.{block_of, request_block}
 use Rattle.msi_cache.specs.Lines.{line_for, lines_put, lines_riding, lines_after, lines_asking, asks, answer}
 use Rattle.msi_cache.specs.Lines.{is_allowed, waits}
 use Rattle.msi_directory.specs.declared.entry.HomeAnswer.{HomeAnswer}
 use Rattle.msi_directory.specs.declared.entry.Entry.{Entry}
 use Rattle.msi_directory.specs.Table.{is_free}
-use Rattle.msi_directory.specs.Entries.{answer_to_request, answer_to_response}
-use Rattle.msi_directory.specs.Blocks.{entry_at, entries_after_request, entries_after_response}
+use Rattle.msi_directory.specs.Blocks.{entry_at}
+use Rattle.msi_directory.specs.Deeds.{Deed, request_deed, response_deed}
 use Rattle.msi_memory.specs.declared.port.Mail.{Mail}
 use Rattle.msi_memory.specs.declared.port.Port.{Port}
 use Rattle.msi_memory.specs.Memories.{Memory, port_at}
@@ -154,36 +154,31 @@ module _ {R K : Type 0} where
       let p = port_at carrying m.ports c in
       with_port m c (port_taking riding carrying p p.messages.items)
 
-  -- the home takes the oldest of these requests of core c
-  abbrev pub take_request_in : List (Mail (Request R) K) → Riding R → Carrying K → Memory R K → ℕ → Memory R K
-  take_request_in [] riding carrying m c = m
-  take_request_in (mail ∷ rest) riding carrying m c =
+  -- the home takes the oldest of these messages of core c: it does this, and its port is left so
+  abbrev pub take_in : {T : Type 0} → (ℕ → T → Deed R) → (Port R K → List (Mail T K) → Port R K) → List (Mail T K) →
+      Riding R → Carrying K → Memory R K → ℕ → Memory R K
+  take_in does left [] riding carrying m c = m
+  take_in does left (mail ∷ rest) riding carrying m c =
       let carry = carrying.joined m.carry mail.carry in
-      let block = request_block mail.item in
-      let answer = answer_to_request riding.absorbed (entry_at riding.fresh m.home block) c mail.item in
-      let ports = slice_set m.ports c (port_requested (port_at carrying m.ports c) rest) in
+      let done = does c mail.item in
+      let entry = entry_at riding.fresh m.home done.block in
+      let ports = slice_set m.ports c (left (port_at carrying m.ports c) rest) in
       record {
-        ports = delivered carrying answer block carry ports;
-        home = entries_after_request riding m.home c mail.item;
+        ports = delivered carrying (done.answer entry) done.block carry ports;
+        home = slice_set m.home done.block (done.after entry);
         carry = carry;
       }
+
+  -- the home takes the oldest of these requests of core c
+  abbrev pub take_request_in : List (Mail (Request R) K) → Riding R → Carrying K → Memory R K → ℕ → Memory R K
+  take_request_in items riding = take_in (request_deed riding) port_requested items riding
 
   abbrev pub take_request : Riding R → Carrying K → Memory R K → ℕ → Memory R K
   take_request riding carrying m c = take_request_in (port_at carrying m.ports c).requests.items riding carrying m c
 
   -- the home takes the oldest of these responses of core c
   abbrev pub take_response_in : List (Mail (Response R) K) → Riding R → Carrying K → Memory R K → ℕ → Memory R K
-  take_response_in [] riding carrying m c = m
-  take_response_in (mail ∷ rest) riding carrying m c =
-      let carry = carrying.joined m.carry mail.carry in
-      let block = response_block mail.item in
-      let answer = answer_to_response riding.absorbed (entry_at riding.fresh m.home block) c mail.item in
-      let ports = slice_set m.ports c (port_responded (port_at carrying m.ports c) rest) in
-      record {
-        ports = delivered carrying answer block carry ports;
-        home = entries_after_response riding m.home c mail.item;
-        carry = carry;
-      }
+  take_response_in items riding = take_in (response_deed riding) port_responded items riding
 
   abbrev pub take_response : Riding R → Carrying K → Memory R K → ℕ → Memory R K
   take_response riding carrying m c = take_response_in (port_at carrying m.ports c).responses.items riding carrying m c
