@@ -82,21 +82,27 @@ want_row S false writes = asking PutS SiA
 want_row M false writes = asking PutM MiA
 want_row _ _ _ = None
 
--- the line's copy may be read
+-- what a line's state tells of it: its copy may be read, its copy may be written, and it waits for a message from home
+pub record Standing : Type 0 where
+  pub reads : Bool
+  pub writes : Bool
+  pub waits : Bool
+
+abbrev pub stands : Bool → Bool → Bool → Standing
+stands reads writes waits = record { reads = reads; writes = writes; waits = waits }
+
+abbrev pub standing : State → Standing
+standing I = stands false false false
+standing S = stands true false false
+standing M = stands true true false
+standing SmD = stands true false true
+standing _ = stands false false true
+
 abbrev pub is_readable : State → Bool
-is_readable S = true
-is_readable M = true
-is_readable SmD = true
-is_readable _ = false
+is_readable state = (standing state).reads
 
--- the line's copy may be written
 abbrev pub is_writable : State → Bool
-is_writable M = true
-is_writable _ = false
+is_writable state = (standing state).writes
 
--- the line waits for a message from home
 abbrev pub is_transient : State → Bool
-is_transient I = false
-is_transient S = false
-is_transient M = false
-is_transient _ = true
+is_transient state = (standing state).waits
