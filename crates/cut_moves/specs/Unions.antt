@@ -1,5 +1,5 @@
 -- The union and the intersection of two cuts.
-use Rattle.std.specs.Prelude.{map, max, min}
+use Rattle.std.specs.Prelude.{Bool, ℕ, false, map, max, min, true}
 use Rattle.std.specs.List.{range_with_len}
 use Rattle.rtr_types.specs.declared.TheConstants.{CORES_MAX}
 use Rattle.rtr_types.specs.declared.cut.Cut.{Cut}
@@ -7,19 +7,25 @@ use Rattle.rtr_types.specs.declared.pairs.Which.{Which}
 use Rattle.race_log.specs.declared.recording.Recording.{Recording}
 use Rattle.cut_replay.specs.ClosedCuts.{count_in, IsClosed, IsContained, IsCutOf}
 
+-- of each core what its two counts come to
+abbrev pub merged_by : (ℕ → ℕ → ℕ) → Cut → Cut → Cut
+merged_by to cut other = record {
+  cores = cut.cores;
+  counts = map (λ core. to (count_in cut core) (count_in other core)) (range_with_len 0 CORES_MAX);
+}
+
 -- of each core the greater of the two counts
 abbrev pub union_of : Cut → Cut → Cut
-union_of cut other = record {
-  cores = cut.cores;
-  counts = map (λ core. max (count_in cut core) (count_in other core)) (range_with_len 0 CORES_MAX);
-}
+union_of cut other = merged_by max cut other
 
 -- of each core the lesser of the two counts
 abbrev pub intersection_of : Cut → Cut → Cut
-intersection_of cut other = record {
-  cores = cut.cores;
-  counts = map (λ core. min (count_in cut core) (count_in other core)) (range_with_len 0 CORES_MAX);
-}
+intersection_of cut other = merged_by min cut other
+
+-- the greater of two counts, or the lesser
+abbrev pub chosen : Bool → ℕ → ℕ → ℕ
+chosen true x y = max x y
+chosen false x y = min x y
 
 -- ---- laws
 
