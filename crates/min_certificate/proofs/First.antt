@@ -23,13 +23,19 @@ use Rattle.certificate_codec.specs.Ends.{reduced_edges, IsWithin}
 use Rattle.certificate_codec.proofs.Marks.{one_more}
 use Rattle.min_certificate.specs.Places.{IsGoodIn}
 use Rattle.min_certificate.specs.Firsts.{FailsFirst, IsFirstBadOf, AreGoodOf}
-use Rattle.min_certificate.specs.Sound.{IsEdge}
 use Rattle.min_certificate.proofs.Shown.{end_within}
 
 -- ---- edges
 
 abbrev pub no_edge : Edge
 no_edge = record { from = record { core = 0; count = 0 }; to = record { core = 0; count = 0 } }
+
+-- an edge of the log, with what its ends are
+pub record IsEdge (r : Recording) (x y : Instr) : Type 0 where
+  pub edge : Among (reduced_edges r) x y
+  pub source_within : IsWithin r x
+  pub within : IsWithin r y
+  pub some : 1 ≤ y.count
 
 pub edge_at : {r : Recording} {edges : List Edge} {i : ℕ} (d : Edge) → Valid r → edges ≡ reduced_edges r →
     i < length edges → IsEdge r (get_or edges i d).from (get_or edges i d).to

@@ -9,7 +9,7 @@ ghost use Rattle.certificate_codec.specs.Ends.{reduced_edges, IsWithin};
 ghost use Rattle.min_certificate.specs.Places.{IsSourceBelow, AreSourcesBelow, IsUnknownThere, IsUnknownByOthers};
 ghost use Rattle.min_certificate.specs.Places.{IsGoodIn, IsNeededIn, AreAllBelow};
 ghost use Rattle.min_certificate.specs.Firsts.{FirstWithout, FirstBadOf, FirstBad};
-ghost use Rattle.min_certificate.specs.Sound.{IsEdge, IsSound};
+ghost use Rattle.min_certificate.specs.Sound.{IsSound};
 
 use crate::core_accesses::CoreAccesses;
 use crate::places::{entry_at, is_below, is_below_but, place};
@@ -238,7 +238,8 @@ impl<'a> Entries<'a> {
 
     /// The same for all other logged sources. On the core of the edge's source there is no other.
     fn is_unknown_by_others(&self, edge: Edge, near: &mut [usize; PLACES]) -> bool
-        requires { IsEdge self.now.recording edge.from edge.to }
+        requires within { IsWithin self.now.recording edge.to }
+        requires edge { Among (reduced_edges self.now.recording) edge.from edge.to }
         ensures { IsTrue result ↔ IsUnknownByOthers self.now edge.from edge.to }
     {
         for of in 0..self.cores() {
@@ -257,7 +258,9 @@ impl<'a> Entries<'a> {
     /// another logged source of the target knows its source. The number of that entry and those sources are
     /// looked for from the ones that were found last.
     fn is_needed(&self, edge: Edge, number: &mut usize, near: &mut [usize; PLACES]) -> bool
-        requires { IsEdge self.now.recording edge.from edge.to }
+        requires within { IsWithin self.now.recording edge.to }
+        requires edge { Among (reduced_edges self.now.recording) edge.from edge.to }
+        requires some { 1 ≤ edge.to.count }
         ensures { IsTrue result ↔ IsNeededIn self.now edge.from edge.to }
     {
         let before = Instr {

@@ -7,7 +7,9 @@ use Rattle.min_certificate.proofs.First.{no_edge, edge_at, fails_first, holds_mo
 use Rattle.min_certificate.proofs.entries.Entries.first_not_needed.Goals as goal
 
 pub is_needed-requires : goal.is_needed-requires
-is_needed-requires c = edge_at _ c.edges-edge-items.ensures.valid c.edges-edge-items.ensures.edges c.loop-edge-test.true
+is_needed-requires c =
+    let e = edge_at _ c.edges-edge-items.ensures.valid c.edges-edge-items.ensures.edges c.loop-edge-test.true in
+    record { within = e.within; edge = e.edge; some = e.some }
 
 pub returns-then-not-is_needed : goal.returns-then-not-is_needed
 returns-then-not-is_needed c =
