@@ -5,6 +5,7 @@ pub mod Merges
 pub mod Ordered
 pub mod NextEdges
 pub mod FieldLaws
+pub mod Counted
 pub mod Logs
 pub mod ReducedLaws
 pub mod Written

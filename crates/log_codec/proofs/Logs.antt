@@ -10,7 +10,7 @@ use Rattle.log_codec.specs.declared.codec_fault.TheConstants.{REDUCED, REGULATED
 use Rattle.log_codec.specs.Faults.{◌>>=◌}
 use Rattle.log_codec.specs.Laws.{IsBytes}
 use Rattle.rtr_types.specs.Turns.{follow}
-use Rattle.log_codec.specs.Turns.{alike, read_in_turn, spelled_in_turn}
+use Rattle.log_codec.specs.Turns.{alike}
 use Rattle.rtr_types.specs.PairEdges.{EdgeStands, AreEdges}
 use Rattle.race_log.specs.Validity.{VectorStands, AreVectors, end_of, vector_stands}
 use Rattle.log_codec.specs.Spelling.{number, edge_text, edges_text, strides_text, vector_text, vectors_text}
@@ -18,7 +18,7 @@ use Rattle.log_codec.specs.Reading.{number_at, edge_at, edges_at, two_strides, s
 use Rattle.log_codec.specs.Reading.{vectors_at}
 use Rattle.log_codec.proofs.Steps.{bind_ok, guard_ok, ok_is, Takes, Takes-then, Takes-none}
 use Rattle.log_codec.proofs.FieldLaws.{number_takes, number_again}
-use Rattle.log_codec.proofs.InTurn.{turns_take, turns_again}
+use Rattle.log_codec.proofs.Counted.{counted_again, counted_takes}
 use Rattle.race_log.proofs.Logs.{StridesStand, few_edges, few_vectors}
 use Rattle.race_log.proofs.Logs.{true-vector}
 use Rattle.race_log.proofs.Logs.{vector-true, vector_small}
@@ -100,35 +100,20 @@ edge_again most last e rest fits_a fits_b stands =
 
 -- ---- the edges of a pair
 
-pub edges_take : (place : ℕ) (most : ℕ × ℕ) (bytes : List ℕ) (edges : List (ℕ × ℕ)) (rest : List ℕ) → IsBytes bytes →
+pub edges_take : (most : ℕ × ℕ) (bytes : List ℕ) (edges : List (ℕ × ℕ)) (rest : List ℕ) → IsBytes bytes →
     edges_at most bytes ≡ Ok (edges, rest) →
     Takes bytes (edges_text edges) rest × AreEdges most edges
 unfolding edges_at
-edges_take place most bytes edges rest are h =
-    let p = bind_ok (number_at REDUCED bytes) (λ count. read_in_turn (edge_at most) follow count.0 (0, 0) count.1)
-    (edges, rest) h in
-    let n = p.0 in
-    let t = number_takes REDUCED bytes n.0 n.1 are p.1 in
-    let items = turns_take (edge_at most) follow edge_text (EdgeStands most) (λ s b x r. edge_takes most s b x r) n.0
-    (0, 0) n.1 edges rest t.0.rest_fits p.2 in
-    let both = Takes-then bytes (number n.0) n.1 (spelled_in_turn edge_text follow (0, 0) edges) rest t.0 items.0 in (
-      subst (λ (k : ℕ). Takes bytes (number k ++ spelled_in_turn edge_text follow (0, 0) edges) rest)
-          (sym items.1) both,
-      items.2,
-    )
+edges_take most = counted_takes (edge_at most) follow edge_text (EdgeStands most) (edge_takes most) REDUCED (0, 0)
 
-pub edges_again : (place : ℕ) (most : ℕ × ℕ) (edges : List (ℕ × ℕ)) (rest : List ℕ) → most.0 < 2 ^ 32 →
-    most.1 < 2 ^ 32 → AreEdges most edges →
+pub edges_again : (most : ℕ × ℕ) (edges : List (ℕ × ℕ)) (rest : List ℕ) → most.0 < 2 ^ 32 → most.1 < 2 ^ 32 →
+    AreEdges most edges →
     edges_at most (edges_text edges ++ rest) ≡ Ok (edges, rest)
 unfolding edges_at
-edges_again place most edges rest fits_a fits_b h =
+edges_again most edges rest fits_a fits_b h =
     let few = few_edges most edges h in
-    let items = turns_again (edge_at most) follow edge_text (EdgeStands most)
-    (λ s x r stands. edge_again most s x r fits_a fits_b stands)
-    (0, 0) edges rest h in
-    ap (edges_at most) (append_assoc (number (length edges)) (spelled_in_turn edge_text follow (0, 0) edges) rest)
-    ∙ rw (number_again REDUCED (length edges) (spelled_in_turn edge_text follow (0, 0) edges ++ rest) (omega arith))
-    items
+    counted_again (edge_at most) follow edge_text (EdgeStands most)
+    (λ s x r stands. edge_again most s x r fits_a fits_b stands) REDUCED (0, 0) edges rest (omega arith) h
 
 -- ---- a vector
 
@@ -227,35 +212,17 @@ vector_again most last v rest fits_a fits_b h =
 
 -- ---- the vectors of a pair
 
-pub vectors_take : (place : ℕ) (most : ℕ × ℕ) (bytes : List ℕ) (vectors : List StrideVector) (rest : List ℕ) →
-    IsBytes bytes →
+pub vectors_take : (most : ℕ × ℕ) (bytes : List ℕ) (vectors : List StrideVector) (rest : List ℕ) → IsBytes bytes →
     vectors_at most bytes ≡ Ok (vectors, rest) → Takes bytes (vectors_text vectors) rest × AreVectors most vectors
 unfolding vectors_at
-vectors_take place most bytes vectors rest are h =
-    let p = bind_ok (number_at REGULATED bytes) (λ count. read_in_turn (vector_at most) end_of count.0 (0, 0) count.1)
-    (vectors, rest) h in
-    let n = p.0 in
-    let t = number_takes REGULATED bytes n.0 n.1 are p.1 in
-    let items = turns_take (vector_at most) end_of (alike vector_text) (VectorStands most)
-    (λ s b x r. vector_takes most s b x r) n.0
-    (0, 0) n.1 vectors rest t.0.rest_fits p.2 in
-    let both = Takes-then bytes (number n.0) n.1 (spelled_in_turn (alike vector_text) end_of (0, 0) vectors) rest t.0
-    items.0 in (
-      subst (λ (k : ℕ). Takes bytes (number k ++ spelled_in_turn (alike vector_text) end_of (0, 0) vectors) rest)
-          (sym items.1) both,
-      items.2,
-    )
+vectors_take most =
+    counted_takes (vector_at most) end_of (alike vector_text) (VectorStands most) (vector_takes most) REGULATED (0, 0)
 
-pub vectors_again : (place : ℕ) (most : ℕ × ℕ) (vectors : List StrideVector) (rest : List ℕ) → most.0 < 2 ^ 32 →
+pub vectors_again : (most : ℕ × ℕ) (vectors : List StrideVector) (rest : List ℕ) → most.0 < 2 ^ 32 →
     most.1 < 2 ^ 32 → AreVectors most vectors →
     vectors_at most (vectors_text vectors ++ rest) ≡ Ok (vectors, rest)
 unfolding vectors_at
-vectors_again place most vectors rest fits_a fits_b h =
+vectors_again most vectors rest fits_a fits_b h =
     let few = few_vectors most vectors h in
-    let items = turns_again (vector_at most) end_of (alike vector_text) (VectorStands most)
-    (λ s x r stands. vector_again most s x r fits_a fits_b stands)
-    (0, 0) vectors rest h in
-    ap (vectors_at most) (append_assoc (number (length vectors))
-    (spelled_in_turn (alike vector_text) end_of (0, 0) vectors) rest)
-    ∙ rw (number_again REGULATED (length vectors) (spelled_in_turn (alike vector_text) end_of (0, 0) vectors ++ rest)
-    (omega arith)) items
+    counted_again (vector_at most) end_of (alike vector_text) (VectorStands most)
+    (λ s x r stands. vector_again most s x r fits_a fits_b stands) REGULATED (0, 0) vectors rest (omega arith) h

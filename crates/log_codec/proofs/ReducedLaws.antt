@@ -27,6 +27,7 @@ use Rattle.log_codec.specs.Spelling.{number, edges_text, incoming_text, into_tex
 use Rattle.log_codec.specs.Spelling.{reduced_text}
 use Rattle.log_codec.specs.Reading.{number_at, edges_at, incoming_at, into_at, pairs_at, reduced_at, standing_into}
 use Rattle.log_codec.specs.Reading.{targets_at}
+use Rattle.log_codec.proofs.Counted.{counted_again, counted_takes, pair_by_pair_again}
 use Rattle.log_codec.proofs.FieldLaws.{number_takes, number_again}
 use Rattle.log_codec.proofs.InTurn.{turns_take, turns_again}
 use Rattle.race_log.proofs.InTurn.{stand-map, stand-places, places-stand}
@@ -37,7 +38,7 @@ use Rattle.log_codec.proofs.Ordered.{InOrder, ReachesAll, last_counts, rises-tur
 use Rattle.log_codec.proofs.Ordered.{from-none, bounded, rises-of}
 use Rattle.log_codec.proofs.Ordered.{length-joined}
 use Rattle.log_codec.proofs.Steps.{bind_ok, guard_ok, ok_is, Takes, Takes-then}
-use Rattle.race_log.proofs.Parts.{AllEdges, AllStand, all-placed, bound-small, placed-all}
+use Rattle.race_log.proofs.Parts.{AllEdges, AllStand, all-placed, placed-all}
 use Rattle.race_log.proofs.Parts.{total-small}
 
 -- ---- pair by pair
@@ -48,19 +49,13 @@ pairs_take : (totals bytes : List ℕ) (reduced : List (List (ℕ × ℕ))) (res
 pairs_take totals bytes reduced rest are e =
     turns_take (λ place. edges_at (bound_at totals place)) count_up (alike edges_text)
     (λ place es. AreEdges (bound_at totals place) es)
-    (λ s b x r. edges_take s (bound_at totals s) b x r) (pair_count (length totals)) 0 bytes reduced rest are e
+    (λ place. edges_take (bound_at totals place)) (pair_count (length totals)) 0 bytes reduced rest are e
 
 pairs_again : (limit : ℕ) (totals : List ℕ) (reduced : List (List (ℕ × ℕ))) (rest : List ℕ) → limit < 2 ^ 32 →
     All (λ t. t ≤ limit) totals →
     length reduced ≡ pair_count (length totals) → AllStand totals reduced →
     pairs_at totals (pairs_text reduced ++ rest) ≡ Ok (reduced, rest)
-pairs_again limit totals reduced rest small most long h =
-    let again = turns_again (λ place. edges_at (bound_at totals place)) count_up (alike edges_text)
-    (λ place es. AreEdges (bound_at totals place) es)
-    (λ s x r stands. let b = bound-small limit totals s small most in
-    edges_again s (bound_at totals s) x r b.source b.target stands) 0 reduced rest h in
-    subst (λ (n : ℕ). read_in_turn (λ place. edges_at (bound_at totals place)) count_up n 0 (pairs_text reduced ++ rest)
-    ≡ Ok (reduced, rest)) long again
+pairs_again = pair_by_pair_again edges_at edges_text AreEdges edges_again
 
 -- ---- an edge into a core
 
@@ -199,18 +194,9 @@ into_takes : (totals : List ℕ) (target : ℕ) (bytes : List ℕ) (edges : List
     ≡ Ok (edges, rest) →
     Takes bytes (into_text edges) rest × StandInTurn (IncomingStands totals target) remember [] edges
 unfolding into_at
-into_takes totals target bytes edges rest are h =
-    let n = bind_ok (number_at REDUCED bytes)
-    (λ count. read_in_turn (incoming_at totals target) remember count.0 [] count.1) (edges, rest) h in
-    let t = number_takes REDUCED bytes n.0.0 n.0.1 are n.1 in
-    let items = turns_take (incoming_at totals target) remember incoming_text (IncomingStands totals target)
-    (λ s b x r. incoming_takes totals target s b x r) n.0.0 [] n.0.1 edges rest t.0.rest_fits n.2 in
-    let both = Takes-then bytes (number n.0.0) n.0.1 (spelled_in_turn incoming_text remember [] edges) rest t.0 items.0
-    in (
-      subst (λ (k : ℕ). Takes bytes (number k ++ spelled_in_turn incoming_text remember [] edges) rest) (sym items.1)
-          both,
-      items.2,
-    )
+into_takes totals target =
+    counted_takes (incoming_at totals target) remember incoming_text (IncomingStands totals target)
+    (incoming_takes totals target) REDUCED []
 
 into_again : (totals : List ℕ) (target : ℕ) (edges : List Incoming) (rest : List ℕ) → length totals < 2 ^ 32 →
     ((j : ℕ) → slice_index totals j < 2 ^ 32) →
@@ -218,11 +204,8 @@ into_again : (totals : List ℕ) (target : ℕ) (edges : List Incoming) (rest : 
     into_at totals target (into_text edges ++ rest) ≡ Ok (edges, rest)
 unfolding into_at
 into_again totals target edges rest few small fits h =
-    let items = turns_again (incoming_at totals target) remember incoming_text (IncomingStands totals target)
-    (λ s x r stands. incoming_again totals target s x r few small stands) [] edges rest h in
-    ap (into_at totals target)
-    (append_assoc (number (length edges)) (spelled_in_turn incoming_text remember [] edges) rest)
-    ∙ rw (number_again REDUCED (length edges) (spelled_in_turn incoming_text remember [] edges ++ rest) fits) items
+    counted_again (incoming_at totals target) remember incoming_text (IncomingStands totals target)
+    (λ s x r stands. incoming_again totals target s x r few small stands) REDUCED [] edges rest fits h
 
 -- ---- the lists of the pairs, and the edges into each core
 

@@ -12,7 +12,7 @@ use Rattle.race_log.specs.declared.recording.Recording.{Recording}
 use Rattle.log_codec.specs.declared.codec_fault.CodecFault.{CodecFault}
 use Rattle.log_codec.specs.Faults.{◌>>=◌, Fails}
 use Rattle.rtr_types.specs.Turns.{StandInTurn, stay, count_up}
-use Rattle.log_codec.specs.Turns.{alike, read_in_turn}
+use Rattle.log_codec.specs.Turns.{alike}
 use Rattle.log_codec.specs.declared.version.Version.{Version}
 use Rattle.log_codec.specs.declared.version.Version.TheVariants.{One, Two}
 use Rattle.log_codec.specs.Incoming.{IncomingStands, incoming_edges, remember}
@@ -31,10 +31,10 @@ use Rattle.log_codec.proofs.Wholes.{front_read, one_front, read_front}
 use Rattle.log_codec.proofs.InTurn.{turns_take, turns_again}
 use Rattle.race_log.proofs.InTurn.{stand-all, all-stand}
 use Rattle.log_codec.proofs.Limits.{limits_nest}
-use Rattle.race_log.proofs.Parts.{bound-small}
 use Rattle.log_codec.proofs.ReducedLaws.{AllRise, reduced_takes, reduced_again}
 use Rattle.log_codec.proofs.ReducedLaws.{edges-rise, into-stands, into-pair}
 use Rattle.log_codec.proofs.ReducedLaws.{few-into}
+use Rattle.log_codec.proofs.Counted.{pair_by_pair_again}
 use Rattle.log_codec.proofs.FieldLaws.{Headed, header_takes, header_again, image_takes, image_again, total_takes}
 use Rattle.log_codec.proofs.FieldLaws.{total_again}
 use Rattle.log_codec.proofs.Logs.{vectors_take, vectors_again}
@@ -65,21 +65,14 @@ pub regulated_takes : (totals bytes : List ℕ) (regulated : List (List StrideVe
 regulated_takes totals bytes regulated rest are e =
     turns_take (λ place. vectors_at (bound_at totals place)) count_up (alike vectors_text)
     (λ place vs. AreVectors (bound_at totals place) vs)
-    (λ s b x r. vectors_take s (bound_at totals s) b x r) (pair_count (length totals)) 0 bytes regulated rest are e
+    (λ place. vectors_take (bound_at totals place)) (pair_count (length totals)) 0 bytes regulated rest are e
 
 pub regulated_again : (limit : ℕ) (totals : List ℕ) (regulated : List (List StrideVector)) (rest : List ℕ) →
     limit < 2 ^ 32 → All (λ t. t ≤ limit) totals →
     length regulated ≡ pair_count (length totals) →
     StandInTurn (λ place vs. AreVectors (bound_at totals place) vs) count_up 0 regulated →
     regulated_at totals (regulated_text regulated ++ rest) ≡ Ok (regulated, rest)
-regulated_again limit totals regulated rest small most each h =
-    let again = turns_again (λ place. vectors_at (bound_at totals place)) count_up (alike vectors_text)
-    (λ place vs. AreVectors (bound_at totals place) vs)
-    (λ s x r stands. let b = bound-small limit totals s small most in
-    vectors_again s (bound_at totals s) x r b.source b.target stands) 0 regulated rest h in
-    subst (λ (n : ℕ). read_in_turn (λ place. vectors_at (bound_at totals place)) count_up n 0
-    (regulated_text regulated ++ rest)
-    ≡ Ok (regulated, rest)) each again
+regulated_again = pair_by_pair_again vectors_at vectors_text AreVectors vectors_again
 
 -- ---- the parts together
 
