@@ -8,12 +8,10 @@ use Rattle.log_codec.specs.Faults.{◌>>=◌}
 use Rattle.log_codec.specs.Laws.{IsBytes}
 use Rattle.log_codec.specs.Reading.{number_at, front_at}
 use Rattle.rtr_types.specs.Turns.{stay, count_up}
-use Rattle.log_codec.proofs.BadPartLaws.{after-5, at_end, bad_part, end-names, end-some, never-both, no-reading}
-use Rattle.log_codec.proofs.BadPartLaws.{read-all, some-end}
+use Rattle.log_codec.proofs.BadPartLaws.{after-5, at_end, bad_part, never-both, no-reading, some-end}
 use Rattle.log_codec.proofs.CoreCountLaws.{counts-name}
-use Rattle.log_codec.proofs.LastParts.{last_part}
-use Rattle.log_codec.proofs.Named.{Names, bind-err, bind-names, guard-names, number-names, turns-name}
-use Rattle.log_codec.proofs.Steps.{bind_ok, ok_is}
+use Rattle.log_codec.proofs.LastParts.{StopsAt, stops_at}
+use Rattle.log_codec.proofs.Named.{Names, bind-names, guard-names, number-names, turns-name}
 use Rattle.log_codec.proofs.Whole.{front_takes}
 use Rattle.certificate_codec.specs.declared.certificate.Certificate.{Certificate}
 use Rattle.certificate_codec.specs.declared.certificate.TheConstants.{CLOCKS, END}
@@ -91,61 +89,13 @@ name-end bytes are (rest, u, some) =
 
 -- where a reading ends
 abbrev Stops : List ℕ → ℕ → Type 0
-Stops bytes p = (front_at bytes ≡ Err p) ⊎ (((p ≡ CLOCKS) × NoClocks bytes) ⊎ ((p ≡ END) × BytesAfter bytes))
-
-stops-after : (bytes : List ℕ) (p : ℕ) → IsBytes bytes → (r : Recording) (rest : List ℕ) →
-    front_at bytes ≡ Ok (r, rest) →
-    (after_front (r, rest) >>= at_end END) ≡ Err p → Stops bytes p
-stops-after bytes p are r rest front e =
-    let u = read-all bytes r rest are front in
-    let same : r ≡ recording_up_to bytes rest u =
-    ap (λ (x : Recording × List ℕ). x.0)
-    (ok_is (r, rest) (recording_up_to bytes rest u, rest) (sym front ∙ after-5 bytes rest u)) in
-    by u (subst (λ (q : Recording). (after_front (q, rest) >>= at_end END) ≡ Err p) same e)
-  where
-    at_clocks : (u : UpToRegulated bytes rest) → clocks_at (recording_up_to bytes rest u) rest ≡ Err p → (p ≡ CLOCKS) ×
-        NoClocks bytes
-    at_clocks u bad = let q = recording_up_to bytes rest u in (
-      clocks-name q rest p bad,
-      (
-        rest,
-        u,
-        λ clocks after is. never-both p (clocks_at q rest) (clocks, after) bad
-            (clocks-read bytes rest are u clocks after is),
-      ),
-    )
-
-    at_bytes : (u : UpToRegulated bytes rest) (clocks : List (List (List ℕ))) (after : List ℕ) →
-        clocks_at (recording_up_to bytes rest u) rest ≡ Ok (clocks, after) →
-        at_end END (made_of (recording_up_to bytes rest u) clocks, after) ≡ Err p →
-        (p ≡ END) × BytesAfter bytes
-    at_bytes u clocks after read f =
-        let c = made_of (recording_up_to bytes rest u) clocks in
-        let named = end-names END (c, after) p f in
-        let all : UpToClocks bytes after =
-        record { before = rest; five = u; clocks = clocks; sixth = read-clocks bytes rest are u clocks after read }
-        in
-        (named, (after, all, end-some END (c, after) (subst (λ (k : ℕ). at_end END (c, after) ≡ Err k) named f)))
-
-    by : (u : UpToRegulated bytes rest) → (after_front (recording_up_to bytes rest u, rest) >>= at_end END) ≡ Err p →
-        Stops bytes p
-    by u f = elim (last_part (clocks_at (recording_up_to bytes rest u) rest)
-        (λ clocks. made_of (recording_up_to bytes rest u) clocks) END p f) [
-          | inl none ↦ inr (inl (at_clocks u none))
-          | inr k ↦ inr (inr (at_bytes u k.0 k.1 k.2 k.3))
-        ]
+Stops = StopsAt AreClocks CLOCKS END
 
 stops : (bytes : List ℕ) (p : ℕ) → IsBytes bytes → certificate_at bytes ≡ Err p → Stops bytes p
 unfolding certificate_at parts_at
-stops bytes p are e = elim (bind-err (parts_at bytes) (at_end END) p e) [
-  | inl bad ↦ elim (bind-err (front_at bytes) after_front p bad) [
-    | inl none ↦ inl none
-    | inr more ↦ stops-after bytes p are more.0.0 more.0.1 more.1 (ap (λ r. r >>= at_end END) more.2)
-  ]
-  | inr more ↦
-      let k = bind_ok (front_at bytes) after_front more.0 more.1 in
-      stops-after bytes p are k.0.0 k.0.1 k.1 (ap (λ r. r >>= at_end END) k.2 ∙ more.2)
-]
+stops bytes p are =
+    stops_at AreClocks clocks_at made_of CLOCKS END clocks-name bytes are (λ rest. clocks-read bytes rest are)
+    (λ rest. read-clocks bytes rest are) p
 
 front-named : (bytes : List ℕ) (p : ℕ) → front_at bytes ≡ Err p → certificate_at bytes ≡ Err p
 unfolding certificate_at parts_at
@@ -175,7 +125,10 @@ certificate_names bytes are = record {
     at_bytes : Stops bytes END → BytesAfter bytes
     at_bytes (inl e) = absurd (let no = (least END e).1 in omega arith)
     at_bytes (inr (inl x)) = absurd (let is = x.0 in omega arith)
-    at_bytes (inr (inr x)) = x.1
+    at_bytes (inr (inr x)) =
+        let m = x.1 in
+        let all : UpToClocks bytes m.3 = record { before = m.0; five = m.1; clocks = m.2; sixth = m.4 } in
+        (m.3, all, m.5)
 
     within : (part : ℕ) → Stops bytes part → (HEADER ≤ part) × (part ≤ END)
     within part (inl e) = let is = least part e in let a = is.0 in let b = is.1 in (omega arith, omega arith)

@@ -12,7 +12,7 @@ use Rattle.log_codec.specs.declared.version.Version.{Version}
 use Rattle.log_codec.specs.BadParts.{BadPart, FrontNames, IsHeader, IsImage, IsReduced, IsRegulated, IsTotals, NoHeader}
 use Rattle.log_codec.specs.BadParts.{NoImage}
 use Rattle.log_codec.specs.BadParts.{NoReduced, NoRegulated, NoTotals, UpToHeader, UpToImage, UpToReduced}
-use Rattle.log_codec.specs.BadParts.{UpToRegulated, UpToTotals}
+use Rattle.log_codec.specs.BadParts.{UpToRegulated, UpToTotals, recording_up_to}
 use Rattle.log_codec.specs.BadParts.{WholeNames}
 use Rattle.log_codec.specs.Faults.{◌>>=◌}
 use Rattle.log_codec.specs.Laws.{IsBytes}
@@ -25,11 +25,9 @@ use Rattle.race_log.proofs.InTurn.{places-stand, stand-places}
 use Rattle.log_codec.proofs.Named.{Missing, Names, bind-err, guard-names, header-names, image-names, missing_within}
 use Rattle.log_codec.proofs.Named.{reduced-names, regulated-names, totals-name}
 use Rattle.log_codec.proofs.ReducedLaws.{reduced_again, reduced_takes}
-use Rattle.log_codec.proofs.Steps.{bind_ok, ok_is}
-use Rattle.log_codec.proofs.Whole.{after_header, after_image, after_reduced, after_totals, regulated_again}
+use Rattle.log_codec.proofs.Whole.{after_header, after_image, after_reduced, after_totals, parts_read}
 use Rattle.race_log.proofs.Parts.{made_of}
-use Rattle.log_codec.proofs.Whole.{regulated_takes, totals_again, totals_take}
-use Rattle.log_codec.proofs.Whole.{within-new}
+use Rattle.log_codec.proofs.Whole.{regulated_again, regulated_takes, totals_again, totals_fit, totals_take}
 
 -- ---- a part that is read, and one that isn't
 
@@ -46,15 +44,6 @@ no-reading {A} k (Err p) names none = ap (λ (n : ℕ). let x : Result A ℕ = E
 
 pub never-both : {A : Type 0} (k : ℕ) (r : Result A ℕ) (x : A) → r ≡ Err k → r ≡ Ok x → ⊥
 never-both k r x e f = let both : Err k ≡ Ok x = sym e ∙ f in absurd cc
-
-record Small (p : Params) : Type 0 where
-  limit : p.limit < 2 ^ 32
-  together : p.cores * p.limit < 2 ^ 32
-  cores : p.cores < 2 ^ 32
-
-small-params : (v : Version) (p : Params) → FitsIn v p → Small p
-small-params v p fits = let f = within-new v p fits in
-    record { limit = omega (arith, f.limit); together = omega (arith, f.instructions); cores = omega (arith, f.cores) }
 
 header-read : (bytes : List ℕ) (v : Version) (p : Params) (len : ℕ) (rest : List ℕ) → IsHeader bytes v p len rest →
     header_at bytes ≡ Ok (v, p, len, rest)
@@ -82,10 +71,10 @@ pub totals-read : (v : Version) (p : Params) (bytes totals rest : List ℕ) → 
     totals_at p.limit p.cores bytes
     ≡ Ok (totals, rest)
 totals-read v p bytes totals rest fits h =
-    let small = small-params v p fits in
+    let sizes = totals_fit v p totals fits h.each_core in
     ap (totals_at p.limit p.cores) h.spelled
     ∙ subst (λ (n : ℕ). totals_at p.limit n (totals_text totals ++ rest) ≡ Ok (totals, rest)) h.each_core
-    (totals_again p.limit totals rest small.limit h.most)
+    (totals_again p.limit totals rest sizes.small h.most)
 
 pub read-totals : (p : Params) (bytes totals rest : List ℕ) → IsBytes bytes →
     totals_at p.limit p.cores bytes ≡ Ok (totals, rest) → IsTotals p bytes totals rest
@@ -97,12 +86,9 @@ pub reduced-read : (v : Version) (p : Params) (before totals bytes : List ℕ) (
     IsTotals p before totals bytes → IsReduced v totals bytes reduced rest →
     reduced_at v totals bytes ≡ Ok (reduced, rest)
 reduced-read v p before totals bytes reduced rest fits t h =
-    let small = small-params v p fits in
-    let together : length totals * p.limit < 2 ^ 32 =
-    subst (λ (n : ℕ). n * p.limit < 2 ^ 32) (sym t.each_core) small.together in
-    let few : length totals < 2 ^ 32 = subst (λ (n : ℕ). n < 2 ^ 32) (sym t.each_core) small.cores in
+    let sizes = totals_fit v p totals fits t.each_core in
     ap (reduced_at v totals) h.spelled
-    ∙ reduced_again v p.limit totals reduced rest small.limit together few t.most h.pairs h.edges
+    ∙ reduced_again v p.limit totals reduced rest sizes.small sizes.together sizes.few t.most h.pairs h.edges
 
 pub read-reduced : (v : Version) (totals bytes : List ℕ) (reduced : List (List (ℕ × ℕ))) (rest : List ℕ) →
     IsBytes bytes → reduced_at v totals bytes
@@ -115,12 +101,12 @@ regulated-read : (v : Version) (p : Params) (before totals after bytes : List �
     IsTotals p before totals after → IsRegulated totals bytes regulated rest →
     regulated_at totals bytes ≡ Ok (regulated, rest)
 regulated-read v p before totals after bytes regulated rest fits t h =
-    let small = small-params v p fits in
+    let sizes = totals_fit v p totals fits t.each_core in
     let stand = places-stand (λ place vs. AreVectors (bound_at totals place) vs) 0 regulated []
     (λ i lt. let same : i ≡ 0 + i = omega arith in
     subst (λ (k : ℕ). AreVectors (bound_at totals k) (get_or regulated i [])) same
     (h.vectors i (subst (λ (n : ℕ). i < n) h.pairs lt))) in
-    ap (regulated_at totals) h.spelled ∙ regulated_again p.limit totals regulated rest small.limit t.most h.pairs stand
+    ap (regulated_at totals) h.spelled ∙ regulated_again p.limit totals regulated rest sizes.small t.most h.pairs stand
 
 read-regulated : (totals bytes : List ℕ) (regulated : List (List StrideVector)) (rest : List ℕ) → IsBytes bytes →
     regulated_at totals bytes
@@ -383,29 +369,20 @@ front_names bytes are = record {
 
 -- ---- the end
 
--- all parts but for the end are valid
+-- all parts but for the end are valid, and are the recording's
 pub read-all : (bytes : List ℕ) (r : Recording) (rest : List ℕ) → IsBytes bytes → front_at bytes ≡ Ok (r, rest) →
-    UpToRegulated bytes rest
-unfolding front_at
+    (u : UpToRegulated bytes rest) × (r ≡ recording_up_to bytes rest u)
 read-all bytes r rest are e =
-    let h = bind_ok (header_at bytes) after_header (r, rest) e in
-    let v = h.0.0 in
-    let p = h.0.1 in
-    let i = bind_ok (image_at h.0.2 h.0.3) (after_image v p) (r, rest) h.2 in
-    let t = bind_ok (totals_at p.limit p.cores i.0.1) (after_totals v p i.0.0) (r, rest) i.2 in
-    let d = bind_ok (reduced_at v t.0.0 t.0.1) (after_reduced p i.0.0 t.0.0) (r, rest) t.2 in
-    let g = bind_ok (regulated_at t.0.0 d.0.1) (λ regulated. Ok (made_of p i.0.0 t.0.0 d.0.0 regulated.0, regulated.1))
-    (r, rest) d.2 in
-    let one : UpToHeader bytes h.0.3 =
-    record { version = v; params = p; len = h.0.2; header = read-header bytes v p h.0.2 h.0.3 are h.1 } in
-    let two = with-image bytes h.0.3 are one i.0.0 i.0.1 i.1 in
-    let three = with-totals bytes i.0.1 are two t.0.0 t.0.1 t.1 in
-    let four = with-reduced bytes t.0.1 are three d.0.0 d.0.1 d.1 in
-    let regulated = read-regulated t.0.0 d.0.1 g.0.0 g.0.1 (reduced-bytes bytes d.0.1 are four) g.1 in
-    let five : UpToRegulated bytes g.0.1 =
-    record { before = d.0.1; four = four; regulated = g.0.0; fifth = regulated } in
-    let all = ok_is (made_of p i.0.0 t.0.0 d.0.0 g.0.0, g.0.1) (r, rest) g.2 in
-    subst (UpToRegulated bytes) (ap (λ (x : Recording × List ℕ). x.1) all) five
+    let p = parts_read bytes r rest e in
+    let header = read-header bytes p.version r.params p.len p.after_header are p.header in
+    let one : UpToHeader bytes p.after_header =
+    record { version = p.version; params = r.params; len = p.len; header = header } in
+    let two = with-image bytes p.after_header are one r.image p.after_image p.image in
+    let three = with-totals bytes p.after_image are two r.totals p.after_totals p.totals in
+    let four = with-reduced bytes p.after_totals are three r.reduced p.after_reduced p.reduced in
+    let here = reduced-bytes bytes p.after_reduced are four in
+    let fifth = read-regulated r.totals p.after_reduced r.regulated rest here p.regulated in
+    (record { before = p.after_reduced; four = four; regulated = r.regulated; fifth = fifth }, refl)
 
 -- the last step, which wants no byte more
 abbrev pub at_end : {A : Type 0} → ℕ → A × List ℕ → Result A ℕ
@@ -454,7 +431,7 @@ whole_names bytes are = record {
         ⊎ ((x : Recording × List ℕ) × (front_at bytes ≡ Ok x) × (at_end END x ≡ Err END)) → (rest : List ℕ)
         × UpToRegulated bytes rest × (rest ≢ [])
     forth (inl bad) = absurd (let no = (front_names bytes are).no_other END bad in let le = no.1 in omega arith)
-    forth (inr more) = (more.0.1, read-all bytes more.0.0 more.0.1 are more.1, end-some END more.0 more.2)
+    forth (inr more) = (more.0.1, (read-all bytes more.0.0 more.0.1 are more.1).0, end-some END more.0 more.2)
 
     back : (rest : List ℕ) (u : UpToRegulated bytes rest) → rest ≢ [] →
         at_end END (

@@ -94,6 +94,47 @@ pub within-new : (v : Version) (p : Params) → FitsIn v p → Fits p
 within-new One p f = limits_nest p f
 within-new Two p f = f
 
+-- the parts of a front that is read, and the bytes after each
+pub record PartsRead (bytes : List ℕ) (r : Recording) (rest : List ℕ) : Type 0 where
+  pub version : Version
+  pub len : ℕ
+  pub after_header : List ℕ
+  pub after_image : List ℕ
+  pub after_totals : List ℕ
+  pub after_reduced : List ℕ
+  pub header : header_at bytes ≡ Ok (version, r.params, len, after_header)
+  pub image : image_at len after_header ≡ Ok (r.image, after_image)
+  pub totals : totals_at r.params.limit r.params.cores after_image ≡ Ok (r.totals, after_totals)
+  pub reduced : reduced_at version r.totals after_totals ≡ Ok (r.reduced, after_reduced)
+  pub regulated : regulated_at r.totals after_reduced ≡ Ok (r.regulated, rest)
+
+pub parts_read : (bytes : List ℕ) (r : Recording) (rest : List ℕ) → front_at bytes ≡ Ok (r, rest) →
+    PartsRead bytes r rest
+unfolding front_at
+parts_read bytes r rest e =
+    let h = bind_ok (header_at bytes) after_header (r, rest) e in
+    let p = h.0.1 in
+    let i = bind_ok (image_at h.0.2 h.0.3) (after_image h.0.0 p) (r, rest) h.2 in
+    let t = bind_ok (totals_at p.limit p.cores i.0.1) (after_totals h.0.0 p i.0.0) (r, rest) i.2 in
+    let d = bind_ok (reduced_at h.0.0 t.0.0 t.0.1) (after_reduced p i.0.0 t.0.0) (r, rest) t.2 in
+    let g = bind_ok (regulated_at t.0.0 d.0.1) (λ regulated. Ok (made_of p i.0.0 t.0.0 d.0.0 regulated.0, regulated.1))
+    (r, rest) d.2 in
+    let made : Recording × List ℕ = (made_of p i.0.0 t.0.0 d.0.0 g.0.0, g.0.1) in
+    subst (λ (y : Recording × List ℕ). PartsRead bytes y.0 y.1) (ok_is made (r, rest) g.2)
+    (record {
+      version = h.0.0;
+      len = h.0.2;
+      after_header = h.0.3;
+      after_image = i.0.1;
+      after_totals = t.0.1;
+      after_reduced = d.0.1;
+      header = h.1;
+      image = i.1;
+      totals = t.1;
+      reduced = d.1;
+      regulated = g.1;
+    })
+
 -- the front of the bytes, and the version in which it is spelled
 pub record FrontTaken (bytes : List ℕ) (r : Recording) (rest : List ℕ) : Type 0 where
   pub valid : Valid r
@@ -103,74 +144,74 @@ pub record FrontTaken (bytes : List ℕ) (r : Recording) (rest : List ℕ) : Typ
 
 pub front_takes : (bytes : List ℕ) (r : Recording) (rest : List ℕ) → IsBytes bytes → front_at bytes ≡ Ok (r, rest) →
     FrontTaken bytes r rest
-unfolding front_at spelling_in
+unfolding spelling_in
 front_takes bytes r rest are e =
-    let h = bind_ok (header_at bytes) after_header (r, rest) e in
-    let w = h.0.0 in
-    let p = h.0.1 in
-    let i = bind_ok (image_at h.0.2 h.0.3) (after_image w p) (r, rest) h.2 in
-    let t = bind_ok (totals_at p.limit p.cores i.0.1) (after_totals w p i.0.0) (r, rest) i.2 in
-    let d = bind_ok (reduced_at w t.0.0 t.0.1) (after_reduced p i.0.0 t.0.0) (r, rest) t.2 in
-    let g = bind_ok (regulated_at t.0.0 d.0.1) (λ regulated. Ok (made_of p i.0.0 t.0.0 d.0.0 regulated.0, regulated.1))
-    (r, rest) d.2 in
-    let th = header_takes bytes w p h.0.2 h.0.3 are h.1 in
-    let ti = image_takes h.0.2 h.0.3 i.0.0 i.0.1 th.0.rest_fits i.1 in
-    let tt' = totals_take p.limit p.cores i.0.1 t.0.0 t.0.1 ti.0.rest_fits t.1 in
-    let td = reduced_takes w t.0.0 t.0.1 d.0.0 d.0.1 tt'.0.rest_fits d.1 in
-    let tg = regulated_takes t.0.0 d.0.1 g.0.0 g.0.1 td.0.rest_fits g.1 in
-    let reduced : Takes t.0.1 (reduced_text w p.cores d.0.0) d.0.1 =
-    subst (λ (n : ℕ). Takes t.0.1 (reduced_text w n d.0.0) d.0.1) tt'.1 td.0 in
-    let t1 = Takes-then t.0.1 (reduced_text w p.cores d.0.0) d.0.1 (regulated_text g.0.0) g.0.1 reduced tg.0 in
-    let t2 = Takes-then i.0.1 (totals_text t.0.0) t.0.1 (reduced_text w p.cores d.0.0 ++ regulated_text g.0.0) g.0.1
-    tt'.0 t1 in
-    let t3 = Takes-then h.0.3 i.0.0 i.0.1 (totals_text t.0.0 ++ (reduced_text w p.cores d.0.0 ++ regulated_text g.0.0))
-    g.0.1 ti.0 t2 in
-    let t4 = Takes-then bytes (header_text w p h.0.2) h.0.3
-    (i.0.0 ++ (totals_text t.0.0 ++ (reduced_text w p.cores d.0.0 ++ regulated_text g.0.0))) g.0.1 th.0 t3 in
-    let made = made_of p i.0.0 t.0.0 d.0.0 g.0.0 in
-    let named : Takes bytes (spelling_in w made) g.0.1 =
-    subst (λ (len : ℕ). Takes bytes
-    (header_text w p len ++ (i.0.0 ++ (totals_text t.0.0 ++ (reduced_text w p.cores d.0.0 ++ regulated_text g.0.0))))
-    g.0.1) (sym ti.1) t4 in
-    let room : length i.0.0 ≤ 4 * p.words = subst (λ (len : ℕ). len ≤ 4 * p.words) (sym ti.1) th.1.image in
-    let valid = valid-made p i.0.0 t.0.0 d.0.0 g.0.0 (within-new w p th.1.params) room tt'.1 tt'.2 td.1 td.2 tg.1 tg.2
-    in
-    subst (λ (y : Recording × List ℕ). FrontTaken bytes y.0 y.1) (ok_is (made, g.0.1) (r, rest) g.2)
-    (record { valid = valid; version = w; limits = th.1.params; taken = named })
+    let read = parts_read bytes r rest e in
+    let w = read.version in
+    let p = r.params in
+    let th = header_takes bytes w p read.len read.after_header are read.header in
+    let ti = image_takes read.len read.after_header r.image read.after_image th.0.rest_fits read.image in
+    let tt' = totals_take p.limit p.cores read.after_image r.totals read.after_totals ti.0.rest_fits read.totals in
+    let td = reduced_takes w r.totals read.after_totals r.reduced read.after_reduced tt'.0.rest_fits read.reduced in
+    let tg = regulated_takes r.totals read.after_reduced r.regulated rest td.0.rest_fits read.regulated in
+    let reduced : Takes read.after_totals (reduced_text w p.cores r.reduced) read.after_reduced =
+    subst (λ (n : ℕ). Takes read.after_totals (reduced_text w n r.reduced) read.after_reduced) tt'.1 td.0 in
+    let regulated = regulated_text r.regulated in
+    let t1 = Takes-then read.after_totals (reduced_text w p.cores r.reduced) read.after_reduced regulated rest reduced
+    tg.0 in
+    let logs = reduced_text w p.cores r.reduced ++ regulated in
+    let t2 = Takes-then read.after_image (totals_text r.totals) read.after_totals logs rest tt'.0 t1 in
+    let t3 = Takes-then read.after_header r.image read.after_image (totals_text r.totals ++ logs) rest ti.0 t2 in
+    let t4 = Takes-then bytes (header_text w p read.len) read.after_header (r.image ++ (totals_text r.totals ++ logs))
+    rest th.0 t3 in
+    let named : Takes bytes (spelling_in w r) rest =
+    subst (λ (len : ℕ). Takes bytes (header_text w p len ++ (r.image ++ (totals_text r.totals ++ logs))) rest)
+    (sym ti.1) t4 in
+    let room : length r.image ≤ 4 * p.words = subst (λ (len : ℕ). len ≤ 4 * p.words) (sym ti.1) th.1.image in
+    record {
+      valid = valid-made p r.image r.totals r.reduced r.regulated (within-new w p th.1.params) room tt'.1 tt'.2 td.1
+          td.2 tg.1 tg.2;
+      version = w;
+      limits = th.1.params;
+      taken = named;
+    }
 
 -- the sizes of the totals fit 32 bits
-pub record TotalsFit (r : Recording) : Type 0 where
-  pub small : r.params.limit < 2 ^ 32
-  pub few : length r.totals < 2 ^ 32
-  pub together : length r.totals * r.params.limit < 2 ^ 32
+pub record TotalsFit (limit : ℕ) (totals : List ℕ) : Type 0 where
+  pub small : limit < 2 ^ 32
+  pub few : length totals < 2 ^ 32
+  pub together : length totals * limit < 2 ^ 32
 
-pub totals_fit : (r : Recording) → Valid r → TotalsFit r
-totals_fit r v =
-    let params = v.params in
+pub totals_fit : (v : Version) (p : Params) (totals : List ℕ) → FitsIn v p → length totals ≡ p.cores →
+    TotalsFit p.limit totals
+totals_fit v p totals fits each =
+    let params = within-new v p fits in
     let all = params.instructions in
-    let each = v.each_core in
     record {
       small = omega arith;
       few = omega arith;
-      together = subst (λ (n : ℕ). n * r.params.limit < 2 ^ 32) (sym v.each_core) (omega arith);
+      together = subst (λ (n : ℕ). n * p.limit < 2 ^ 32) (sym each) (omega arith);
     }
 
+-- the parts one after the other, with the rest after them
+abbrev from_totals : Version → Recording → List ℕ → List ℕ
+from_totals w r rest =
+    totals_text r.totals ++ (reduced_text w r.params.cores r.reduced ++ (regulated_text r.regulated ++ rest))
+
+part_by_part : (w : Version) (r : Recording) (rest : List ℕ) →
+    spelling_in w r ++ rest ≡ header_text w r.params (length r.image) ++ (r.image ++ from_totals w r rest)
+unfolding spelling_in
+part_by_part w r rest = simp append_assoc
+
 pub front_again : SpelledIsFront
-unfolding front_at spelling_in
+unfolding front_at
 front_again w r rest v fits =
     let p = r.params in
-    let sizes = totals_fit r v in
-    let regrouped : spelling_in w r ++ rest ≡ header_text w p (length r.image)
-    ++ (r.image ++ (totals_text r.totals ++ (reduced_text w p.cores r.reduced ++ (regulated_text r.regulated ++ rest))))
-    = simp append_assoc in
-    let h = header_again w p (length r.image)
-    (r.image ++ (totals_text r.totals
-    ++ (reduced_text w p.cores r.reduced ++ (regulated_text r.regulated ++ rest))))
+    let sizes = totals_fit w p r.totals fits v.each_core in
+    let h = header_again w p (length r.image) (r.image ++ from_totals w r rest)
     (record { params = fits; image = v.image }) in
-    let i = image_again r.image
-    (totals_text r.totals ++ (reduced_text w p.cores r.reduced ++ (regulated_text r.regulated ++ rest))) in
-    let t = subst (λ (n : ℕ). totals_at p.limit n
-    (totals_text r.totals ++ (reduced_text w p.cores r.reduced ++ (regulated_text r.regulated ++ rest)))
+    let i = image_again r.image (from_totals w r rest) in
+    let t = subst (λ (n : ℕ). totals_at p.limit n (from_totals w r rest)
     ≡ Ok (r.totals, reduced_text w p.cores r.reduced ++ (regulated_text r.regulated ++ rest))) v.each_core
     (totals_again p.limit r.totals (reduced_text w p.cores r.reduced ++ (regulated_text r.regulated ++ rest))
     sizes.small v.totals) in
@@ -182,7 +223,7 @@ front_again w r rest v fits =
     (v.each_reduced ∙ back) (edges-placed r v)) in
     let g = regulated_again p.limit r.totals r.regulated rest sizes.small v.totals (v.each_regulated ∙ back)
     (vectors-stand r v) in
-    ap front_at regrouped ∙ rw (h, i, t, d, g) refl
+    ap front_at (part_by_part w r rest) ∙ rw (h, i, t, d, g) refl
 
 -- ---- the laws
 
@@ -203,23 +244,10 @@ spelled_is_read w r v fits = front_read front_at END (spelling_in w r) r (front_
 -- the version shows at the front
 version-of : (w : Version) (r : Recording) (rest : List ℕ) → FitsIn w r.params → length r.image ≤ 4 * r.params.words →
     header_at (spelling_in w r ++ rest)
-    ≡ Ok (
-      w,
-      r.params,
-      length r.image,
-      r.image ++ (totals_text r.totals
-          ++ (reduced_text w r.params.cores r.reduced ++ (regulated_text r.regulated ++ rest))),
-    )
-unfolding spelling_in
+    ≡ Ok (w, r.params, length r.image, r.image ++ from_totals w r rest)
 version-of w r rest fits room =
-    let p = r.params in
-    let regrouped : spelling_in w r ++ rest ≡ header_text w p (length r.image)
-    ++ (r.image ++ (totals_text r.totals ++ (reduced_text w p.cores r.reduced ++ (regulated_text r.regulated ++ rest))))
-    = simp append_assoc in
-    ap header_at regrouped
-    ∙ header_again w p (length r.image)
-    (r.image ++ (totals_text r.totals
-    ++ (reduced_text w p.cores r.reduced ++ (regulated_text r.regulated ++ rest))))
+    ap header_at (part_by_part w r rest)
+    ∙ header_again w r.params (length r.image) (r.image ++ from_totals w r rest)
     (record { params = fits; image = room })
 
 pub prefix_free : PrefixFree

@@ -17,11 +17,10 @@ use Rattle.log_codec.specs.Reading.{front_at, number_at}
 use Rattle.log_codec.specs.Spelling.{header_text}
 use Rattle.log_codec.specs.CoreCounts.{counts_at}
 use Rattle.log_codec.specs.Versions.{magic}
-use Rattle.log_codec.proofs.BadPartLaws.{after-5, at_end, bad_part, end-names, end-some, never-both, no-reading}
-use Rattle.log_codec.proofs.BadPartLaws.{read-all, some-end}
+use Rattle.log_codec.proofs.BadPartLaws.{after-5, at_end, bad_part, never-both, no-reading, some-end}
 use Rattle.log_codec.proofs.CoreCountLaws.{counts-name}
-use Rattle.log_codec.proofs.Named.{Names, bind-err, bind-names, number-names, turns-name}
-use Rattle.log_codec.proofs.Steps.{bind_ok, ok_is}
+use Rattle.log_codec.proofs.LastParts.{StopsAt, stops_at}
+use Rattle.log_codec.proofs.Named.{Names, bind-names, number-names, turns-name}
 use Rattle.log_codec.proofs.Whole.{front_takes}
 use Rattle.vector_reduce.specs.declared.thinned.Shown.{Shown}
 use Rattle.vector_reduce.specs.declared.thinned.Thinned.{Thinned}
@@ -151,73 +150,11 @@ name-end bytes are (rest, u, some) =
 
 -- where a reading of bytes that begin as version 2 does ends
 abbrev Stops : List ℕ → ℕ → Type 0
-Stops bytes p = (front_at bytes ≡ Err p) ⊎ (((p ≡ SHOWN) × NoShown bytes) ⊎ ((p ≡ END) × BytesAfter bytes))
-
-stops-after : (bytes : List ℕ) (p : ℕ) → IsBytes bytes → begins_two bytes ≡ true → (r : Recording) (rest : List ℕ) →
-    front_at bytes ≡ Ok (r, rest) → (after_front (r, rest) >>= at_end END) ≡ Err p → Stops bytes p
-stops-after bytes p are two r rest front e =
-    let u = read-all bytes r rest are front in
-    let same : r ≡ recording_up_to bytes rest u =
-    ap (λ (x : Recording × List ℕ). x.0) (ok_is (r, rest) (recording_up_to bytes rest u, rest)
-    (sym front ∙ after-5 bytes rest u)) in
-    by u (subst (λ (q : Recording). (after_front (q, rest) >>= at_end END) ≡ Err p) same e)
-  where
-    at_shown : (u : UpToRegulated bytes rest) → shown_in (recording_up_to bytes rest u) rest ≡ Err p → (p ≡ SHOWN) ×
-        NoShown bytes
-    at_shown u bad = let q = recording_up_to bytes rest u in (
-      shown-name q rest p bad,
-      (
-        rest,
-        u,
-        version-two bytes _ two u.four.three.two.first,
-        λ shown after is. never-both p (shown_in q rest) (shown, after) bad
-            (shown-read bytes rest are u shown after is),
-      ),
-    )
-
-    at_bytes : (u : UpToRegulated bytes rest) (shown : List Shown) (after : List ℕ) →
-        shown_in (recording_up_to bytes rest u) rest ≡ Ok (shown, after) → at_end END
-        (made_of (recording_up_to bytes rest u) shown, after) ≡ Err p →
-        (p ≡ END) × BytesAfter bytes
-    at_bytes u shown after read f =
-        let t = made_of (recording_up_to bytes rest u) shown in
-        let named = end-names END (t, after) p f in
-        let all : UpToShown bytes after = record {
-          before = rest;
-          five = u;
-          version = version-two bytes _ two u.four.three.two.first;
-          shown = shown;
-          sixth = read-shown bytes rest are u shown after read;
-        } in
-        (named, (after, all, end-some END (t, after) (subst (λ (k : ℕ). at_end END (t, after) ≡ Err k) named f)))
-
-    by : (u : UpToRegulated bytes rest) → (after_front (recording_up_to bytes rest u, rest) >>= at_end END) ≡ Err p →
-        Stops bytes p
-    by u f = elim (bind-err (after_front (recording_up_to bytes rest u, rest)) (at_end END) p f) [
-      | inl bad ↦ elim (bind-err (shown_in (recording_up_to bytes rest u) rest)
-          (with_shown (recording_up_to bytes rest u)) p bad) [
-            | inl none ↦ inr (inl (at_shown u none))
-            | inr more ↦ absurd (let g = more.2 in cc)
-          ]
-      | inr more ↦
-          let k = bind_ok (shown_in (recording_up_to bytes rest u) rest) (with_shown (recording_up_to bytes rest u))
-          more.0 more.1 in
-          let is = ok_is (made_of (recording_up_to bytes rest u) k.0.0, k.0.1) more.0 k.2 in
-          inr (inr (at_bytes u k.0.0 k.0.1 k.1 (subst (λ (x : Thinned × List ℕ). at_end END x ≡ Err p) (sym is)
-          more.2)))
-    ]
+Stops = StopsAt AreShown SHOWN END
 
 stops : (bytes : List ℕ) (p : ℕ) → IsBytes bytes → begins_two bytes ≡ true → thinned_at bytes ≡ Err p → Stops bytes p
-stops bytes p are two e = elim (bind-err (front_at bytes >>= after_front) (at_end END) p
-    (sym (thinned-two bytes two) ∙ e)) [
-      | inl bad ↦ elim (bind-err (front_at bytes) after_front p bad) [
-        | inl none ↦ inl none
-        | inr more ↦ stops-after bytes p are two more.0.0 more.0.1 more.1 (ap (λ r. r >>= at_end END) more.2)
-      ]
-      | inr more ↦
-          let k = bind_ok (front_at bytes) after_front more.0 more.1 in
-          stops-after bytes p are two k.0.0 k.0.1 k.1 (ap (λ r. r >>= at_end END) k.2 ∙ more.2)
-    ]
+stops bytes p are two e = stops_at AreShown shown_in made_of SHOWN END shown-name bytes are
+    (λ rest. shown-read bytes rest are) (λ rest. read-shown bytes rest are) p (sym (thinned-two bytes two) ∙ e)
 
 front-named : (bytes : List ℕ) (p : ℕ) → begins_two bytes ≡ true → front_at bytes ≡ Err p → thinned_at bytes ≡ Err p
 front-named bytes p two e = thinned-two bytes two ∙ ap (λ r. (r >>= after_front) >>= at_end END) e
@@ -288,13 +225,22 @@ names-two bytes are two = record {
 
     at_shown : Stops bytes SHOWN → NoShown bytes
     at_shown (inl e) = absurd (let no = (f.no_other SHOWN e).1 in omega arith)
-    at_shown (inr (inl x)) = x.1
+    at_shown (inr (inl x)) = let m = x.1 in (m.0, m.1, version-two bytes _ two m.1.four.three.two.first, m.2)
     at_shown (inr (inr x)) = absurd (let is = x.0 in omega arith)
 
     at_bytes : Stops bytes END → BytesAfter bytes
     at_bytes (inl e) = absurd (let no = (f.no_other END e).1 in omega arith)
     at_bytes (inr (inl x)) = absurd (let is = x.0 in omega arith)
-    at_bytes (inr (inr x)) = x.1
+    at_bytes (inr (inr x)) =
+        let m = x.1 in
+        let all : UpToShown bytes m.3 = record {
+          before = m.0;
+          five = m.1;
+          version = version-two bytes _ two m.1.four.three.two.first;
+          shown = m.2;
+          sixth = m.4;
+        } in
+        (m.3, all, m.5)
 
     within : (part : ℕ) → Stops bytes part → (1 ≤ part) × (part ≤ 7)
     within part (inl e) = let is = f.no_other part e in let a = is.0 in let b = is.1 in (omega arith, omega arith)
