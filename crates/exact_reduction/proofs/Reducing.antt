@@ -1,8 +1,9 @@
 -- A retirement with an access keeps the reduction.
 use Rattle.std.proofs.Common.{◌≡◌, ◌≢◌, ◌∙◌, refl, sym, ap, subst, ℕ, ◌+◌, List, [], ◌∷◌, ◌++◌, Option, Some, None}
 use Rattle.std.proofs.Common.{inl, inr, arith}
-use Rattle.std.specs.Prelude.{slice_index}
+use Rattle.std.specs.Prelude.{reverse, slice_index}
 use Rattle.std.proofs.lemmas.List.{get_or-set_same}
+use Rattle.access_times.specs.Times.{times_riding}
 use Rattle.access_times.specs.declared.times.Times.{Times}
 use Rattle.clock_core.specs.Counts.{no_counts}
 use Rattle.clock_core.specs.declared.clock.Clock.{Clock}
@@ -12,8 +13,13 @@ use Rattle.conflict_edge.proofs.Reach.{kept_clock_law, rising_next}
 use Rattle.conflict_edge.proofs.Reversed.{stands_forth}
 use Rattle.conflict_edge.specs.Conflicts.{CountsRise, StandsIn}
 use Rattle.conflict_edge.specs.Times.{IsExactClock}
-use Rattle.machine_times.specs.ExactTimes.{HaveExactClocks, IsClockOf, retired_accesses, with_access}
-use Rattle.machine_times.specs.Retirements.{Retirement}
+use Rattle.msi_memory.specs.declared.port.Port.{Port}
+use Rattle.msi_memory.specs.Memories.{rider_at}
+use Rattle.msi_state.specs.Events.{Event, Nothing, Retires, Accesses, rider_of_event}
+use Rattle.machine_times.proofs.ExactTimes.{exact_times_law}
+use Rattle.machine_times.specs.ExactTimes.{FindsExactTimes, HaveExactClocks, IsClockOf, retired_accesses, with_access}
+use Rattle.machine_times.specs.Retirements.{IsExactRider, Retirement, noted_accesses}
+use Rattle.machine_times.specs.TimedSteps.{times_parts}
 use Rattle.online_reduce.proofs.ExactNext.{other_clocks_law, retired_own}
 use Rattle.online_reduce.proofs.Reductions.{retire_law}
 use Rattle.online_reduce.proofs.Step.{next_of}
@@ -29,6 +35,24 @@ found_exact list a rider found = record {
   write_is = found.write;
   read_is = λ writes core lt. (found.times writes).read_is core lt;
 }
+
+-- so are those that the access of an event finds, since the noted clocks are
+pub event_exact : {K : Type 0} → (e : Event) (p : Port Times K) (list : List Retirement) (all : List Access) →
+    retired_accesses list ≡ all → HaveExactClocks all list →
+    ((a : Access) → e ≡ Accesses a →
+    IsExactRider times_parts (noted_accesses (reverse list)) a (rider_at times_riding p a.word)) → (a : Access) →
+    e ≡ Accesses a → AreExactFor all a (rider_of_event times_riding e p)
+event_exact Nothing p list all are exact finds a is = absurd cc
+event_exact (Retires at) p list all are exact finds a is = absurd cc
+event_exact (Accesses b) p list all are exact finds a is =
+    subst (λ (x : Access). AreExactFor all x (rider_at times_riding p b.word)) same
+    (found_exact all b (rider_at times_riding p b.word)
+    (subst (λ (l : List Access). FindsExactTimes l b (rider_at times_riding p b.word)) are
+    (exact_times_law list b (rider_at times_riding p b.word)
+    (subst (λ (l : List Access). HaveExactClocks l list) (sym are) exact) (finds b refl))))
+  where
+    same : b ≡ a
+    same = cc
 
 -- ---- the accesses and the clocks of one retirement more
 

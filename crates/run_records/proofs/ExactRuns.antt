@@ -23,7 +23,7 @@ use Rattle.machine_times.proofs.Timed.{finds_exact}
 use Rattle.machine_times.specs.TimedSteps.{times_parts}
 use Rattle.online_reduce.specs.Exact.{AreExactFor}
 use Rattle.online_reduce.specs.Reduced.{clock_of, count_of}
-use Rattle.run_records.proofs.Standing.{step_exact}
+use Rattle.exact_reduction.proofs.Reducing.{event_exact}
 use Rattle.know_history.specs.Knowledge.{known_carrying}
 use Rattle.know_history.specs.declared.known.Known.{Known}
 use Rattle.run_outcome.proofs.Retiring.{run_tells}
@@ -94,7 +94,8 @@ module _ (image : Contents) (params : Params) (schedule : Choices) (t : ℕ) (a 
         ∙ sym (ap (event_by (run image params choices t)) (sym here ∙ some))
         ∙ is in
         let can = enabled_here s (choice_at w.rest 0) m some in
-        step_exact e p h.notes.list (accesses image params choices t) h.notes.reduces.accesses_are h.notes.reduces.exact
+        event_exact e p h.notes.list (accesses image params choices t) h.notes.reduces.accesses_are
+        h.notes.reduces.exact
         (λ b is_b. finds_exact times_parts known_carrying times_absorb (reverse h.notes.list) s m b h.holds can is_b
         h.notes.machine)
         a accessed

@@ -1,7 +1,7 @@
 -- Where a run that is recorded stands, from its start on.
 use Rattle.std.proofs.Common.{◌≡◌, ◌∙◌, refl, sym, ap, subst, ℕ, suc, ◌+◌, ◌<◌, ◌≤◌, false, List, [], ◌∷◌, ◌++◌}
 use Rattle.std.proofs.Common.{append-nil, length, Some, None, arith}
-use Rattle.std.specs.Prelude.{reverse, replicate, All, slice_index}
+use Rattle.std.specs.Prelude.{replicate, All, slice_index}
 use Rattle.std.proofs.lemmas.List.Elements.{All-from_get_or}
 use Rattle.access_times.specs.Times.{times_riding}
 use Rattle.access_times.specs.declared.times.Times.{Times}
@@ -18,7 +18,6 @@ use Rattle.rv_core.specs.States.{starting}
 use Rattle.rv_core.specs.declared.core_state.Core.{Core}
 use Rattle.schedule_pick.specs.Choices.{Choices, choice_at}
 use Rattle.msi_memory.specs.declared.port.Port.{Port}
-use Rattle.msi_memory.specs.Memories.{rider_at}
 use Rattle.msi_state.specs.Events.{Event, Nothing, Retires, Accesses, Tells, next_instr, rider_of_event}
 use Rattle.machine_plain.specs.Plain.{plain}
 use Rattle.msi_state.specs.Runs.{accesses, accesses_in, chosen, event_by, opening_state, plain_event, run}
@@ -26,18 +25,15 @@ use Rattle.msi_state.specs.States.{PlainState, State, all_done, core_at, state_s
 use Rattle.msi_state.specs.Steps.{carry_told, event, retiring, rider_found, step}
 use Rattle.msi_state.specs.declared.moves.Move.{Move}
 use Rattle.machine_times.proofs.Begins.{machine_start}
-use Rattle.machine_times.proofs.ExactTimes.{exact_times_law}
 use Rattle.machine_times.proofs.RiderLaws.{times_fresh}
-use Rattle.machine_times.specs.ExactTimes.{FindsExactTimes, HaveExactClocks}
-use Rattle.machine_times.specs.ExactTimes as times
-use Rattle.machine_times.specs.Retirements.{IsExactRider, MachineStandsFor, Retirement, noted_accesses, with_event}
+use Rattle.machine_times.specs.Retirements.{MachineStandsFor, Retirement, with_event}
 use Rattle.machine_known.specs.RunHistory.{with_event as noted_event}
 use Rattle.machine_times.specs.TimedSteps.{StepFinds, core_of_event, times_parts, with_step}
 use Rattle.online_reduce.proofs.Reductions.{begin_law, no_count, none_counted}
 use Rattle.online_reduce.specs.Exact.{AreExactFor}
 use Rattle.online_reduce.specs.Reduced.{IsNext, Reduced, clock_of, count_of, counted, edges_of, retired, unreduced}
 use Rattle.run_outcome.proofs.Turns.{Steps, numbered, runs_next, runs_start}
-use Rattle.exact_reduction.proofs.Reducing.{found_exact}
+use Rattle.exact_reduction.proofs.Reducing.{event_exact}
 use Rattle.run_records.proofs.Reducing.{reduces_access, reduces_local}
 use Rattle.know_history.specs.Knowledge.{known_carrying}
 use Rattle.know_history.specs.Notes.{IsNoted, Notes, no_notes, noted_count}
@@ -202,25 +198,6 @@ pub record Turned (s s' : State Times Known) (m : Move) (r after : Reduced) (res
   pub finds : (list : List Retirement) → MachineStandsFor times_parts known_carrying list s →
       StepFinds known_carrying s m list
 
--- the times that an access finds are exact, since the noted clocks are
-pub step_exact : (e : Event) (p : Port Times Known) (list : List Retirement) (all : List Access) →
-    times.retired_accesses list ≡ all →
-    HaveExactClocks all list →
-    ((a : Access) → e ≡ Accesses a → IsExactRider times_parts (noted_accesses (reverse list)) a
-    (rider_at times_riding p a.word)) → (a : Access) →
-    e ≡ Accesses a → AreExactFor all a (rider_of_event times_riding e p)
-step_exact Nothing p list all are exact finds a is = absurd cc
-step_exact (Retires at) p list all are exact finds a is = absurd cc
-step_exact (Accesses b) p list all are exact finds a is =
-    subst (λ (x : Access). AreExactFor all x (rider_at times_riding p b.word)) same
-    (found_exact all b (rider_at times_riding p b.word)
-    (subst (λ (l : List Access). FindsExactTimes l b (rider_at times_riding p b.word)) are
-    (exact_times_law list b (rider_at times_riding p b.word) (subst (λ (l : List Access). HaveExactClocks l list)
-    (sym are) exact) (finds b refl))))
-  where
-    same : b ≡ a
-    same = cc
-
 -- the times that its access finds are exact
 pub turned_exact : (all : List Access) (s s' : State Times Known) (m : Move) (r after : Reduced) (rest rest' : Choices)
     (list : List Retirement)
@@ -228,7 +205,7 @@ pub turned_exact : (all : List Access) (s s' : State Times Known) (m : Move) (r 
     Reduces list all r edges → (a : Access) → event times_riding known_carrying s m ≡ Accesses a →
     AreExactFor all a (rider_found times_riding known_carrying s m)
 turned_exact all s s' m r after rest rest' list edges turned machine reduces =
-    step_exact (event times_riding known_carrying s m) (retiring times_riding known_carrying s m) list all
+    event_exact (event times_riding known_carrying s m) (retiring times_riding known_carrying s m) list all
     reduces.accesses_are reduces.exact
     (turned.finds list machine)
 

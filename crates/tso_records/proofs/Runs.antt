@@ -17,15 +17,12 @@ use Rattle.rtr_types.specs.declared.access.Access.{Access}
 use Rattle.rtr_types.specs.declared.params.Params.{Params}
 use Rattle.rv_core.specs.States.{starting}
 use Rattle.rv_core.proofs.LawLemmas.{start_law}
-use Rattle.machine_times.proofs.ExactTimes.{exact_times_law}
 use Rattle.machine_times.proofs.RiderLaws.{times_absorb, times_fresh}
-use Rattle.machine_times.specs.ExactTimes.{FindsExactTimes, HaveExactClocks, retired_accesses}
 use Rattle.machine_times.specs.History.{NotedAccess}
-use Rattle.machine_times.specs.Retirements.{IsExactRider, Retirement, noted_accesses}
+use Rattle.machine_times.specs.Retirements.{Retirement, noted_accesses}
 use Rattle.machine_times.specs.TimedSteps.{times_parts}
 use Rattle.msi_memory.specs.declared.port.Port.{Port}
-use Rattle.msi_memory.specs.Memories.{rider_at}
-use Rattle.msi_state.specs.Events.{Event as ClerkEvent, Nothing as NothingTold, Retires, Accesses, rider_of_event}
+use Rattle.msi_state.specs.Events.{Event as ClerkEvent, Accesses}
 use Rattle.online_reduce.proofs.Reductions.{begin_law, least_law, no_count, none_counted}
 use Rattle.online_reduce.specs.Exact.{AreExactFor}
 use Rattle.online_reduce.specs.Reduced.{count_of, unreduced}
@@ -54,7 +51,7 @@ use Rattle.tso_records.specs.Records.{FoundTimesLaw, LeastEdgesLaw, NextToldLaw,
 use Rattle.exact_reduction.specs.Reducing.{ReducesExactly}
 use Rattle.tso_records.specs.Standings.{Standing, TimedState, clock_told, edges_told, found_by, found_in, moved_by}
 use Rattle.tso_records.specs.Standings.{next_move, reduced_told, standing_at, standing_start, times_left}
-use Rattle.exact_reduction.proofs.Reducing.{found_exact}
+use Rattle.exact_reduction.proofs.Reducing.{event_exact}
 use Rattle.tso_records.proofs.Telling.{After, Awaits, finds_exact_by, local_behind, noted_by_event, told_after}
 use Rattle.tso_records.proofs.Telling.{times_fit}
 
@@ -100,30 +97,12 @@ inside_behind : (n : ℕ) (xs ys : List Told) → AreInside n (xs ++ ys) → Are
 inside_behind n [] ys h = h
 inside_behind n (x ∷ xs) ys h = inside_behind n xs ys h.1
 
--- the times that an access finds are exact, since the noted clocks are
-step_exact : (e : ClerkEvent) (p : Port Times (Unit {0})) (list : List Retirement) (all : List Access) →
-    retired_accesses list ≡ all → HaveExactClocks all list →
-    ((a : Access) → e ≡ Accesses a →
-    IsExactRider times_parts (noted_accesses (reverse list)) a (rider_at times_riding p a.word)) → (a : Access) →
-    e ≡ Accesses a → AreExactFor all a (rider_of_event times_riding e p)
-step_exact NothingTold p list all are exact finds a is = absurd cc
-step_exact (Retires at) p list all are exact finds a is = absurd cc
-step_exact (Accesses b) p list all are exact finds a is =
-    subst (λ (x : Access). AreExactFor all x (rider_at times_riding p b.word)) same
-    (found_exact all b (rider_at times_riding p b.word)
-    (subst (λ (l : List Access). FindsExactTimes l b (rider_at times_riding p b.word)) are
-    (exact_times_law list b (rider_at times_riding p b.word)
-    (subst (λ (l : List Access). HaveExactClocks l list) (sym are) exact) (finds b refl))))
-  where
-    same : b ≡ a
-    same = cc
-
 module _ (params : Params) (s : PlainState) (all : List Access) (list : List Told) (w : Standing)
     (h : Stands params s all list w) where
   move_exact : (m : Move) → enabled times_riding none_carrying w.state m ≡ true → (a : Access) →
       ordering_of (event times_riding none_carrying w.state m) ≡ Accesses a → AreExactFor all a (found_in w.state m)
   move_exact m can =
-      step_exact (ordering_of (event times_riding none_carrying w.state m))
+      event_exact (ordering_of (event times_riding none_carrying w.state m))
       (ordering_port times_riding none_carrying w.state m) h.notes all
       h.reduces.accesses_are h.reduces.exact
       (λ a is. finds_exact times_parts none_carrying times_absorb (noted_accesses (reverse h.notes)) w.state m a h.holds
