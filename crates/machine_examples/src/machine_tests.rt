@@ -2,34 +2,13 @@
 ghost use Rattle.std.specs.Prelude.{◌≡◌, IfOk, length};
 ghost use Rattle.rtr_types.specs.Parameters.{Fits};
 
-use access_times::{Carry, Clerk, NoCarry, NoRider, Rider};
+use access_times::{NoCarry, NoRider};
 use image_mem::Image;
 use msi_machine::{Machine, Move};
-use rtr_types::{Access, CORES_MAX, Instr, Params};
+use rtr_types::{CORES_MAX, Instr, Params};
 use std::alloc::Global;
 use std::test::Fail;
-
-/// Accepts each instruction, and counts the retirements that it was told of.
-#[derive(Drop)]
-struct Counter {
-    told: u32,
-}
-
-impl<R: Rider, K: Carry> Clerk<R, K> for Counter {
-    ghost accepts = { λ c i. Unit {0} };
-
-    ghost told_local = { λ c i k d. Unit {0} };
-
-    ghost told_touch = { λ c r a k d q. q ≡ r };
-
-    fn local(&mut self, _at: Instr, _carry: &K) {
-        self.told = self.told.saturating_add(1);
-    }
-
-    fn touched(&mut self, _access: Access, _rider: &mut R, _carry: &K) {
-        self.told = self.told.saturating_add(1);
-    }
-}
+use test_clerks::Counter;
 
 /// A machine with the program over so many words, at its start: so many cores of at most ten instructions.
 fn machine_of(
@@ -113,7 +92,7 @@ static RUNS: [Run; 4] = [
 /// retirements there were, and the word.
 fn written(alloc: Global, run: &Run) -> Result<(u32, u32, u32), Fail> {
     let mut machine = machine_of(alloc, run.image, 2, 16)?;
-    let mut clerk = Counter { told: 0 };
+    let mut clerk = Counter::new();
     let mut steps = 0u32;
     for choice in &run.choices {
         machine.make_room()?;
@@ -123,9 +102,9 @@ fn written(alloc: Global, run: &Run) -> Result<(u32, u32, u32), Fail> {
         }
     }
     if !machine.done() || machine.core(1).count() != run.retired / 2 {
-        return Ok((steps, clerk.told, 0));
+        return Ok((steps, clerk.told(), 0));
     }
-    Ok((steps, clerk.told, machine.final_word(8)))
+    Ok((steps, clerk.told(), machine.final_word(8)))
 }
 
 // Each core retires all but one instruction by itself and one with its data, after a request was sent and
@@ -145,7 +124,7 @@ fn two_writes_take_their_steps_and_a_choice_decides_which_is_last(
 #[test]
 fn every_core_that_there_may_be_adds_to_one_word(rt: HostRuntime) -> Result<(), Fail> {
     let mut machine = machine_of(rt.alloc(), &SUM, CORES_MAX, 16)?;
-    let mut clerk = Counter { told: 0 };
+    let mut clerk = Counter::new();
     for choice in 0..1_000 {
         machine.make_room()?;
         if !machine.done() && machine.has_room() {
@@ -154,7 +133,7 @@ fn every_core_that_there_may_be_adds_to_one_word(rt: HostRuntime) -> Result<(), 
     }
     assert!(rt; machine.done());
     let cores = CORES_MAX as u32;
-    assert_eq!(rt; clerk.told, 4 * cores);
+    assert_eq!(rt; clerk.told(), 4 * cores);
     assert_eq!(rt; machine.final_words(2), [cores * (cores + 1) / 2, 0, 0, 0]);
     Ok(())
 }
@@ -167,14 +146,14 @@ const LAST_WORD: [u8; 12] = [
 #[test]
 fn one_store_touches_one_block_of_the_largest_memory(rt: HostRuntime) -> Result<(), Fail> {
     let mut machine = machine_of(rt.alloc(), &LAST_WORD, 1, 262_144)?;
-    let mut clerk = Counter { told: 0 };
+    let mut clerk = Counter::new();
     assert_eq!(rt; machine.touched(), 0);
     for _step in 0..5 {
         machine.make_room()?;
         assert!(rt; !machine.done() && machine.has_room());
         let _ = machine.step(0, &mut clerk);
     }
-    assert_eq!(rt; (machine.done(), clerk.told), (true, 3));
+    assert_eq!(rt; (machine.done(), clerk.told()), (true, 3));
     assert_eq!(rt; machine.touched(), 1);
     Ok(())
 }
@@ -184,12 +163,12 @@ fn one_store_touches_one_block_of_the_largest_memory(rt: HostRuntime) -> Result<
 fn the_first_step_is_the_chosen_cores(rt: HostRuntime) -> Result<(), Fail> {
     // ecall
     let mut machine = machine_of(rt.alloc(), &[0x73, 0, 0, 0], 2, 4)?;
-    let mut clerk = Counter { told: 0 };
+    let mut clerk = Counter::new();
     machine.make_room()?;
     assert!(rt; !machine.done() && machine.has_room());
     let stepped = machine.step(3, &mut clerk);
     let at = Instr { core: 1, count: 1 };
     assert_eq!(rt; (stepped.taken, stepped.retired), (Move::Core(1), Some(at)));
-    assert_eq!(rt; clerk.told, 1);
+    assert_eq!(rt; clerk.told(), 1);
     Ok(())
 }

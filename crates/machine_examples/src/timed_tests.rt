@@ -1,139 +1,15 @@
 //! A machine with times, in runs where copies are given up, forwarded or upgraded while another core waits
 //! for them: each access finds what the accesses before it left.
-ghost use Rattle.std.specs.Prelude.{◌≡◌, ◌≢◌, ◌<◌, ℕ, slice_index, slice_set};
-ghost use Rattle.std.proofs.Common.{◌∙◌, ap};
-ghost use Rattle.std.proofs.lemmas.List.{get_or-set_other};
-ghost use Rattle.access_times.specs.Times.{times_noted};
-ghost use Rattle.clock_core.specs.Counts.{no_counts};
-ghost use Rattle.rtr_types.specs.declared.TheConstants.{CORES_MAX};
-
-use access_times::{Carry, Clerk, NoCarry, Times, TimesClerk};
-use clock_core::Clock;
+use access_times::{NoCarry, Times};
 use image_mem::Image;
 use msi_machine::Machine;
-use rtr_types::{Access, BLOCK_WORDS, CORES_MAX, Instr, Params};
+use rtr_types::{Access, CORES_MAX, Instr, Params};
 use std::alloc::Global;
 use std::test::Fail;
-
-/// A place for each core, as the length of an array.
-const PLACES: usize = CORES_MAX as usize;
-
-/// The most accesses that a clerk keeps. No run here makes as many.
-const ROOM: usize = 8;
+use test_clerks::{Found, Noted, Noter, Read, Told, noted, noted_read};
 
 /// The most steps of a run here: (2 * 2 + 4) for each of the 10 instructions at most.
 const STEPS: usize = 80;
-
-/// A write with the clock that was noted for it.
-type Noted = Option<(Instr, Clock)>;
-
-/// The count of a core's read with its clock.
-type Read = Option<(u32, Clock)>;
-
-/// What an access finds of its word: the last write, and each core's last read since.
-#[derive(Clone, Copy, Debug, PartialEq, Eq)]
-struct Found {
-    write: Noted,
-    reads: [Read; PLACES],
-}
-
-/// An access, and what it found.
-#[derive(Clone, Copy, Debug, PartialEq, Eq)]
-struct Told {
-    access: Access,
-    found: Found,
-}
-
-/// Notes the n-th retirement of a core with the clock that has n at its place alone, and keeps all
-/// accesses in order.
-#[derive(Drop)]
-struct Keeper {
-    counts: [u32; PLACES],
-    told: [Option<Told>; ROOM],
-    kept: usize,
-}
-
-impl Keeper {
-    /// Keeps the access with what the rider has of its word.
-    fn keep(&mut self, access: Access, rider: &Times)
-        ensures { self.new.counts ≡ self.old.counts }
-    {
-        let slot = (access.word % BLOCK_WORDS as u32) as u8;
-        let mut reads = [None; PLACES];
-        for core in 0..CORES_MAX {
-            reads[core as usize] = rider.read_by(slot, core);
-        }
-        let write = rider.write(slot);
-        let found = Found { write, reads };
-        if self.kept < ROOM {
-            self.told[self.kept] = Some(Told { access, found });
-            self.kept += 1;
-        }
-    }
-}
-
-impl<K: Carry> Clerk<Times, K> for Keeper {
-    ghost accepts = { λ c at. at.core < CORES_MAX };
-
-    ghost told_local = { λ c at k d. d.counts ≡ slice_set c.counts at.core at.count };
-
-    ghost told_touch = { λ c before a k d after.
-        (d.counts ≡ slice_set c.counts a.at.core a.at.count)
-        × (after ≡ times_noted a before (slice_set no_counts a.at.core (slice_index d.counts a.at.core))) };
-
-    fn local(&mut self, at: Instr, _carry: &K) {
-        self.counts[at.core as usize] = at.count;
-    }
-
-    fn touched(&mut self, access: Access, rider: &mut Times, _carry: &K) {
-        self.keep(access, rider);
-        let at = access.at;
-        self.counts[at.core as usize] = at.count;
-        let mut clock = Clock::zero();
-        clock.set(at.core, self.counts[at.core as usize]);
-        let slot = (access.word % BLOCK_WORDS as u32) as u8;
-        if access.kind.is_write() {
-            rider.on_store(slot, at, clock);
-        } else {
-            rider.on_load(slot, at, clock);
-        }
-    }
-}
-
-impl<K: Carry> TimesClerk<K> for Keeper {
-    ghost use Rattle.std.specs.Prelude.{List};
-
-    ghost clock = { λ c core. slice_set no_counts core (slice_index c.counts core) };
-
-    ghost local_keeps = { λ c d at k told core other.
-        ap (λ (counts : List ℕ). slice_set no_counts core (slice_index counts core)) told
-        ∙ ap (λ (count : ℕ). slice_set no_counts core count)
-        (get_or-set_other c.counts at.core core at.count 0 other) };
-
-    ghost touch_keeps = { λ c d before after a k told core other.
-        ap (λ (counts : List ℕ). slice_set no_counts core (slice_index counts core)) told.0
-        ∙ ap (λ (count : ℕ). slice_set no_counts core count)
-        (get_or-set_other c.counts a.at.core core a.at.count 0 other) };
-
-    ghost touch_notes = { λ c d before after a k told. told.1 };
-}
-
-/// The clock that a `Keeper` notes for the instruction.
-fn clock_of(at: Instr) -> Clock {
-    let mut clock = Clock::zero();
-    if at.core < CORES_MAX {
-        clock.set(at.core, at.count);
-    }
-    clock
-}
-
-/// The instruction with its clock.
-fn noted(at: Option<Instr>) -> Noted {
-    match at {
-        None => None,
-        Some(at) => Some((at, clock_of(at))),
-    }
-}
 
 /// What the access leaves of its word, from what it was.
 fn after_access(found: Found, access: Access) -> Found {
@@ -141,22 +17,19 @@ fn after_access(found: Found, access: Access) -> Found {
     if access.kind.is_write() {
         return Found {
             write: noted(Some(at)),
-            reads: [None; PLACES],
+            ..Found::nothing()
         };
     }
     let mut reads = found.reads;
     if at.core < CORES_MAX {
-        reads[at.core as usize] = Some((at.count, clock_of(at)));
+        reads[at.core as usize] = noted_read(at.core, Some(at.count));
     }
     Found { reads, ..found }
 }
 
 /// What these accesses left of the word: the last write, and each core's last read since.
 fn left_by(accesses: &[Option<Told>], word: u32) -> Found {
-    let mut found = Found {
-        write: None,
-        reads: [None; PLACES],
-    };
+    let mut found = Found::nothing();
     for told in accesses {
         if let Some(Told { access, .. }) = told
             && access.word == word
@@ -282,8 +155,8 @@ fn bytes_of(alloc: Global, code: &[u32]) -> Result<Vec<u8>, Fail> {
     Ok(bytes)
 }
 
-/// The accesses of the row's run; none where it didn't end.
-fn accesses_of(alloc: Global, row: &Row) -> Result<[Option<Told>; ROOM], Fail> {
+/// What a noter keeps of the row's run; nothing where it didn't end.
+fn noted_in(alloc: Global, row: &Row) -> Result<Noter, Fail> {
     let image = Image::flat(bytes_of(alloc, row.code)?, 96)?;
     let params = Params {
         cores: 2,
@@ -291,11 +164,7 @@ fn accesses_of(alloc: Global, row: &Row) -> Result<[Option<Told>; ROOM], Fail> {
         words: 96,
     };
     let mut machine = Machine::<Times, NoCarry>::new(alloc, image, params)?;
-    let mut clerk = Keeper {
-        counts: [0; PLACES],
-        told: [None; ROOM],
-        kept: 0,
-    };
+    let mut clerk = Noter::new();
     for step in 0..STEPS {
         let choice = row.choices.get(step).copied().unwrap_or(0);
         machine.make_room()?;
@@ -305,30 +174,23 @@ fn accesses_of(alloc: Global, row: &Row) -> Result<[Option<Told>; ROOM], Fail> {
         }
     }
     if !machine.done() {
-        return Ok([None; ROOM]);
+        return Ok(Noter::new());
     }
-    Ok(clerk.told)
+    Ok(clerk)
 }
 
 /// What the row says of its access.
 fn said(row: &Row) -> Option<(Noted, Read)> {
-    let read = match row.read {
-        None => None,
-        Some(count) => {
-            let core = row.reader;
-            Some((count, clock_of(Instr { core, count })))
-        }
-    };
-    Some((noted(row.write), read))
+    Some((noted(row.write), noted_read(row.reader, row.read)))
 }
 
 #[test]
 fn each_access_finds_what_is_left(rt: HostRuntime) -> Result<(), Fail> {
     for row in &ROWS {
-        let accesses = accesses_of(rt.alloc(), row)?;
-        assert_eq!(rt; accesses.iter().flatten().count(), row.accesses);
-        assert!(rt; all_fit(&accesses));
-        assert_eq!(rt; found_at(&accesses, row.access, row.reader), said(row));
+        let noter = noted_in(rt.alloc(), row)?;
+        assert_eq!(rt; noter.kept, row.accesses);
+        assert!(rt; all_fit(&noter.told));
+        assert_eq!(rt; found_at(&noter.told, row.access, row.reader), said(row));
     }
     Ok(())
 }

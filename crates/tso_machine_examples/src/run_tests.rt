@@ -8,60 +8,12 @@ use crate::images::{
     ALL_ZERO, BYTES_BUFFERED, BYTES_OF_A_WORD, HANDED_OVER, MIXED, MIXED_ENDS, ONE_LOGGED,
     OWN_STORE_SEEN, STORE_BUFFERING, SUM, WORDS, choice_at,
 };
-use access_times::{Carry, Clerk, NoCarry, NoRider, Rider};
-use rtr_types::{Access, CORES_MAX, Instr, Params};
+use access_times::{NoCarry, NoRider};
+use rtr_types::{CORES_MAX, Params};
 use std::alloc::Global;
 use std::test::Fail;
-use tso_clerk::TsoClerk;
+use test_clerks::{Counter, Logged};
 use tso_core::BufferedMachine;
-
-/// The most logged loads that a clerk keeps. No run here logs as many.
-const ROOM: usize = 4;
-
-/// A load that is logged: its core, the count of its instruction, the index of its word, and the value that it got.
-type Logged = (u8, u32, u32, u32);
-
-/// Accepts each instruction, counts those without data and the ordered accesses, and keeps the logged loads.
-#[derive(Drop)]
-struct Keeper {
-    alone: u32,
-    ordered: u32,
-    logged: [Logged; ROOM],
-    logs: usize,
-}
-
-impl<R: Rider, K: Carry> Clerk<R, K> for Keeper {
-    ghost accepts = { λ c i. Unit {0} };
-
-    ghost told_local = { λ c i k d. Unit {0} };
-
-    ghost told_touch = { λ c r a k d q. q ≡ r };
-
-    fn local(&mut self, _at: Instr, _carry: &K) {
-        self.alone = self.alone.saturating_add(1);
-    }
-
-    fn touched(&mut self, _access: Access, _rider: &mut R, _carry: &K) {
-        self.ordered = self.ordered.saturating_add(1);
-    }
-}
-
-impl<R: Rider, K: Carry> TsoClerk<R, K> for Keeper {
-    ghost accepts_alone = { λ c i. Unit {0} };
-
-    ghost told_logged = { λ c i w v k d. Unit {0} };
-
-    fn alone(&mut self, _at: Instr, _carry: &K) {
-        self.alone = self.alone.saturating_add(1);
-    }
-
-    fn logged(&mut self, at: Instr, word: u32, value: u32, _carry: &K) {
-        if self.logs < ROOM {
-            self.logged[self.logs] = (at.core, at.count, word, value);
-            self.logs += 1;
-        }
-    }
-}
 
 /// A run of two cores: its choices, behind the last of which all are 0; after how many steps it ends; how many
 /// instructions without data the cores execute; how many accesses are ordered; the loads that are logged; a
@@ -118,7 +70,7 @@ static RUNS: [Run; 6] = [
 ];
 
 /// Whether the clerk kept exactly the run's logged loads.
-fn has_logged(clerk: &Keeper, run: &Run) -> bool {
+fn has_logged(clerk: &Counter, run: &Run) -> bool {
     clerk.logs == run.logged.len() && clerk.logged.starts_with(run.logged)
 }
 
@@ -148,12 +100,7 @@ fn made(alloc: Global, run: &Run) -> Result<(u32, u32, u32, bool, bool), Fail> {
         words: WORDS,
     };
     let mut machine = machine_of::<NoRider>(alloc, run.image, params)?;
-    let mut clerk = Keeper {
-        alone: 0,
-        ordered: 0,
-        logged: [(0, 0, 0, 0); ROOM],
-        logs: 0,
-    };
+    let mut clerk = Counter::new();
     let mut steps = 0u32;
     for number in 0..100usize {
         make_room(&mut machine)?;
@@ -164,7 +111,7 @@ fn made(alloc: Global, run: &Run) -> Result<(u32, u32, u32, bool, bool), Fail> {
     }
     let logged = has_logged(&clerk, run);
     let left = leaves(&machine, run);
-    Ok((steps, clerk.alone, clerk.ordered, logged, left))
+    Ok((steps, clerk.alone, clerk.accesses, logged, left))
 }
 
 #[test]
@@ -185,12 +132,7 @@ fn every_core_that_there_may_be_adds_to_one_word(rt: HostRuntime) -> Result<(), 
         words: WORDS,
     };
     let mut machine = machine_of::<NoRider>(rt.alloc(), &SUM, params)?;
-    let mut clerk = Keeper {
-        alone: 0,
-        ordered: 0,
-        logged: [(0, 0, 0, 0); ROOM],
-        logs: 0,
-    };
+    let mut clerk = Counter::new();
     for choice in 0..2_000 {
         make_room(&mut machine)?;
         if !machine.done() && machine.has_room() {
@@ -199,7 +141,7 @@ fn every_core_that_there_may_be_adds_to_one_word(rt: HostRuntime) -> Result<(), 
     }
     assert_eq!(rt; machine.done(), true);
     assert_eq!(rt; clerk.alone, 48);
-    assert_eq!(rt; clerk.ordered, 16);
+    assert_eq!(rt; clerk.accesses, 16);
     if machine.done() {
         assert_eq!(rt; machine.final_word(8), 136);
     }
