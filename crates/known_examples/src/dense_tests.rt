@@ -3,9 +3,9 @@ ghost use Rattle.std.specs.Prelude.{◌≡◌, ◌≢◌, ◌<◌, ◌+◌, ◌�
 ghost use Rattle.rtr_types.specs.declared.TheConstants.{CORES_MAX};
 ghost use Rattle.known_examples.specs.Dense.{AreCounted};
 
-use crate::keeper::{image_of, known_in_run};
-use know_history::{History, Known};
-use rtr_types::{CORES_MAX, Instr, Params};
+use crate::keeper::{Told, image_of, told_in_run};
+use know_history::History;
+use rtr_types::{CORES_MAX, Params};
 use schedule_pick::Schedule;
 use std::alloc::{AllocError, Global};
 use std::test::Fail;
@@ -46,15 +46,15 @@ static SEEDS: [u64; 3] = [1, 20_261_127, u64::MAX];
 /// has.
 #[derive(Drop)]
 struct Noted {
-    rows: Vec<(Instr, Known)>,
+    rows: Vec<Told>,
     history: History,
     counts: [u32; PLACES],
 }
 
 /// What was known at each retirement of a run under the seed, in their order.
-fn known_under(alloc: Global, seed: u64) -> Result<Vec<(Instr, Known)>, Fail> {
+fn known_under(alloc: Global, seed: u64) -> Result<Vec<Told>, Fail> {
     let image = image_of(alloc, &CODE, PARAMS.words)?;
-    known_in_run(
+    told_in_run(
         alloc,
         image,
         PARAMS,
@@ -72,12 +72,12 @@ fn is_next(count: u32, next: u32) -> bool
 
 /// The retirements with their history.
 #[tactic(auto, using(crate::proofs::Counted::begun, crate::proofs::Counted::noted, crate::proofs::Counted::next_one))]
-fn note_all(alloc: Global, rows: Vec<(Instr, Known)>) -> Result<Noted, AllocError>
+fn note_all(alloc: Global, rows: Vec<Told>) -> Result<Noted, AllocError>
     ensures { IfOk result (λ noted. AreCounted noted.history.notes noted.counts) }
 {
     let mut history = History::new(alloc, CORES)?;
     let mut counts = [0; PLACES];
-    for (at, known) in &rows {
+    for Told { at, known, .. } in &rows {
         if at.core < CORES {
             if is_next(counts[at.core as usize], at.count) {
                 history.ready()?;
@@ -101,11 +101,11 @@ fn noted_under(alloc: Global, seed: u64) -> Result<Noted, Fail>
 }
 
 /// The most that was known of core `of` at the core's retirements up to this count.
-fn most_known(rows: &[(Instr, Known)], core: u8, count: u32, of: u8) -> u32
+fn most_known(rows: &[Told], core: u8, count: u32, of: u8) -> u32
     requires { of < CORES_MAX }
 {
     let mut most = 0;
-    for (at, known) in rows {
+    for Told { at, known, .. } in rows {
         if at.core == core && at.count <= count {
             most = most.max(known.count(of));
         }

@@ -1,4 +1,4 @@
-//! Runs in which a clerk keeps what was known at each retirement.
+//! Runs in which a clerk keeps each retirement, with what was known at it.
 ghost use Rattle.std.specs.Prelude.{◌≡◌, IfOk};
 ghost use Rattle.rtr_types.specs.Parameters.{Fits};
 
@@ -11,10 +11,18 @@ use schedule_pick::Schedule;
 use std::alloc::Global;
 use std::test::Fail;
 
-/// Holds the instruction that it was told of last, with what is known at it. It accepts each instruction.
+/// A retirement: its instruction, what is known at it, and its access, if it has one.
+#[derive(Clone, Copy, Debug)]
+pub struct Told {
+    pub at: Instr,
+    pub known: Known,
+    pub access: Option<Access>,
+}
+
+/// Holds the retirement that it was told of last. It accepts each instruction.
 #[derive(Drop)]
-pub struct Keeper {
-    pub told: Option<(Instr, Known)>,
+struct Keeper {
+    told: Option<Told>,
 }
 
 impl<R: Rider> Clerk<R, Known> for Keeper {
@@ -25,11 +33,19 @@ impl<R: Rider> Clerk<R, Known> for Keeper {
     ghost told_touch = { λ c r a k d q. q ≡ r };
 
     fn local(&mut self, at: Instr, carry: &Known) {
-        self.told = Some((at, *carry));
+        self.told = Some(Told {
+            at,
+            known: *carry,
+            access: None,
+        });
     }
 
     fn touched(&mut self, access: Access, _rider: &mut R, carry: &Known) {
-        self.told = Some((access.at, *carry));
+        self.told = Some(Told {
+            at: access.at,
+            known: *carry,
+            access: Some(access),
+        });
     }
 }
 
@@ -44,14 +60,14 @@ pub fn image_of(alloc: Global, code: &[u32], words: u32) -> Result<Image, Fail>
     Ok(Image::flat(bytes, words)?)
 }
 
-/// What was known at each retirement of so many steps of a run, in their order, by a machine that records no times.
-pub fn known_in_run(
+/// The retirements of so many steps of a run, in their order, by a machine that records no times.
+pub fn told_in_run(
     alloc: Global,
     image: Image,
     params: Params,
     schedule: Schedule,
     steps: u32,
-) -> Result<Vec<(Instr, Known)>, Fail>
+) -> Result<Vec<Told>, Fail>
     requires fits { Fits params }
     requires words { image.words ≡ params.words }
 {

@@ -2,11 +2,9 @@
 ghost use Rattle.std.specs.Prelude.{◌≡◌, IfOk};
 ghost use Rattle.conflict_edge.specs.Conflicts.{are_after, do_counts_rise};
 
-use access_times::{Carry, Clerk, NoCarry, NoRider, Rider};
 use conflict_edge::{ACCESSES_MAX, least_of};
 use image_mem::Image;
-use known_examples::image_of;
-use msi_machine::Machine;
+use known_examples::{Told, image_of, told_in_run};
 use race_log::Recording;
 use recorder::record_run;
 use rtr_types::{Access, CORES_MAX, Edge, Instr, Params, pair_count, pair_of};
@@ -31,7 +29,7 @@ const CODE: [u32; 12] = [
 const ACCESSES: usize = 18 * CORES_MAX as usize;
 
 /// The most steps of a run: (2 P + 4) for each of the 30 instructions of each core, P the number of cores.
-pub const STEPS: u32 = (2 * CORES_MAX as u32 + 4) * 30 * CORES_MAX as u32;
+const STEPS: u32 = (2 * CORES_MAX as u32 + 4) * 30 * CORES_MAX as u32;
 
 /// All cores, few instructions, and 128 words.
 pub const PARAMS: Params = Params {
@@ -43,26 +41,6 @@ pub const PARAMS: Params = Params {
 /// The generator's states at the beginning of the runs.
 pub static SEEDS: [u64; 3] = [1, 20_261_127, u64::MAX];
 
-/// Holds the access that it was told of last. It accepts each instruction.
-#[derive(Drop)]
-struct Keeper {
-    told: Option<Access>,
-}
-
-impl<R: Rider, K: Carry> Clerk<R, K> for Keeper {
-    ghost accepts = { λ c i. Unit {0} };
-
-    ghost told_local = { λ c i k d. Unit {0} };
-
-    ghost told_touch = { λ c r a k d q. q ≡ r };
-
-    fn local(&mut self, _at: Instr, _carry: &K) {}
-
-    fn touched(&mut self, access: Access, _rider: &mut R, _carry: &K) {
-        self.told = Some(access);
-    }
-}
-
 /// The image of the code.
 pub fn image(alloc: Global) -> Result<Image, Fail>
     ensures { IfOk result (λ image. image.words ≡ 128) }
@@ -70,18 +48,22 @@ pub fn image(alloc: Global) -> Result<Image, Fail>
     image_of(alloc, &CODE, PARAMS.words)
 }
 
-/// The accesses of a run under the seed, in the order of retirement, by a machine that records no times.
+/// The retirements of a run under the seed, in their order, by a machine that records no times.
+pub fn told_under(alloc: Global, seed: u64) -> Result<Vec<Told>, Fail> {
+    told_in_run(
+        alloc,
+        image(alloc)?,
+        PARAMS,
+        Schedule::new(Vec::new(alloc), seed),
+        STEPS,
+    )
+}
+
+/// The accesses of a run under the seed, in the order of retirement.
 fn accesses_of(alloc: Global, seed: u64) -> Result<Vec<Access>, Fail> {
-    let mut machine = Machine::<NoRider, NoCarry>::new(alloc, image(alloc)?, PARAMS)?;
-    let mut schedule = Schedule::new(Vec::new(alloc), seed);
     let mut accesses = Vec::new(alloc);
-    for _ in 0..STEPS {
-        machine.make_room()?;
-        if !machine.done() {
-            let mut keeper = Keeper { told: None };
-            let _ = machine.step(schedule.next(), &mut keeper);
-            accesses.extend(keeper.told)?;
-        }
+    for told in &told_under(alloc, seed)? {
+        accesses.extend(told.access)?;
     }
     Ok(accesses)
 }

@@ -1,32 +1,19 @@
 //! Runs of all cores, whose recorded vectors are those of a slow program, which is written from the
 //! definition over what is known at each retirement.
-use crate::least_tests::{PARAMS, SEEDS, STEPS, image};
-use know_history::Known;
-use known_examples::known_in_run;
+use crate::least_tests::{PARAMS, SEEDS, image, told_under};
+use known_examples::Told;
 use race_log::Recording;
 use recorder::record_run;
-use rtr_types::{CORES_MAX, Instr, pair_count, pair_of};
+use rtr_types::{CORES_MAX, pair_count, pair_of};
 use schedule_pick::Schedule;
 use std::alloc::{AllocError, Global};
 use std::process::Abort;
 use std::test::Fail;
 use stride_vector::StrideVector;
 
-/// What was known at each retirement of a run under the seed, in their order, by a machine that records no
-/// times.
-fn known_under(alloc: Global, seed: u64) -> Result<Vec<(Instr, Known)>, Fail> {
-    known_in_run(
-        alloc,
-        image(alloc)?,
-        PARAMS,
-        Schedule::new(Vec::new(alloc), seed),
-        STEPS,
-    )
-}
-
 /// Whether the source's instruction is known at the target's.
-fn is_known(rows: &[(Instr, Known)], source: (u8, u64), target: (u8, u64)) -> bool {
-    for (at, known) in rows {
+fn is_known(rows: &[Told], source: (u8, u64), target: (u8, u64)) -> bool {
+    for Told { at, known, .. } in rows {
         if at.core == target.0 && at.count as u64 == target.1 && source.0 < CORES_MAX {
             return source.1 <= known.count(source.0) as u64;
         }
@@ -51,12 +38,7 @@ enum Answer {
     Ends,
 }
 
-fn taking(
-    rows: &[(Instr, Known)],
-    pair: (u8, u8),
-    positions: &[(u64, u64)],
-    edge: (u64, u64),
-) -> Answer {
+fn taking(rows: &[Told], pair: (u8, u8), positions: &[(u64, u64)], edge: (u64, u64)) -> Answer {
     for position in positions {
         if position.0 >= edge.0 {
             return Answer::Covers;
@@ -80,7 +62,7 @@ fn taking(
 /// The positions of each vector of one pair's edges, one after the other, and how many vectors there are.
 fn slow(
     alloc: Global,
-    rows: &[(Instr, Known)],
+    rows: &[Told],
     pair: (u8, u8),
     edges: &[(u32, u32)],
 ) -> Result<(Vec<(u64, u64)>, u64), AllocError> {
@@ -124,7 +106,7 @@ fn positions_of(alloc: Global, vectors: &[StrideVector]) -> Result<Vec<(u64, u64
 fn saved_by(
     rt: &impl Abort,
     alloc: Global,
-    rows: &[(Instr, Known)],
+    rows: &[Told],
     pair: (u8, u8),
     edges: &[(u32, u32)],
     vectors: &[StrideVector],
@@ -148,7 +130,7 @@ fn lists_at(recording: &Recording, place: usize) -> (&[(u32, u32)], &[StrideVect
 
 /// The same of all pairs of a run with this seed.
 fn saved_in_run(rt: &impl Abort, alloc: Global, seed: u64) -> Result<u64, Fail> {
-    let rows = known_under(alloc, seed)?;
+    let rows = told_under(alloc, seed)?;
     let schedule = Schedule::new(Vec::new(alloc), seed);
     let run = record_run(alloc, image(alloc)?, PARAMS, schedule)?;
     let mut saved = 0u64;
