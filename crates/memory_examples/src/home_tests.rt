@@ -24,26 +24,10 @@ enum Step {
     OwnerData(u8, u32),
 }
 
-fn ask(
-    rt: &impl Abort,
-    home: &mut Home<Trail>,
-    from: u8,
-    request: Request<Trail>,
-) -> HomeAnswer<Trail> {
-    assert!(rt; from < CORES_MAX && (request.block() as usize) < home.blocks());
-    assert!(rt; home.has_room(request.block()) && home.expects_request(from, &request));
-    home.on_request(from, request)
-}
-
-fn reply(
-    rt: &impl Abort,
-    home: &mut Home<Trail>,
-    from: u8,
-    response: Response<Trail>,
-) -> HomeAnswer<Trail> {
-    assert!(rt; from < CORES_MAX && (response.block() as usize) < home.blocks());
-    assert!(rt; home.expects_response(from, &response));
-    home.on_response(from, response)
+/// What a home takes from a core.
+enum Message {
+    Request(Request<Trail>),
+    Response(Response<Trail>),
 }
 
 /// A core's PutM of the block.
@@ -65,21 +49,39 @@ fn owner_data(mark: u32) -> Response<Trail> {
     }
 }
 
-fn take(rt: &impl Abort, home: &mut Home<Trail>, step: Step) -> HomeAnswer<Trail> {
+/// The core that the step's message comes from, and the message.
+fn message_of(step: Step) -> (u8, Message) {
     let block = BLOCK;
     match step {
-        Step::GetS(from) => ask(rt, home, from, Request::GetS { block }),
-        Step::GetM(from) => ask(rt, home, from, Request::GetM { block }),
+        Step::GetS(from) => (from, Message::Request(Request::GetS { block })),
+        Step::GetM(from) => (from, Message::Request(Request::GetM { block })),
         Step::PutS(from, mark) => {
             let rider = Trail { digits: mark };
-            ask(rt, home, from, Request::PutS { block, rider })
+            (from, Message::Request(Request::PutS { block, rider }))
         }
-        Step::PutM(from, mark) => ask(rt, home, from, put_m(mark)),
+        Step::PutM(from, mark) => (from, Message::Request(put_m(mark))),
         Step::InvAck(from, mark) => {
             let rider = Trail { digits: mark };
-            reply(rt, home, from, Response::InvAck { block, rider })
+            (from, Message::Response(Response::InvAck { block, rider }))
         }
-        Step::OwnerData(from, mark) => reply(rt, home, from, owner_data(mark)),
+        Step::OwnerData(from, mark) => (from, Message::Response(owner_data(mark))),
+    }
+}
+
+fn take(rt: &impl Abort, home: &mut Home<Trail>, step: Step) -> HomeAnswer<Trail> {
+    let (from, message) = message_of(step);
+    assert!(rt; from < CORES_MAX);
+    match message {
+        Message::Request(request) => {
+            assert!(rt; (request.block() as usize) < home.blocks());
+            assert!(rt; home.has_room(request.block()) && home.expects_request(from, &request));
+            home.on_request(from, request)
+        }
+        Message::Response(response) => {
+            assert!(rt; (response.block() as usize) < home.blocks());
+            assert!(rt; home.expects_response(from, &response));
+            home.on_response(from, response)
+        }
     }
 }
 
@@ -153,6 +155,23 @@ fn shared(bits: u8) -> Stage {
     }
 }
 
+/// The stage in which core 0 has to let its shared copy go, for this core.
+fn acks(requester: u8) -> Stage {
+    Stage::Acks {
+        of: CoreSet { bits: 1 },
+        requester,
+    }
+}
+
+/// The stage in which core 0 has to give its data, for core 1, which shares the block with it or owns it.
+fn gives(share: bool) -> Stage {
+    Stage::Data {
+        of: 0,
+        requester: 1,
+        share,
+    }
+}
+
 #[test]
 fn takes_requests_for_an_unshared_block(rt: HostRuntime) -> Result<(), Fail> {
     let alloc = rt.alloc();
@@ -173,13 +192,9 @@ fn takes_requests_for_a_shared_block(rt: HostRuntime) -> Result<(), Fail> {
     let two = After { path: &path };
     let unshared = Stage::Unshared;
     let owned = Stage::Owned { owner: 0 };
-    let acks = Stage::Acks {
-        of: CoreSet { bits: 1 },
-        requester: 1,
-    };
     alone.row(&rt, alloc, Step::GetS(1), data(1, 0, 0), (shared(3), 0, 0))?;
     alone.row(&rt, alloc, Step::GetM(0), data(0, 0, 0), (owned, 0, 0))?;
-    two.row(&rt, alloc, Step::GetM(1), invalidates(1), (acks, 0, 0))?;
+    two.row(&rt, alloc, Step::GetM(1), invalidates(1), (acks(1), 0, 0))?;
     two.row(&rt, alloc, Step::PutS(1, 5), put_ack(1), (shared(1), 0, 5))?;
     alone.row(&rt, alloc, Step::PutS(0, 5), put_ack(0), (unshared, 0, 5))?;
     two.row(&rt, alloc, Step::PutM(1, 5), put_ack(1), (shared(1), 0, 0))?;
@@ -195,19 +210,9 @@ fn takes_requests_for_an_owned_block(rt: HostRuntime) -> Result<(), Fail> {
     let unshared = Stage::Unshared;
     let owned = Stage::Owned { owner: 0 };
     let forward = sends(0, FromHome::FwdGetS { block: 2 });
-    let to_share = Stage::Data {
-        of: 0,
-        requester: 1,
-        share: true,
-    };
-    after.row(&rt, alloc, Step::GetS(1), forward, (to_share, 0, 0))?;
+    after.row(&rt, alloc, Step::GetS(1), forward, (gives(true), 0, 0))?;
     let forward = sends(0, FromHome::FwdGetM { block: 2 });
-    let to_own = Stage::Data {
-        of: 0,
-        requester: 1,
-        share: false,
-    };
-    after.row(&rt, alloc, Step::GetM(1), forward, (to_own, 0, 0))?;
+    after.row(&rt, alloc, Step::GetM(1), forward, (gives(false), 0, 0))?;
     after.row(&rt, alloc, Step::PutM(0, 5), put_ack(0), (unshared, 5, 5))?;
     after.row(&rt, alloc, Step::PutM(1, 5), put_ack(1), (owned, 0, 0))?;
     after.row(&rt, alloc, Step::PutS(1, 5), put_ack(1), (owned, 0, 0))
@@ -219,11 +224,13 @@ fn takes_responses(rt: HostRuntime) -> Result<(), Fail> {
     let alloc = rt.alloc();
     let path = [Step::GetS(0), Step::GetS(1), Step::GetM(2)];
     let after = After { path: &path };
-    let acks = Stage::Acks {
-        of: CoreSet { bits: 1 },
-        requester: 2,
-    };
-    after.row(&rt, alloc, Step::InvAck(1, 5), invalidates(0), (acks, 0, 5))?;
+    after.row(
+        &rt,
+        alloc,
+        Step::InvAck(1, 5),
+        invalidates(0),
+        (acks(2), 0, 5),
+    )?;
     let owned = Stage::Owned { owner: 2 };
     let path = [
         Step::GetS(0),
