@@ -8,7 +8,7 @@ mod traits;
 mod transfer;
 
 pub use memory_streams::{MemSink, MemSource};
-pub use std_streams::{StdSink, StdSource};
+pub use std_streams::{StdSink, StdSource, StdStream};
 pub use traits::{Failed, Sink, Source};
 pub use transfer::{ReadEnd, WriteFault, read_all, write_all};
 
