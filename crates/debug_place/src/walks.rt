@@ -20,6 +20,10 @@ use std::alloc::{AllocError, Global};
 /// A place for each core, as the length of an array.
 const PLACES: usize = CORES_MAX as usize;
 
+/// Before which core's next instruction a move was stopped; none where it came to its cut. It is refused for want of
+/// memory alone.
+pub(crate) type Stopped = Result<Option<u8>, AllocError>;
+
 /// A replay from the beginning to a closed cut.
 pub(crate) fn replay_at<'a>(
     alloc: Global,
@@ -114,7 +118,7 @@ pub(crate) fn go_until<S: Stops>(
     replay: &mut Replay,
     low: &Cut,
     high: &Cut,
-) -> Result<Option<u8>, AllocError>
+) -> Stopped
     requires timeline { timeline.now ≡ rounds_of audited.now.which audited.now.recording }
     requires at { IsReplayAt audited.now.which audited.now.recording low.now replay.old }
     requires within { IsContained low.now high.now }
@@ -138,7 +142,7 @@ fn walk_until<S: Stops>(
     replay: &mut Replay,
     to: &Cut,
     places: &[u8],
-) -> Result<Option<u8>, AllocError>
+) -> Stopped
     requires { IsWalking audited.now.which audited.now.recording to.now replay.old places.now }
     ensures ok { IfOk result (λ stopped. EndsWalk (S.stops stops.now) audited.now.which audited.now.recording to.now
         replay.old places.now replay.new stopped) }
