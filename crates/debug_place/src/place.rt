@@ -23,20 +23,11 @@ use std::marker::Model;
 
 /// A place in a recorded run: a cut that is closed under the audit's log, with the state that every replay order has
 /// that comes there. It holds one live replay, and the timeline by rounds.
+#[derive(Drop)]
 pub struct Place<'a> {
     audited: &'a Audited,
     timeline: Items<u8>,
     replay: Replay<'a>,
-}
-
-impl Drop for Place<'_> {
-    fn drop(self) {
-        let Place {
-            audited: _audited,
-            timeline: _timeline,
-            replay: _replay,
-        } = self;
-    }
 }
 
 impl<'a> Model for Place<'a> {

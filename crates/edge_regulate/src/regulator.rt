@@ -17,21 +17,11 @@ use stride_vector::StrideVector;
 /// and of each reduced edge. It keeps no history of what is known: of each pair of cores, whose last vector may
 /// go on, it awaits the next position, and looks whether that is known when the target's instruction retires.
 /// Contracts see the vectors, for each pair whether it has room for one more, and what each core awaits.
+#[derive(Drop)]
 pub struct Regulator {
     cores: u8,
     pairs: RoomyLists<StrideVector>,
     seats: Vec<Seat>,
-}
-
-// One call lets the whole regulator go, at each way out of the functions that own one.
-impl Drop for Regulator {
-    fn drop(self) {
-        let Regulator {
-            cores: _cores,
-            pairs: _pairs,
-            seats: _seats,
-        } = self;
-    }
 }
 
 impl Model for Regulator {

@@ -36,20 +36,11 @@ impl Newest {
 /// keeps the counts at which more was known than before, so that a search answers, and a core that is told
 /// nothing new takes no room. Contracts see what was noted at each retirement, and whether there is room for
 /// one more retirement of each core.
+#[derive(Drop)]
 pub struct History {
     newest: Vec<Newest>,
     /// For each core a list for each core that may be known of, oldest change first.
     changes: RoomyLists<Change>,
-}
-
-// One call lets the whole history go, at each way out of the functions that own one.
-impl Drop for History {
-    fn drop(self) {
-        let History {
-            newest: _newest,
-            changes: _changes,
-        } = self;
-    }
 }
 
 impl Model for History {

@@ -19,20 +19,11 @@ const CLOCKS_ROOM: usize = 1 << 14;
 
 /// For each core the clocks of its instructions to which an edge leads, and for each of its instructions
 /// how many of these clocks there are up to it.
+#[derive(Drop)]
 pub struct LogClocks {
     nothing: Clock,
     numbers: Vec<Items<usize>>,
     clocks: Vec<Items<Clock>>,
-}
-
-impl Drop for LogClocks {
-    fn drop(self) {
-        let LogClocks {
-            nothing: _nothing,
-            numbers: _numbers,
-            clocks: _clocks,
-        } = self;
-    }
 }
 
 impl Model for LogClocks {

@@ -22,22 +22,12 @@ const PLACES: usize = CORES_MAX as usize;
 
 /// The low order of a recording's log, which is whole, and the clocks of its instructions by the log. It is
 /// walked once; then the accesses of a play can be judged along it.
+#[derive(Drop)]
 pub struct WholeOrder<'a> {
     recording: &'a Recording,
     which: Which,
     order: Vec<u8>,
     clocks: LogClocks,
-}
-
-impl Drop for WholeOrder<'_> {
-    fn drop(self) {
-        let WholeOrder {
-            recording: _recording,
-            which: _which,
-            order: _order,
-            clocks: _clocks,
-        } = self;
-    }
 }
 
 impl<'a> Model for WholeOrder<'a> {
