@@ -356,7 +356,7 @@ front_names bytes are = record {
   image = (λ e. front-ends bytes IMAGE are e, name-image bytes are);
   totals = (λ e. front-ends bytes TOTALS are e, name-totals bytes are);
   reduced = (λ e. front-ends bytes REDUCED are e, name-reduced bytes are);
-  regulated = (λ e. front-ends bytes REGULATED are e, name-regulated bytes are);
+  fifth = (λ e. front-ends bytes REGULATED are e, name-regulated bytes are);
   no_other = λ part e. within part (front-ends bytes part are e);
 }
   where

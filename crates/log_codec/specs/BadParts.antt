@@ -1,6 +1,6 @@
 -- The first part that has no reading, in the grammar's own words: the parts below it are spelled by a front of the
 -- bytes, and no valid part follows there.
-use Rattle.std.specs.Prelude.{◌≡◌, ◌≢◌, ℕ, ◌*◌, ◌<◌, ◌≤◌, ◌↔◌, List, [], ◌++◌, length, slice_index_or, All, Err}
+use Rattle.std.specs.Prelude.{◌≡◌, ◌≢◌, ℕ, ◌*◌, ◌<◌, ◌≤◌, ◌↔◌, List, [], ◌++◌, length, slice_index_or, All, Result, Err}
 use Rattle.rtr_types.specs.declared.params.Params.{Params}
 use Rattle.rtr_types.specs.Pairs.{pair_count}
 use Rattle.stride_vector.specs.declared.StrideVector.{StrideVector}
@@ -113,14 +113,20 @@ NoRegulated bytes = (rest : List ℕ) × (u : UpToReduced bytes rest)
 
 -- ---- which part is named, by its number
 
+-- of the parts that are read, the first five by what they say where they are named, and none beyond the last
+pub record FiveNamed (A : Type 0) (read : Result A ℕ) (last : ℕ)
+    (Header Image Totals Reduced Fifth : Type 0) : Type 0 where
+  pub header : (read ≡ Err 1) ↔ Header
+  pub image : (read ≡ Err 2) ↔ Image
+  pub totals : (read ≡ Err 3) ↔ Totals
+  pub reduced : (read ≡ Err 4) ↔ Reduced
+  pub fifth : (read ≡ Err 5) ↔ Fifth
+  pub no_other : (part : ℕ) → read ≡ Err part → (1 ≤ part) × (part ≤ last)
+
 -- by a reading of a front of the bytes
-pub record FrontNames (bytes : List ℕ) : Type 0 where
-  pub header : (front_at bytes ≡ Err 1) ↔ NoHeader bytes
-  pub image : (front_at bytes ≡ Err 2) ↔ NoImage bytes
-  pub totals : (front_at bytes ≡ Err 3) ↔ NoTotals bytes
-  pub reduced : (front_at bytes ≡ Err 4) ↔ NoReduced bytes
-  pub regulated : (front_at bytes ≡ Err 5) ↔ NoRegulated bytes
-  pub no_other : (part : ℕ) → front_at bytes ≡ Err part → (1 ≤ part) × (part ≤ 5)
+abbrev pub FrontNames : (bytes : List ℕ) → Type 0
+FrontNames bytes = FiveNamed (Recording × List ℕ) (front_at bytes) 5 (NoHeader bytes) (NoImage bytes) (NoTotals bytes)
+    (NoReduced bytes) (NoRegulated bytes)
 
 -- by a reading of all bytes: the same, or the end, where bytes follow the other parts
 pub record WholeNames (bytes : List ℕ) : Type 0 where

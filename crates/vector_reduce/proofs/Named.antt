@@ -162,28 +162,30 @@ front-named bytes p two e = thinned-two bytes two ∙ ap (λ r. (r >>= after_fro
 -- of bytes that begin as version 2 does
 names-two : (bytes : List ℕ) → IsBytes bytes → begins_two bytes ≡ true → ThinNames bytes
 names-two bytes are two = record {
-  header = (
-    λ e. λ p len rest is. f.header.0 (below 1 (omega arith) e) Two p len rest is,
-    λ none. named 1
-        (f.header.1 (no_header none)),
-  );
-  image = (
-    λ e. let x = f.image.0 (below 2 (omega arith) e) in (x.0, x.1, version-two bytes _ two x.1, x.2),
-    λ x. named 2 (f.image.1 (x.0, x.1, x.3)),
-  );
-  totals = (
-    λ e. let x = f.totals.0 (below 3 (omega arith) e) in (x.0, x.1, version-two bytes _ two x.1.first, x.2),
-    λ x. named 3 (f.totals.1 (x.0, x.1, x.3)),
-  );
-  reduced = (λ e. reduced_two (f.reduced.0 (below 4 (omega arith) e)), λ x. named 4 (f.reduced.1 (reduced_any x)));
-  regulated = (
-    λ e. let x = f.regulated.0 (below 5 (omega arith) e) in
-        (x.0, x.1, version-two bytes _ two x.1.three.two.first, x.2),
-    λ x. named 5 (f.regulated.1 (x.0, x.1, x.3)),
-  );
+  five = record {
+    header = (
+      λ e. λ p len rest is. f.header.0 (below 1 (omega arith) e) Two p len rest is,
+      λ none. named 1
+          (f.header.1 (no_header none)),
+    );
+    image = (
+      λ e. let x = f.image.0 (below 2 (omega arith) e) in (x.0, x.1, version-two bytes _ two x.1, x.2),
+      λ x. named 2 (f.image.1 (x.0, x.1, x.3)),
+    );
+    totals = (
+      λ e. let x = f.totals.0 (below 3 (omega arith) e) in (x.0, x.1, version-two bytes _ two x.1.first, x.2),
+      λ x. named 3 (f.totals.1 (x.0, x.1, x.3)),
+    );
+    reduced = (λ e. reduced_two (f.reduced.0 (below 4 (omega arith) e)), λ x. named 4 (f.reduced.1 (reduced_any x)));
+    fifth = (
+      λ e. let x = f.fifth.0 (below 5 (omega arith) e) in
+          (x.0, x.1, version-two bytes _ two x.1.three.two.first, x.2),
+      λ x. named 5 (f.fifth.1 (x.0, x.1, x.3)),
+    );
+    no_other = λ part e. within part (stops bytes part are two e);
+  };
   shown = (λ e. at_shown (stops bytes SHOWN are two e), name-shown bytes are);
   end = (λ e. at_bytes (stops bytes END are two e), name-end bytes are);
-  no_other = λ part e. within part (stops bytes part are two e);
 }
   where
     f : FrontNames bytes
@@ -250,15 +252,18 @@ names-two bytes are two = record {
 -- of all others part 1 is named, and none of them has a header of version 2
 names-one : (bytes : List ℕ) → begins_two bytes ≡ false → ThinNames bytes
 names-one bytes one = record {
-  header = (λ e. λ p len rest is. never (header-begins bytes p len rest is), λ none. thinned-one bytes one);
-  image = (λ e. absurd (other 2 e (omega arith)), λ x. absurd (never (version-begins bytes _ x.1 x.2)));
-  totals = (λ e. absurd (other 3 e (omega arith)), λ x. absurd (never (version-begins bytes _ x.1.first x.2)));
-  reduced = (λ e. absurd (other 4 e (omega arith)), λ x. absurd (never (version-begins bytes _ x.1.two.first x.2)));
-  regulated = (
-    λ e. absurd (other 5 e (omega arith)),
-    λ x. absurd
-        (never (version-begins bytes _ x.1.three.two.first x.2)),
-  );
+  five = record {
+    header = (λ e. λ p len rest is. never (header-begins bytes p len rest is), λ none. thinned-one bytes one);
+    image = (λ e. absurd (other 2 e (omega arith)), λ x. absurd (never (version-begins bytes _ x.1 x.2)));
+    totals = (λ e. absurd (other 3 e (omega arith)), λ x. absurd (never (version-begins bytes _ x.1.first x.2)));
+    reduced = (λ e. absurd (other 4 e (omega arith)), λ x. absurd (never (version-begins bytes _ x.1.two.first x.2)));
+    fifth = (
+      λ e. absurd (other 5 e (omega arith)),
+      λ x. absurd
+          (never (version-begins bytes _ x.1.three.two.first x.2)),
+    );
+    no_other = λ part e. let is = part-is part e in (omega arith, omega arith);
+  };
   shown = (
     λ e. absurd (other 6 e (omega arith)),
     λ x. absurd
@@ -269,7 +274,6 @@ names-one bytes one = record {
     λ x. absurd
         (never (version-begins bytes _ x.1.five.four.three.two.first x.1.version)),
   );
-  no_other = λ part e. let is = part-is part e in (omega arith, omega arith);
 }
   where
     never : begins_two bytes ≡ true → ⊥

@@ -1,15 +1,16 @@
 -- The first part of a thinned recording that has no reading, in the grammar's own words: the parts below it are spelled
 -- by a front of the bytes, and no valid part follows there. The first five parts are a recording's in version 2.
-use Rattle.std.specs.Prelude.{◌≡◌, ◌≢◌, ℕ, ◌≤◌, ◌↔◌, List, [], ◌++◌, length, Err}
+use Rattle.std.specs.Prelude.{◌≡◌, ◌≢◌, ℕ, ◌↔◌, List, [], ◌++◌, length, Err}
 use Rattle.rtr_types.specs.declared.params.Params.{Params}
 use Rattle.rtr_types.specs.Turns.{StandInTurn, stay}
 use Rattle.stride_vector.specs.declared.StrideVector.{StrideVector}
 use Rattle.race_log.specs.declared.recording.Recording.{Recording}
 use Rattle.log_codec.specs.declared.version.Version.TheVariants.{Two}
-use Rattle.log_codec.specs.BadParts.{IsHeader, IsImage, IsReduced, IsRegulated, IsTotals, UpToHeader, UpToImage}
-use Rattle.log_codec.specs.BadParts.{UpToReduced, UpToRegulated, UpToTotals, recording_up_to}
+use Rattle.log_codec.specs.BadParts.{FiveNamed, IsHeader, IsImage, IsReduced, IsRegulated, IsTotals, UpToHeader}
+use Rattle.log_codec.specs.BadParts.{UpToImage, UpToReduced, UpToRegulated, UpToTotals, recording_up_to}
 use Rattle.log_codec.specs.Laws.{IsBytes}
 use Rattle.vector_reduce.specs.declared.thinned.Shown.{Shown}
+use Rattle.vector_reduce.specs.declared.thinned.Thinned.{Thinned}
 use Rattle.vector_reduce.specs.Reading.{thinned_at}
 use Rattle.vector_reduce.specs.Spelling.{shown_text}
 use Rattle.vector_reduce.specs.Validity.{ShownStands}
@@ -57,14 +58,10 @@ NoShown bytes = (rest : List ℕ) × (u : UpToRegulated bytes rest) × (u.four.t
 -- which part is named, by its number: part k just where the parts below it are there and it isn't, and 7 where bytes
 -- follow all others
 pub record ThinNames (bytes : List ℕ) : Type 0 where
-  pub header : (thinned_at bytes ≡ Err 1) ↔ NoHeader bytes
-  pub image : (thinned_at bytes ≡ Err 2) ↔ NoImage bytes
-  pub totals : (thinned_at bytes ≡ Err 3) ↔ NoTotals bytes
-  pub reduced : (thinned_at bytes ≡ Err 4) ↔ NoReduced bytes
-  pub regulated : (thinned_at bytes ≡ Err 5) ↔ NoRegulated bytes
+  pub five : FiveNamed Thinned (thinned_at bytes) 7 (NoHeader bytes) (NoImage bytes) (NoTotals bytes) (NoReduced bytes)
+      (NoRegulated bytes)
   pub shown : (thinned_at bytes ≡ Err 6) ↔ NoShown bytes
   pub end : (thinned_at bytes ≡ Err 7) ↔ ((rest : List ℕ) × UpToShown bytes rest × (rest ≢ []))
-  pub no_other : (part : ℕ) → thinned_at bytes ≡ Err part → (1 ≤ part) × (part ≤ 7)
 
 abbrev pub BadPart : Type 0
 BadPart = (bytes : List ℕ) → IsBytes bytes → ThinNames bytes
