@@ -6,3 +6,4 @@ pub mod Payments
 pub mod Capacity
 pub mod Firsts
 pub mod Ends
+pub mod Promised

@@ -1,18 +1,14 @@
 //! What each step earns, and what follows from it of the end of a run.
-ghost use Rattle.std.specs.Prelude.{◌≡◌, ◌<◌, ◌≤◌, ◌+◌, ◌*◌, ◌^◌, ℕ, IsTrue, length};
+ghost use Rattle.std.specs.Prelude.{◌<◌, ◌≤◌, IsTrue, length};
 ghost use Rattle.std.specs.List.{sum_by};
 ghost use Rattle.access_times.specs.Riding.{none_riding};
-ghost use Rattle.image_mem.specs.Contents.{Contents};
-ghost use Rattle.machine_bound.specs.Ends.{end_of, most_steps};
+ghost use Rattle.machine_bound.specs.Ends.{EndsInTime, end_of, most_steps};
 ghost use Rattle.machine_invariant.specs.Holds.{MachineHolds};
 ghost use Rattle.machine_bound.specs.Bound.{Earns, capacity, left, total_earned, total_retired};
 ghost use Rattle.msi_state.specs.Runs.{IsRunEnd, run};
 ghost use Rattle.msi_state.specs.States.{State};
 ghost use Rattle.msi_state.specs.Steps.{enabled, step};
 ghost use Rattle.msi_state.specs.declared.moves.Move.{Move};
-ghost use Rattle.rtr_types.specs.Parameters.{Fits};
-ghost use Rattle.rtr_types.specs.declared.TheConstants.{CORES_MAX};
-ghost use Rattle.rtr_types.specs.declared.params.Params.{Params};
 
 use access_times::{Carry, Rider};
 
@@ -35,20 +31,5 @@ pub fn every_step_earns<R: Rider, K: Carry>()
 /// a word where the parameters lie in their ranges. At each moment up to the end, at most `left` of these
 /// steps are still to come.
 pub fn a_run_ends_in_time()
-    ensures ends { (image : Contents) (params : Params) (choices : ℕ → ℕ)
-        → params.cores ≤ CORES_MAX → params.limit < 2 ^ 32
-        → IsRunEnd image params choices (end_of image params choices) }
-    ensures alone { (image : Contents) (params : Params) (choices : ℕ → ℕ) (t : ℕ)
-        → params.cores ≤ CORES_MAX → params.limit < 2 ^ 32
-        → IsRunEnd image params choices t → t ≡ end_of image params choices }
-    ensures in_time { (image : Contents) (params : Params) (choices : ℕ → ℕ)
-        → params.cores ≤ CORES_MAX → params.limit < 2 ^ 32
-        → end_of image params choices
-        ≤ (2 * params.cores + 4) * total_retired (run image params choices (end_of image params choices)) }
-    ensures within { (image : Contents) (params : Params) (choices : ℕ → ℕ)
-        → end_of image params choices ≤ most_steps params }
-    ensures remaining { (image : Contents) (params : Params) (choices : ℕ → ℕ) (t : ℕ)
-        → params.cores ≤ CORES_MAX → params.limit < 2 ^ 32
-        → t ≤ end_of image params choices → t + left none_riding (run image params choices t) ≤ most_steps params }
-    ensures few { (params : Params) → Fits params → most_steps params < 2 ^ 32 }
+    ensures { EndsInTime run IsRunEnd end_of most_steps 4 total_retired (left none_riding) }
 {}
