@@ -1,8 +1,8 @@
 //! What the copies of blocks are, what accesses find, and what is left of them.
-ghost use Rattle.std.specs.Prelude.{◌≡◌, ℕ, ◌*◌, ◌<◌, ◌≤◌, ◌^◌, true, All, IsTrue, List, length};
+ghost use Rattle.std.specs.Prelude.{◌≡◌, ℕ, ◌*◌, ◌≤◌, true, IsTrue, List, length};
 ghost use Rattle.access_times.specs.Riding.{none_carrying, none_riding};
-ghost use Rattle.image_mem.specs.Contents.{Contents, opening_word};
-ghost use Rattle.machine_data.specs.LastValues.{EachFindsLast, last_value, memory_left};
+ghost use Rattle.image_mem.specs.Contents.{Contents};
+ghost use Rattle.machine_data.specs.LastValues.{RunsFindLast, RunsLeaveLast};
 ghost use Rattle.machine_invariant.specs.Holds.{MachineHolds};
 ghost use Rattle.machine_data.specs.Coherent.{Coherent, Finds, LastWrite, memory_after, opening_memory};
 ghost use Rattle.msi_state.specs.FinalMemory.{final_memory, final_word, final_words};
@@ -10,8 +10,6 @@ ghost use Rattle.msi_state.specs.Runs.{accesses, run};
 ghost use Rattle.msi_state.specs.States.{State, all_done, state_start};
 ghost use Rattle.msi_state.specs.Steps.{enabled, event, step};
 ghost use Rattle.msi_state.specs.declared.moves.Move.{Move};
-ghost use Rattle.rtr_types.specs.declared.TheConstants.{CORES_MAX};
-ghost use Rattle.rtr_types.specs.declared.params.Params.{Params};
 
 use access_times::{Carry, Rider};
 
@@ -43,12 +41,7 @@ pub fn a_word_has_what_was_written_last()
 /// The value before of each access of a run is the value after of the last earlier access to that word,
 /// or what the image has there. And the word is one of the memory's.
 pub fn an_access_finds_the_last_value()
-    ensures finds { (image : Contents) (params : Params) (choices : ℕ → ℕ) (t : ℕ)
-        → params.cores ≤ CORES_MAX → params.limit < 2 ^ 32
-        → EachFindsLast image (accesses image params choices t) }
-    ensures within { (image : Contents) (params : Params) (choices : ℕ → ℕ) (t : ℕ)
-        → params.cores ≤ CORES_MAX → params.limit < 2 ^ 32
-        → All (λ a. a.word < image.words) (accesses image params choices t) }
+    ensures { RunsFindLast accesses }
 {}
 
 /// Once each core's program is done, the final memory of a state that has the invariant is the memory that it
@@ -61,14 +54,6 @@ pub fn the_end_has_the_memory<R: Rider, K: Carry>()
 /// Once each core's program is done, the final memory of a run has in each word the value after of the
 /// last access to it, or what the image has there.
 pub fn final_memory_law()
-    ensures word { (image : Contents) (params : Params) (choices : ℕ → ℕ) (t : ℕ)
-        → params.cores ≤ CORES_MAX → params.limit < 2 ^ 32
-        → all_done (run image params choices t) ≡ true → (word : ℕ) → word < image.words
-        → final_word none_riding none_carrying (run image params choices t) word
-        ≡ last_value (opening_word image word) word (accesses image params choices t) }
-    ensures memory { (image : Contents) (params : Params) (choices : ℕ → ℕ) (t : ℕ)
-        → params.cores ≤ CORES_MAX → params.limit < 2 ^ 32
-        → all_done (run image params choices t) ≡ true
-        → final_memory none_riding none_carrying (run image params choices t)
-        ≡ memory_left image (accesses image params choices t) }
+    ensures { RunsLeaveLast run all_done (final_word none_riding none_carrying) (final_memory none_riding none_carrying)
+        accesses }
 {}
