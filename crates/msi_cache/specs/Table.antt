@@ -82,27 +82,27 @@ want_row S false writes = asking PutS SiA
 want_row M false writes = asking PutM MiA
 want_row _ _ _ = None
 
--- what a line's state tells of it: its copy may be read, its copy may be written, and it waits for a message from home
-pub record Standing : Type 0 where
+-- what a line's state means: its copy may be read, its copy may be written, and it waits for a message from home
+pub record Meaning : Type 0 where
   pub reads : Bool
   pub writes : Bool
   pub waits : Bool
 
-abbrev pub stands : Bool → Bool → Bool → Standing
-stands reads writes waits = record { reads = reads; writes = writes; waits = waits }
+abbrev pub means : Bool → Bool → Bool → Meaning
+means reads writes waits = record { reads = reads; writes = writes; waits = waits }
 
-abbrev pub standing : State → Standing
-standing I = stands false false false
-standing S = stands true false false
-standing M = stands true true false
-standing SmD = stands true false true
-standing _ = stands false false true
+abbrev pub meaning : State → Meaning
+meaning I = means false false false
+meaning S = means true false false
+meaning M = means true true false
+meaning SmD = means true false true
+meaning _ = means false false true
 
 abbrev pub is_readable : State → Bool
-is_readable state = (standing state).reads
+is_readable state = (meaning state).reads
 
 abbrev pub is_writable : State → Bool
-is_writable state = (standing state).writes
+is_writable state = (meaning state).writes
 
 abbrev pub is_transient : State → Bool
-is_transient state = (standing state).waits
+is_transient state = (meaning state).waits

@@ -107,58 +107,58 @@ pub data Phase : Type 0 where
   AwaitsData : (share : Bool) → Phase
 
 -- what the home takes a core for, the core's line, and what is under way from and to it
-pub record Standing : Type 0 where
+pub record Situation : Type 0 where
   pub role : Role
   pub view : View
 
-abbrev pub standing : Role → State → List Ask → List Reply → List Signal → Standing
-standing r s q p m = record { role = r; view = view s q p m }
+abbrev pub situation : Role → State → List Ask → List Reply → List Signal → Situation
+situation r s q p m = record { role = r; view = view s q p m }
 
 -- each phase, whole
-abbrev pub standing_in : Phase → Standing
-standing_in Idle = standing Out I [] [] []
-standing_in AsksS = standing Out IsD (Ask.GetS ∷ []) [] []
-standing_in AsksM = standing Out ImD (Ask.GetM ∷ []) [] []
-standing_in (PutsLate p) = standing Out IiA (put p ∷ []) [] []
-standing_in (PutDone e) = standing Out (evicting e) [] [] (Signal.PutAck ∷ [])
-standing_in Holds = standing Sharer S [] [] []
-standing_in Fills = standing Sharer IsD [] [] (Signal.BlockData ∷ [])
-standing_in Upgrades = standing Sharer SmD (Ask.GetM ∷ []) [] []
-standing_in (Puts p) = standing Sharer SiA (put p ∷ []) [] []
-standing_in Owns = standing Owner M [] [] []
-standing_in FillsM = standing Owner ImD [] [] (Signal.BlockData ∷ [])
-standing_in UpgradeFills = standing Owner SmD [] [] (Signal.BlockData ∷ [])
-standing_in PutsM = standing Owner MiA (Ask.PutM ∷ []) [] []
-standing_in HoldsTold = standing Acker S [] [] (Signal.Inv ∷ [])
-standing_in FillsTold = standing Acker IsD [] [] (Signal.BlockData ∷ Signal.Inv ∷ [])
-standing_in UpgradesTold = standing Acker SmD (Ask.GetM ∷ []) [] (Signal.Inv ∷ [])
-standing_in (PutsTold p) = standing Acker SiA (put p ∷ []) [] (Signal.Inv ∷ [])
-standing_in Acked = standing Acker I [] (Reply.InvAck ∷ []) []
-standing_in AckedAsksS = standing Acker IsD (Ask.GetS ∷ []) (Reply.InvAck ∷ []) []
-standing_in AckedAsksM = standing Acker ImD (Ask.GetM ∷ []) (Reply.InvAck ∷ []) []
-standing_in (AckedPuts p) = standing Acker IiA (put p ∷ []) (Reply.InvAck ∷ []) []
-standing_in AwaitsAcks = standing AckWaiter ImD [] [] []
-standing_in UpgradeAwaitsAcks = standing AckWaiter SmD [] [] []
-standing_in (OwnsTold s) = standing (Giver s) M [] [] (forward s ∷ [])
-standing_in (FillsMTold s) = standing (Giver s) ImD [] [] (Signal.BlockData ∷ forward s ∷ [])
-standing_in (UpgradeFillsTold s) = standing (Giver s) SmD [] [] (Signal.BlockData ∷ forward s ∷ [])
-standing_in (PutsMTold s) = standing (Giver s) MiA (Ask.PutM ∷ []) [] (forward s ∷ [])
-standing_in GaveHolds = standing (Giver true) S [] (Reply.OwnerData ∷ []) []
-standing_in GaveUpgrades = standing (Giver true) SmD (Ask.GetM ∷ []) (Reply.OwnerData ∷ []) []
-standing_in (GavePuts p) = standing (Giver true) SiA (put p ∷ []) (Reply.OwnerData ∷ []) []
-standing_in GaveAll = standing (Giver false) I [] (Reply.OwnerData ∷ []) []
-standing_in GaveAllAsksS = standing (Giver false) IsD (Ask.GetS ∷ []) (Reply.OwnerData ∷ []) []
-standing_in GaveAllAsksM = standing (Giver false) ImD (Ask.GetM ∷ []) (Reply.OwnerData ∷ []) []
-standing_in GaveAllPuts = standing (Giver false) IiA (Ask.PutM ∷ []) (Reply.OwnerData ∷ []) []
-standing_in (AwaitsData s) = standing (GiveWaiter s) (filling s) [] [] []
+abbrev pub situation_in : Phase → Situation
+situation_in Idle = situation Out I [] [] []
+situation_in AsksS = situation Out IsD (Ask.GetS ∷ []) [] []
+situation_in AsksM = situation Out ImD (Ask.GetM ∷ []) [] []
+situation_in (PutsLate p) = situation Out IiA (put p ∷ []) [] []
+situation_in (PutDone e) = situation Out (evicting e) [] [] (Signal.PutAck ∷ [])
+situation_in Holds = situation Sharer S [] [] []
+situation_in Fills = situation Sharer IsD [] [] (Signal.BlockData ∷ [])
+situation_in Upgrades = situation Sharer SmD (Ask.GetM ∷ []) [] []
+situation_in (Puts p) = situation Sharer SiA (put p ∷ []) [] []
+situation_in Owns = situation Owner M [] [] []
+situation_in FillsM = situation Owner ImD [] [] (Signal.BlockData ∷ [])
+situation_in UpgradeFills = situation Owner SmD [] [] (Signal.BlockData ∷ [])
+situation_in PutsM = situation Owner MiA (Ask.PutM ∷ []) [] []
+situation_in HoldsTold = situation Acker S [] [] (Signal.Inv ∷ [])
+situation_in FillsTold = situation Acker IsD [] [] (Signal.BlockData ∷ Signal.Inv ∷ [])
+situation_in UpgradesTold = situation Acker SmD (Ask.GetM ∷ []) [] (Signal.Inv ∷ [])
+situation_in (PutsTold p) = situation Acker SiA (put p ∷ []) [] (Signal.Inv ∷ [])
+situation_in Acked = situation Acker I [] (Reply.InvAck ∷ []) []
+situation_in AckedAsksS = situation Acker IsD (Ask.GetS ∷ []) (Reply.InvAck ∷ []) []
+situation_in AckedAsksM = situation Acker ImD (Ask.GetM ∷ []) (Reply.InvAck ∷ []) []
+situation_in (AckedPuts p) = situation Acker IiA (put p ∷ []) (Reply.InvAck ∷ []) []
+situation_in AwaitsAcks = situation AckWaiter ImD [] [] []
+situation_in UpgradeAwaitsAcks = situation AckWaiter SmD [] [] []
+situation_in (OwnsTold s) = situation (Giver s) M [] [] (forward s ∷ [])
+situation_in (FillsMTold s) = situation (Giver s) ImD [] [] (Signal.BlockData ∷ forward s ∷ [])
+situation_in (UpgradeFillsTold s) = situation (Giver s) SmD [] [] (Signal.BlockData ∷ forward s ∷ [])
+situation_in (PutsMTold s) = situation (Giver s) MiA (Ask.PutM ∷ []) [] (forward s ∷ [])
+situation_in GaveHolds = situation (Giver true) S [] (Reply.OwnerData ∷ []) []
+situation_in GaveUpgrades = situation (Giver true) SmD (Ask.GetM ∷ []) (Reply.OwnerData ∷ []) []
+situation_in (GavePuts p) = situation (Giver true) SiA (put p ∷ []) (Reply.OwnerData ∷ []) []
+situation_in GaveAll = situation (Giver false) I [] (Reply.OwnerData ∷ []) []
+situation_in GaveAllAsksS = situation (Giver false) IsD (Ask.GetS ∷ []) (Reply.OwnerData ∷ []) []
+situation_in GaveAllAsksM = situation (Giver false) ImD (Ask.GetM ∷ []) (Reply.OwnerData ∷ []) []
+situation_in GaveAllPuts = situation (Giver false) IiA (Ask.PutM ∷ []) (Reply.OwnerData ∷ []) []
+situation_in (AwaitsData s) = situation (GiveWaiter s) (filling s) [] [] []
 
 -- the core's line and what is under way
 abbrev pub picture : Phase → View
-picture p = (standing_in p).view
+picture p = (situation_in p).view
 
 -- what the home takes the core for
 abbrev pub role_in : Phase → Role
-role_in p = (standing_in p).role
+role_in p = (situation_in p).role
 
 -- core d is where the home takes it to be
 pub record Stands (stage : Stage) (d : ℕ) (v : View) : Type 0 where

@@ -1,5 +1,5 @@
 -- The accesses that a new one may need an edge from.
-use Rattle.std.specs.Prelude.{◌≡◌, ℕ, zero, suc, ◌%◌, ◌⊎◌, List, [], ◌∷◌, ◌++◌, ◌&&◌, not, nat_eq, nat_lt, Option}
+use Rattle.std.specs.Prelude.{ℕ, zero, suc, ◌%◌, List, [], ◌∷◌, ◌++◌, ◌&&◌, not, nat_eq, nat_lt, Option}
 use Rattle.std.specs.Prelude.{Some, None, Bool, if◌then◌else◌}
 use Rattle.std.specs.Option.{option_to_list}
 use Rattle.rtr_types.specs.Accesses.{is_write}
