@@ -4,7 +4,6 @@ pub mod Choosing
 pub mod Counting
 pub mod Elsewhere
 pub mod Moves
-pub mod Marked
 pub mod Renewed
 pub mod Retiring
 pub mod Roomed

@@ -1,10 +1,11 @@
 -- The marks after each move are those of what can be done then.
-use Rattle.std.proofs.Common.{◌≡◌, ◌≢◌, ◌∙◌, sym, subst, ap, ℕ, ◌<◌, ◌≤◌, Bool, false}
-use Rattle.std.proofs.Common.{length, nat_lt, ◌&&◌}
+use Rattle.std.proofs.Common.{◌≡◌, ◌≢◌, ◌∙◌, refl, sym, subst, ap, ℕ, ◌+◌, ◌*◌, ◌<◌, ◌≤◌, Bool, false}
+use Rattle.std.proofs.Common.{length, nat_lt, ◌&&◌, ◌++◌, arith}
 use Rattle.std.specs.Prelude.{map, not}
+use Rattle.std.specs.List.{filter, range_with_len}
+use Rattle.std.proofs.lemmas.Bool.Decides.{nat_tests}
 use Rattle.access_times.specs.Riding.{Riding, Carrying}
 use Rattle.msi_memory.specs.declared.port.Port.{Port}
-use Rattle.msi_memory.specs.Acts.{TakeMessage, TakeRequest, TakeResponse}
 use Rattle.msi_memory.specs.Memories.{Memory, port_at}
 use Rattle.rtr_types.specs.CoreSets.{has}
 use Rattle.rtr_types.specs.declared.TheConstants.{CORES_MAX}
@@ -14,52 +15,51 @@ use Rattle.move_marks.specs.declared.marks.MoveKind.TheVariants.{Own}
 use Rattle.move_marks.specs.declared.marks.MoveMarks.{MoveMarks}
 use Rattle.move_marks.specs.Kinds.{set_of}
 use Rattle.move_marks.specs.Ports.{PortsMarked}
-use Rattle.move_marks.proofs.Acts.{can_past, same_at, waits_by}
+use Rattle.move_marks.proofs.Acts.{same_at, waits_by}
 use Rattle.move_marks.proofs.Delivered.{below_is, past_is}
 use Rattle.move_marks.proofs.Following.{each}
 use Rattle.move_marks.proofs.Lateness.{all_but}
+use Rattle.move_marks.proofs.Listing.{kind_and_others, kind_listed}
+use Rattle.move_marks.proofs.Made.{own_made, ports_listed}
 use Rattle.move_marks.proofs.OnePort.{same_long}
 use Rattle.machine_invariant.specs.Holds.{MachineHolds}
-use Rattle.msi_state.specs.declared.moves.Move.{Move}
-use Rattle.msi_state.specs.declared.moves.Move.TheVariants.{Core as CoreMove, Request as RequestMove}
-use Rattle.msi_state.specs.declared.moves.Move.TheVariants.{Response as ResponseMove, FromHome as MessageMove}
-use Rattle.msi_state.specs.Moves.{core_of}
+use Rattle.msi_state.specs.declared.moves.Move.TheVariants.{Core as CoreMove}
+use Rattle.msi_state.specs.Moves.{candidate}
 use Rattle.msi_state.specs.States.{State, core_at}
 use Rattle.msi_state.specs.Steps.{enabled, moves}
 use Rattle.msi_machine.specs.declared.marks.Marks.{Marks}
 use Rattle.msi_machine.specs.declared.standing.Standing.{Standing}
-use Rattle.msi_machine.specs.Marks.{AllMarked, OthersMarked, is_marked, marked}
+use Rattle.msi_machine.specs.Marks.{AllMarked, OthersMarked, made_of, marked}
 use Rattle.msi_machine.specs.Standings.{may_work, standing_at}
 use Rattle.msi_machine.proofs.Elsewhere.{MovedAt, elsewhere}
-use Rattle.msi_machine.proofs.Marked.{listed}
 
 module _ {R K : Type 0} where
-  -- no move can be made of a core that isn't there
-  pub past_none : (riding : Riding R) (carrying : Carrying K) (s : State R K) → length s.memory.ports ≡ length s.cores →
-      (m : Move) → length s.cores ≤ core_of m → enabled riding carrying s m ≡ false
-  past_none riding carrying s ports (CoreMove d) past =
+  -- a core that isn't there can't move by itself
+  own_past : (riding : Riding R) (carrying : Carrying K) (s : State R K) (d : ℕ) → length s.cores ≤ d →
+      enabled riding carrying s (CoreMove d) ≡ false
+  own_past riding carrying s d past =
       ap (λ (b : Bool). b && (not (is_done (need s.image (core_at s.cores d)))
       && not (waits (port_at carrying s.memory.ports d).cache))) (past_is d (length s.cores) past)
-  past_none riding carrying s ports (RequestMove d) past =
-      can_past riding carrying s.memory (TakeRequest d) (subst (λ (n : ℕ). n ≤ d) (sym ports) past)
-  past_none riding carrying s ports (ResponseMove d) past =
-      can_past riding carrying s.memory (TakeResponse d) (subst (λ (n : ℕ). n ≤ d) (sym ports) past)
-  past_none riding carrying s ports (MessageMove d) past =
-      can_past riding carrying s.memory (TakeMessage d) (subst (λ (n : ℕ). n ≤ d) (sym ports) past)
 
-  every_marked : (riding : Riding R) (carrying : Carrying K) (s : State R K) (marks : Marks) →
-      AllMarked riding carrying s marks → (m : Move) → is_marked marks m ≡ enabled riding carrying s m
-  every_marked riding carrying s marks all (CoreMove d) = all.own d
-  every_marked riding carrying s marks all (RequestMove d) = all.ports.requests d
-  every_marked riding carrying s marks all (ResponseMove d) = all.ports.responses d
-  every_marked riding carrying s marks all (MessageMove d) = all.ports.messages d
-
+  -- the marked moves are those that can be made, in order
   pub all_moves : (riding : Riding R) (carrying : Carrying K) (s : State R K) (marks : Marks) →
       MachineHolds riding carrying s → AllMarked riding carrying s marks → marked marks ≡ moves riding carrying s
   all_moves riding carrying s marks holds all =
-      listed (enabled riding carrying s) marks (length s.cores)
-      (subst (λ (n : ℕ). n ≤ CORES_MAX) holds.ports_there holds.memory.cores)
-      (every_marked riding carrying s marks all) (past_none riding carrying s holds.ports_there)
+      let cores : ℕ = length s.cores in
+      let few : cores ≤ CORES_MAX = subst (λ (n : ℕ). n ≤ CORES_MAX) holds.ports_there holds.memory.cores in
+      let four : 4 * cores ≡ cores + (cores + (cores + cores)) = omega arith in
+      sym (
+      ap (λ (n : ℕ). filter (enabled riding carrying s) (map (candidate cores) (range_with_len 0 n))) four
+      ∙ kind_and_others (enabled riding carrying s) (candidate cores) 0 cores (cores + (cores + cores))
+      ∙ (λ i. kind_listed (enabled riding carrying s) (candidate cores) (made_of Own) (set_of Own marks.moves) 0 cores
+      few (λ c within. grind (arith, nat_tests)) (λ c within. all.own c)
+      (λ c past within. own_past riding carrying s c past) i
+      ++ ports_listed (enabled riding carrying s) (candidate cores) made_of marks.moves cores few riding carrying
+      s.memory (0 + cores) all.ports holds.ports_there (λ c. refl) (λ c. refl) (λ c. refl)
+      (λ c within. grind (arith, nat_tests)) (λ c within. grind (arith, nat_tests))
+      (λ c within. grind (arith, nat_tests)) i)
+      ∙ sym (own_made made_of marks.moves)
+      )
 
   -- then no core is left open, whichever it is
   pub all_others : (riding : Riding R) (carrying : Carrying K) (s : State R K) (marks : Marks) →

@@ -1,5 +1,5 @@
 -- Which moves can be made, one bit a core in a set for each kind of move.
-use Rattle.std.specs.Prelude.{◌≡◌, ℕ, Bool, List, length, map, Option, Some, None}
+use Rattle.std.specs.Prelude.{◌≡◌, ℕ, List, length, map, Option, Some, None}
 use Rattle.access_times.specs.Riding.{Riding, Carrying}
 use Rattle.rtr_types.specs.CoreSets.{has}
 use Rattle.rtr_types.specs.declared.TheConstants.{CORES_MAX}
@@ -12,18 +12,11 @@ use Rattle.move_marks.specs.Ports.{PortsMarked, PortsMarkedBut}
 use Rattle.msi_state.specs.declared.moves.Move.{Move}
 use Rattle.msi_state.specs.declared.moves.Move.TheVariants.{Core as CoreMove, Request as RequestMove}
 use Rattle.msi_state.specs.declared.moves.Move.TheVariants.{Response as ResponseMove, FromHome as MessageMove}
-use Rattle.msi_state.specs.Moves.{core_of}
 use Rattle.msi_state.specs.States.{State}
 use Rattle.msi_state.specs.Steps.{enabled}
 use Rattle.msi_machine.specs.declared.marks.Marks.{Marks}
 
--- the move's kind, and the move of a kind at a core
-abbrev pub kind_of : Move → MoveKind
-kind_of (CoreMove c) = Own
-kind_of (RequestMove c) = Request
-kind_of (ResponseMove c) = Response
-kind_of (MessageMove c) = FromHome
-
+-- the move of a kind at a core
 abbrev pub made_of : MoveKind → ℕ → Move
 made_of Own c = CoreMove c
 made_of Request c = RequestMove c
@@ -32,10 +25,6 @@ made_of FromHome c = MessageMove c
 
 abbrev pub move_of : MarkedMove → Move
 move_of x = made_of x.kind x.core
-
--- the move is marked
-abbrev pub is_marked : Marks → Move → Bool
-is_marked marks m = has (set_of (kind_of m) marks.moves) (core_of m)
 
 -- the marked moves, in order
 abbrev pub marked : Marks → List Move

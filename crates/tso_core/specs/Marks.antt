@@ -1,5 +1,5 @@
 -- Which moves can be made, one bit a core in a set for each kind of move.
-use Rattle.std.specs.Prelude.{◌≡◌, ℕ, Bool, List, ◌++◌, length, map}
+use Rattle.std.specs.Prelude.{◌≡◌, ℕ, List, ◌++◌, length, map}
 use Rattle.access_times.specs.Riding.{Riding, Carrying}
 use Rattle.rtr_types.specs.CoreSets.{has}
 use Rattle.move_marks.specs.declared.marks.MarkedMove.{MarkedMove}
@@ -25,14 +25,6 @@ made_of FromHome c = MessageMove c
 
 abbrev pub move_of : MarkedMove → Move
 move_of x = made_of x.kind x.core
-
--- the move is marked
-abbrev pub is_marked : Marks → Move → Bool
-is_marked marks (CoreMove c) = has (set_of Own marks.moves) c
-is_marked marks (OrderMove c) = has marks.orders c
-is_marked marks (RequestMove c) = has (set_of Request marks.moves) c
-is_marked marks (ResponseMove c) = has (set_of Response marks.moves) c
-is_marked marks (MessageMove c) = has (set_of FromHome marks.moves) c
 
 -- the marked moves that aren't cores' own, in order
 abbrev pub marked_past_own : Marks → List Move

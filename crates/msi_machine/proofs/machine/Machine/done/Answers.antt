@@ -17,8 +17,8 @@ pub returns-then-not-is_empty-clause-done : goal.returns-then-not-is_empty-claus
 returns-then-not-is_empty-clause-done g c =
     let s : State g.row.R.Denot g.row.K.Denot = c.self.inside.parts.state in
     let more : all_done s ≡ false =
-    marked_goes_on g.R.Rider.riding g.K.Carry.carrying s c.self.inside.marks c.self.inside.asker
-    c.self.invariant.holds c.self.invariant.own c.self.invariant.ports.marked c.self.invariant.unmarked
+    marked_goes_on g.R.Rider.riding g.K.Carry.carrying c.self.inside.parts _ c.self.inside.marks c.self.inside.asker
+    c.self.invariant
     (some_there (length (marked c.self.inside.marks)) (sym c.is_empty.ensures ∙ c.if-not-is_empty.true)) in
     rw (← c.self.view_is) (sym more)
 
