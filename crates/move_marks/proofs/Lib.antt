@@ -12,3 +12,4 @@ pub mod Lateness
 pub mod Idle
 pub mod Listing
 pub mod Made
+pub mod Choosing

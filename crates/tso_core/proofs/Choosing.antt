@@ -1,30 +1,20 @@
 -- The move that a choice numbers can be made, and is the one that it numbers where nothing rides.
-use Rattle.std.proofs.Common.{◌≡◌, ◌∙◌, ap, sym, subst, ℕ, ◌*◌, ◌<◌, true, false, List, [], ◌∷◌, length, Some, arith}
+use Rattle.std.proofs.Common.{◌≡◌, ◌∙◌, ap, refl, sym, subst, ℕ, ◌*◌, ◌<◌, true, false, List, length, Some}
 use Rattle.std.specs.Prelude.{◌%◌, slice_index_or}
-use Rattle.std.proofs.lemmas.List.Elements.{filter_passes}
 use Rattle.access_times.specs.Riding.{Riding, Carrying}
+use Rattle.move_marks.proofs.Choosing.{numbered, numbered_chosen, numbered_passes}
 use Rattle.tso_state.specs.declared.moves.Move.{Move}
 use Rattle.tso_state.specs.Moves.{candidates}
 use Rattle.tso_state.specs.Runs.{chosen, chosen_of}
 use Rattle.tso_state.specs.States.{State, all_done}
 use Rattle.tso_state.specs.Steps.{enabled, moves}
-use Rattle.tso_invariant.proofs.Begins.{chosen_at}
 use Rattle.tso_invariant.proofs.Stuck.{some_move}
 use Rattle.tso_invariant.specs.Holds.{TsoHolds}
 use Rattle.tso_plain.proofs.Events.{plain_moves}
 use Rattle.tso_plain.specs.Plain.{plain}
 use Rattle.tso_core.specs.Machineries.{Machinery}
 use Rattle.tso_core.specs.Numbers.{IsNumbered}
-
-chosen_of_some : (ms : List Move) (choice : ℕ) (m : Move) → 0 < length ms → IsNumbered ms choice m →
-    chosen_of ms choice ≡ Some m
-chosen_of_some [] choice m some is = absurd (omega arith)
-chosen_of_some (first ∷ ms) choice m some is = ap Some (sym (is first))
-
--- what is found by its number among all
-pub numbered : {found ms : List Move} (choice count : ℕ) (m : Move) → found ≡ ms → count ≡ length found →
-    ((d : Move) → m ≡ slice_index_or found (choice % count) d) → IsNumbered ms choice m
-numbered choice count m all same is d = is d ∙ (λ i. slice_index_or (all i) (choice % (same ∙ ap length all) i) d)
+use Rattle.tso_core.specs.Steppings.{IsTaken}
 
 module _ {R K : Type 0} where
   pub plainly_chosen : (riding : Riding R) (carrying : Carrying K) (s : State R K) (choice : ℕ) (m : Move) →
@@ -32,15 +22,15 @@ module _ {R K : Type 0} where
       IsNumbered (moves riding carrying s) choice m → chosen (plain s) choice ≡ Some m
   plainly_chosen riding carrying s choice m some is =
       ap (λ (ms : List Move). chosen_of ms choice) (sym (plain_moves riding carrying s))
-      ∙ chosen_of_some (moves riding carrying s) choice m some is
+      ∙ numbered_chosen (λ (ms : List Move). chosen_of ms choice) (moves riding carrying s) choice m
+      (λ first later. refl) some is
 
+  -- what a step takes can be made
   pub taken_enabled : (riding : Riding R) (carrying : Carrying K) (s : State R K) (choice : ℕ) (m : Move) →
-      0 < length (moves riding carrying s) →
-      IsNumbered (moves riding carrying s) choice m → enabled riding carrying s m ≡ true
-  taken_enabled riding carrying s choice m some is =
-      chosen_at (moves riding carrying s) (λ (x : Move). enabled riding carrying s x ≡ true) choice m
-      (filter_passes (enabled riding carrying s) (candidates (length s.cores) (5 * length s.cores)))
-      (chosen_of_some (moves riding carrying s) choice m some is)
+      IsTaken riding carrying s choice m → enabled riding carrying s m ≡ true
+  taken_enabled riding carrying s choice m t =
+      numbered_passes (enabled riding carrying s) (candidates (length s.cores) (5 * length s.cores)) choice m t.some
+      t.numbered
 
   -- what is found so in a machine that isn't done can be made, and is what the choice takes where nothing rides
   module _ (riding : Riding R) (carrying : Carrying K) (m seen : Machinery R K) (choice count : ℕ) (taken : Move)
@@ -55,7 +45,9 @@ module _ {R K : Type 0} where
     pub found_enabled : enabled riding carrying m.state taken ≡ true
     found_enabled =
         subst (λ (x : Machinery R K). enabled riding carrying x.state taken ≡ true) (sym view)
-        (taken_enabled riding carrying seen.state choice taken some_there (numbered choice count taken all same is))
+        (numbered_passes (enabled riding carrying seen.state)
+        (candidates (length seen.state.cores) (5 * length seen.state.cores)) choice taken some_there
+        (numbered choice count taken all same is))
 
     pub found_chosen : chosen (plain seen.state) choice ≡ Some taken
     found_chosen = plainly_chosen riding carrying seen.state choice taken some_there (numbered choice count taken all

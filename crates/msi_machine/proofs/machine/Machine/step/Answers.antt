@@ -1,6 +1,6 @@
 -- The marks are those of the moves that can be made, so the one picked can be; after it the notes fit again, and the
 -- laws of moves give the promises.
-use Rattle.std.proofs.Common.{◌≡◌, ◌∙◌, ap, sym, subst, ◌<◌, ◌%◌, List, length, true, ℕ}
+use Rattle.std.proofs.Common.{◌≡◌, ◌∙◌, ap, refl, sym, subst, ◌<◌, ◌*◌, ◌%◌, List, length, true, ℕ}
 use Rattle.std.proofs.lemmas.List.{with_items_is}
 use Rattle.std.proofs.lemmas.Nat.{mod_below}
 use Rattle.machine_bound.proofs.Capacity.{nearer}
@@ -11,16 +11,20 @@ use Rattle.machine_invariant.proofs.Kept.{holds_kept}
 use Rattle.machine_invariant.proofs.Stepping.{step_cores}
 use Rattle.machine_plain.specs.Plain.{plain}
 use Rattle.machine_plain.proofs.Forgetting.{plain_event, plain_step}
+use Rattle.machine_plain.proofs.SameMoves.{plain_moves}
 use Rattle.machine_progress.proofs.Rested.{rooms_there, rows_there}
 use Rattle.machine_progress.proofs.Stuck.{some_move}
 use Rattle.msi_state.specs.Events.{Event}
-use Rattle.msi_state.specs.Moves.{IsNumbered}
+use Rattle.move_marks.proofs.Choosing.{numbered, numbered_chosen, numbered_passes}
+use Rattle.msi_state.specs.declared.moves.Move.{Move}
+use Rattle.msi_state.specs.Moves.{IsNumbered, candidates}
+use Rattle.msi_state.specs.Runs.{chosen_of}
 use Rattle.msi_state.specs.States.{Machinery, State}
 use Rattle.msi_state.specs.Steps.{enabled, event, moves, rider_left, step}
 use Rattle.msi_machine.specs.declared.standing.Standing.{Standing}
 use Rattle.msi_machine.specs.Steppings.{HasMoved, KeepsPromises}
 use Rattle.msi_machine.proofs.AtHand.{one_writer}
-use Rattle.msi_machine.proofs.Choosing.{found_enabled, numbered, plainly_chosen, seen_holds, taken_enabled}
+use Rattle.msi_machine.proofs.Choosing.{found_enabled, seen_holds}
 use Rattle.msi_machine.proofs.Moves.{notes_kept}
 use Rattle.msi_machine.proofs.Standings.{standings_long}
 use Rattle.msi_machine.proofs.machine.Machine.step.Goals as goal
@@ -75,11 +79,15 @@ returns-clause-taken g c =
     let is : IsNumbered (moves g.R.Rider.riding g.K.Carry.carrying s) c.args.choice c.pick-taken.result =
     numbered c.args.choice c.count.result c.pick-taken.result c.all_marks-marks.ensures.moves c.count.ensures
     c.pick-taken.ensures in
-    let can_be = taken_enabled g.R.Rider.riding g.K.Carry.carrying s c.args.choice c.pick-taken.result some is in
+    let can_be = numbered_passes (enabled g.R.Rider.riding g.K.Carry.carrying s)
+    (candidates (length s.cores) (4 * length s.cores)) c.args.choice c.pick-taken.result some is in
     record {
       some = some;
       numbered = is;
-      plainly = plainly_chosen g.R.Rider.riding g.K.Carry.carrying s c.args.choice c.pick-taken.result some is;
+      plainly = ap (λ (ms : List Move). chosen_of ms c.args.choice)
+          (sym (plain_moves g.R.Rider.riding g.K.Carry.carrying s))
+          ∙ numbered_chosen (λ (ms : List Move). chosen_of ms c.args.choice)
+          (moves g.R.Rider.riding g.K.Carry.carrying s) c.args.choice c.pick-taken.result (λ first later. refl) some is;
       row = rows_there g.R.Rider.riding g.K.Carry.carrying s c.pick-taken.result holds can_be;
       room = rooms_there g.R.Rider.riding g.K.Carry.carrying s c.pick-taken.result holds can_be;
     }

@@ -1,6 +1,6 @@
 -- The marks are those of the moves that can be made, so the one picked can be; after it the notes fit again, and the
 -- laws of moves give the promises.
-use Rattle.std.proofs.Common.{◌≡◌, ◌∙◌, ap, sym, subst, ◌<◌, ◌%◌, List, length, true, ℕ}
+use Rattle.std.proofs.Common.{◌≡◌, ◌∙◌, ap, sym, subst, ◌<◌, ◌*◌, ◌%◌, List, length, true, ℕ}
 use Rattle.std.proofs.lemmas.List.{with_items_is}
 use Rattle.std.proofs.lemmas.Nat.{mod_below}
 use Rattle.tso_bound.proofs.Capacity.{nearer}
@@ -13,17 +13,19 @@ use Rattle.tso_plain.proofs.Events.{plain_event}
 use Rattle.tso_plain.proofs.Steps.{plain_step, plain_told}
 use Rattle.tso_invariant.proofs.Rested.{rooms_there, rows_there}
 use Rattle.tso_invariant.proofs.Stuck.{some_move}
+use Rattle.move_marks.proofs.Choosing.{numbered, numbered_passes}
 use Rattle.tso_state.specs.Events.{Event}
 use Rattle.tso_core.specs.Machineries.{Machinery}
 use Rattle.tso_core.specs.Moving.{AcceptsOf, rider_left}
 use Rattle.tso_core.specs.Numbers.{IsNumbered}
+use Rattle.tso_state.specs.Moves.{candidates}
 use Rattle.tso_state.specs.States.{State}
 use Rattle.tso_state.specs.Steps.{enabled, event, moves, step}
 use Rattle.tso_core.specs.declared.standing.Standing.{Standing}
 use Rattle.tso_core.specs.Steppings.{HasMoved, KeepsPromises}
 use Rattle.tso_core.proofs.AtHand.{one_writer}
 use Rattle.tso_core.proofs.Ended.{holds_seen}
-use Rattle.tso_core.proofs.Choosing.{found_chosen, found_enabled, numbered, plainly_chosen, taken_enabled}
+use Rattle.tso_core.proofs.Choosing.{found_chosen, found_enabled, plainly_chosen}
 use Rattle.tso_core.proofs.Moves.{notes_kept}
 use Rattle.tso_core.proofs.Standings.{standings_long}
 use Rattle.tso_core.proofs.machine.BufferedMachine.step.Goals as goal
@@ -90,7 +92,8 @@ returns-clause-taken g c =
     let is : IsNumbered (moves g.R.Rider.riding g.K.Carry.carrying s) c.args.choice c.pick-taken.result =
     numbered c.args.choice c.count.result c.pick-taken.result c.all_marks-marks.ensures.moves c.count.ensures
     c.pick-taken.ensures in
-    let can_be = taken_enabled g.R.Rider.riding g.K.Carry.carrying s c.args.choice c.pick-taken.result some is in
+    let can_be = numbered_passes (enabled g.R.Rider.riding g.K.Carry.carrying s)
+    (candidates (length s.cores) (5 * length s.cores)) c.args.choice c.pick-taken.result some is in
     record {
       some = some;
       numbered = is;
