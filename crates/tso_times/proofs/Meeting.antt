@@ -12,17 +12,17 @@ use Rattle.tso_times.specs.Absorbing.{MeetAlike}
 
 module _ {R K : Type 0} where
   pub meet_alike : (parts : TimesParts R) (carrying : Carrying K) → MeetAlike parts carrying
-  meet_alike parts carrying h s (CoreMove c) holds e f x y met slot ls = absurd cc
-  meet_alike parts carrying h s (OrderMove c) holds e f x y met slot ls = absurd cc
-  meet_alike parts carrying h s (RequestMove c) holds e f x y met slot ls =
-      requests_alike parts carrying h s.memory c x y
+  meet_alike parts carrying h s (CoreMove c) holds e f = λ x y met slot ls. absurd cc
+  meet_alike parts carrying h s (OrderMove c) holds e f = λ x y met slot ls. absurd cc
+  meet_alike parts carrying h s (RequestMove c) holds e f =
+      requests_alike parts carrying h s.memory c
       (core_below parts.riding carrying s.memory c holds.memory
-      (there_of parts.riding carrying s.memory (TakeRequest c) e)) f.all met slot ls
-  meet_alike parts carrying h s (ResponseMove c) holds e f x y met slot ls =
-      responses_alike parts carrying h s.memory c x y
+      (there_of parts.riding carrying s.memory (TakeRequest c) e)) f.all
+  meet_alike parts carrying h s (ResponseMove c) holds e f =
+      responses_alike parts carrying h s.memory c
       (core_below parts.riding carrying s.memory c holds.memory
-      (there_of parts.riding carrying s.memory (TakeResponse c) e)) f.all met slot ls
-  meet_alike parts carrying h s (MessageMove c) holds e f x y met slot ls =
-      messages_alike parts carrying h s.memory c x y
+      (there_of parts.riding carrying s.memory (TakeResponse c) e)) f.all
+  meet_alike parts carrying h s (MessageMove c) holds e f =
+      messages_alike parts carrying h s.memory c
       (core_below parts.riding carrying s.memory c holds.memory
-      (there_of parts.riding carrying s.memory (TakeMessage c) e)) holds.memory e f.all met slot ls
+      (there_of parts.riding carrying s.memory (TakeMessage c) e)) holds.memory e f.all
