@@ -19,6 +19,11 @@ pub record Placed : Type 0 where
   pub which : Which
   pub state : Outcome
 
+-- the two are places of one recording, by one log
+pub record IsKept (old new : Placed) : Type 0 where
+  pub recording : new.recording ≡ old.recording
+  pub which : new.which ≡ old.which
+
 abbrev pub plan_at : Placed → Plan
 plan_at place = plan_of place.which place.recording
 

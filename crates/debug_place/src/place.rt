@@ -6,7 +6,7 @@ ghost use Rattle.replay_audit.specs.Audits.{IsInstrOf};
 ghost use Rattle.cut_replay.specs.ClosedCuts.{IsClosed, IsContained, count_in};
 ghost use Rattle.cut_moves.specs.Rounds.{rounds_of};
 ghost use Rattle.cut_moves.specs.Steps.{IsStep, IsStepBack, last_in, next_in};
-ghost use Rattle.debug_place.specs.Places.{Stands, cut_at, plan_at};
+ghost use Rattle.debug_place.specs.Places.{IsKept, Stands, cut_at, plan_at};
 ghost use Rattle.debug_place.specs.Backs.{GoesBack};
 ghost use Rattle.debug_place.specs.Stops.{GoesOn};
 
@@ -115,8 +115,7 @@ impl<'a> Place<'a> {
     /// memory alone, leaves the place as it was.
     pub fn seek(&mut self, alloc: Global, to: &Cut) -> Result<(), AllocError>
         requires { IsClosed self.old.which self.old.recording to.now }
-        ensures recording { self.new.recording ≡ self.old.recording }
-        ensures which { self.new.which ≡ self.old.which }
+        ensures kept { IsKept self.old self.new }
         ensures ok { OnOk result (cut_at self.new ≡ to.now) }
         ensures err { OnErr result (self.new ≡ self.old) }
     {
@@ -130,8 +129,7 @@ impl<'a> Place<'a> {
     pub fn move_on(&mut self, alloc: Global, to: &Cut) -> Result<(), AllocError>
         requires closed { IsClosed self.old.which self.old.recording to.now }
         requires within { IsContained (cut_at self.old) to.now }
-        ensures recording { self.new.recording ≡ self.old.recording }
-        ensures which { self.new.which ≡ self.old.which }
+        ensures kept { IsKept self.old self.new }
         ensures ok { OnOk result (cut_at self.new ≡ to.now) }
     {
         let low = self.replay.cut();
@@ -167,8 +165,7 @@ impl<'a> Place<'a> {
     pub fn go_to<S: Stops>(&mut self, alloc: Global, stops: &S, to: &Cut) -> Stopped
         requires closed { IsClosed self.old.which self.old.recording to.now }
         requires within { IsContained (cut_at self.old) to.now }
-        ensures recording { self.new.recording ≡ self.old.recording }
-        ensures which { self.new.which ≡ self.old.which }
+        ensures kept { IsKept self.old self.new }
         ensures ok { IfOk result (GoesOn (S.stops stops.now) self.old to.now self.new) }
     {
         let low = self.replay.cut();
@@ -190,8 +187,7 @@ impl<'a> Place<'a> {
     pub fn back<S: Stops>(&mut self, alloc: Global, stops: &S, to: &Cut) -> Stopped
         requires closed { IsClosed self.old.which self.old.recording to.now }
         requires within { IsContained to.now (cut_at self.old) }
-        ensures recording { self.new.recording ≡ self.old.recording }
-        ensures which { self.new.which ≡ self.old.which }
+        ensures kept { IsKept self.old self.new }
         ensures ok { IfOk result (GoesBack (S.stops stops.now) self.old to.now self.new) }
         ensures err { OnErr result (self.new ≡ self.old) }
     {
@@ -215,8 +211,7 @@ impl<'a> Place<'a> {
     /// refused for want of memory alone, and then the place is at a closed cut between the two.
     pub fn step(&mut self, alloc: Global, core: u8) -> Result<(), AllocError>
         requires { IsInstrOf self.old.recording (next_in (cut_at self.old) core) }
-        ensures recording { self.new.recording ≡ self.old.recording }
-        ensures which { self.new.which ≡ self.old.which }
+        ensures kept { IsKept self.old self.new }
         ensures ok { OnOk result (IsStep self.old.which self.old.recording (cut_at self.old)
             (next_in (cut_at self.old) core) (cut_at self.new)) }
     {
@@ -228,8 +223,7 @@ impl<'a> Place<'a> {
     /// refusal, which comes for want of memory alone, leaves the place as it was.
     pub fn step_back(&mut self, alloc: Global, core: u8) -> Result<(), AllocError>
         requires { IsInstrOf self.old.recording (last_in (cut_at self.old) core) }
-        ensures recording { self.new.recording ≡ self.old.recording }
-        ensures which { self.new.which ≡ self.old.which }
+        ensures kept { IsKept self.old self.new }
         ensures ok { OnOk result (IsStepBack self.old.which self.old.recording (cut_at self.old)
             (last_in (cut_at self.old) core) (cut_at self.new)) }
         ensures err { OnErr result (self.new ≡ self.old) }

@@ -19,11 +19,6 @@ pub record IsOf (a : Findings) (place : Placed) : Type 0 where
   pub recording : a.recording ≡ place.recording
   pub which : a.which ≡ place.which
 
--- the two are places of one recording, by one log
-pub record IsKept (old new : Placed) : Type 0 where
-  pub recording : new.recording ≡ old.recording
-  pub which : new.which ≡ old.which
-
 -- ---- commands that move nothing
 
 -- nothing moves, and this is told

@@ -2,9 +2,9 @@
 ghost use Rattle.std.specs.Prelude.{◌≡◌, ◌↔◌, ◌<◌, IfOk, IsOkAnd, IsTrue, OnErr};
 ghost use Rattle.race_log.specs.Validity.{Valid};
 ghost use Rattle.cut_replay.specs.ClosedCuts.{IsClosed, IsCutOf};
-ghost use Rattle.debug_place.specs.Places.{cut_at};
+ghost use Rattle.debug_place.specs.Places.{IsKept, cut_at};
 ghost use Rattle.gdb_monitor.specs.Moves.{AreCounts, Comes, GoesAround, GoesIfClosed, GoesTo, GoesToCut, IsExtreme};
-ghost use Rattle.gdb_monitor.specs.Moves.{IsKept, IsOf, cut_with_counts};
+ghost use Rattle.gdb_monitor.specs.Moves.{IsOf, cut_with_counts};
 
 use crate::texts::{Told, cut_text, open_text, usage};
 use cut_moves::{earliest, hull, latest};

@@ -1,6 +1,7 @@
 //! What each command does.
 ghost use Rattle.std.specs.Prelude.{◌≡◌, IfOk, OnErr};
-ghost use Rattle.gdb_monitor.specs.Moves.{IsKept, IsOf};
+ghost use Rattle.debug_place.specs.Places.{IsKept};
+ghost use Rattle.gdb_monitor.specs.Moves.{IsOf};
 ghost use Rattle.gdb_monitor.specs.Obeying.{Asks, AuditTells, Obeys};
 
 use crate::asking::{history_told, readers_told, writer_told};

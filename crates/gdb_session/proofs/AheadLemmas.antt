@@ -14,8 +14,7 @@ use Rattle.replay_audit.specs.Audits.{IsInstrOf}
 use Rattle.cut_replay.specs.ClosedCuts.{IsClosed, IsCutOf}
 use Rattle.cut_moves.specs.Steps.{next_in}
 use Rattle.cut_moves.proofs.Hulls.{in_whole}
-use Rattle.debug_place.specs.Places.{Placed, Stands, cut_at}
-use Rattle.gdb_monitor.specs.Moves.{IsKept}
+use Rattle.debug_place.specs.Places.{IsKept, Placed, Stands, cut_at}
 use Rattle.gdb_session.specs.declared.direction.Direction.{Direction}
 use Rattle.gdb_session.specs.declared.direction.Direction.TheVariants.{Forward, Back}
 use Rattle.gdb_session.specs.Directions.{GoesTo, IsLimit, IsStepIn, LiesAhead}
@@ -44,24 +43,23 @@ limit_ahead Back r limit cut none is_cut = λ core. let nothing = none core in o
 -- the core at whose instruction something stopped the way has a next one there
 next_at : (way : Direction) (test : Plan → Outcome → ℕ → Bool) (old mid : Placed) (to : Cut) →
     Stands old → Valid old.recording → IsClosed old.which old.recording to → LiesAhead way (cut_at old) to →
-    mid.recording ≡ old.recording → mid.which ≡ old.which → (stopped : Option ℕ) →
-    GoesTo way test old to mid stopped →
+    IsKept old mid → (stopped : Option ℕ) → GoesTo way test old to mid stopped →
     IfSome stopped (λ core. IsInstrOf mid.recording (next_in (cut_at mid) core))
-next_at way test old mid to stands valid closed ahead recording which None goes = tt
-next_at Forward test old mid to stands valid closed ahead recording which (Some core) goes =
-    next_forward test old mid to core stands valid closed ahead recording which goes
-next_at Back test old mid to stands valid closed ahead recording which (Some core) goes =
-    next_backward test old mid to core stands valid closed ahead recording which goes
+next_at way test old mid to stands valid closed ahead kept None goes = tt
+next_at Forward test old mid to stands valid closed ahead kept (Some core) goes =
+    next_forward test old mid to core stands valid closed ahead kept.recording kept.which goes
+next_at Back test old mid to stands valid closed ahead kept (Some core) goes =
+    next_backward test old mid to core stands valid closed ahead kept.recording kept.which goes
 
 -- so it has where a move in this direction was stopped
 pub next_where : {E : Type 0} (result : Result (Option ℕ) E) (direction way : Direction)
     (test : Plan → Outcome → ℕ → Bool) (old mid : Placed) (to : Cut) → direction ≡ way →
     Stands old → Valid old.recording → IsClosed old.which old.recording to → LiesAhead direction (cut_at old) to →
-    mid.recording ≡ old.recording → mid.which ≡ old.which → IfOk result (GoesTo way test old to mid) →
+    IsKept old mid → IfOk result (GoesTo way test old to mid) →
     IfOk result (λ stopped. IfSome stopped (λ core. IsInstrOf mid.recording (next_in (cut_at mid) core)))
-next_where result direction way test old mid to is stands valid closed ahead recording which goes =
+next_where result direction way test old mid to is stands valid closed ahead kept goes =
     let lies = subst (λ (one : Direction). LiesAhead one (cut_at old) to) is ahead in
-    IfOk-weaker result _ _ (next_at way test old mid to stands valid closed lies recording which) goes
+    IfOk-weaker result _ _ (next_at way test old mid to stands valid closed lies kept) goes
 
 -- where nothing stopped it, it came to the cut
 came : (direction : Direction) (test : Plan → Outcome → ℕ → Bool) (old new : Placed) (to : Cut) →

@@ -21,8 +21,7 @@ use Rattle.cut_replay.specs.ClosedCuts.{count_in, IsContained}
 use Rattle.cut_moves.specs.Steps.{IsWholeCut, last_in}
 use Rattle.cut_moves.proofs.Hulls.{in_whole}
 use Rattle.cut_moves.proofs.Rounds.{rounds_whole}
-use Rattle.debug_place.specs.Places.{Placed, Stands, cut_at, plan_at}
-use Rattle.gdb_monitor.specs.Moves.{IsKept}
+use Rattle.debug_place.specs.Places.{IsKept, Placed, Stands, cut_at, plan_at}
 use Rattle.gdb_session.specs.declared.direction.Direction.TheVariants.{Back}
 use Rattle.gdb_session.specs.Moves.{Follow, StepsFree, TakesTurn}
 use Rattle.gdb_session.specs.Stopping.{Stopping}

@@ -27,8 +27,7 @@ use Rattle.cut_moves.specs.Rounds.{rounds_of}
 use Rattle.cut_moves.proofs.Rounds.{rounds_ordered}
 use Rattle.cut_moves.proofs.Going.{total_small}
 use Rattle.cut_moves.proofs.Taking.{bumped}
-use Rattle.debug_place.specs.Places.{Placed, cut_at, plan_at}
-use Rattle.gdb_monitor.specs.Moves.{IsKept}
+use Rattle.debug_place.specs.Places.{IsKept, Placed, cut_at, plan_at}
 use Rattle.gdb_session.specs.declared.direction.Direction.TheVariants.{Forward}
 use Rattle.gdb_session.specs.Moves.{Follow, StepsFree, TakesTurn}
 use Rattle.gdb_session.specs.Stopping.{Stopping}

@@ -11,8 +11,7 @@ use Rattle.gdb_packets.specs.declared.replies.Why.TheVariants.{Nothing, Breakpoi
 use Rattle.replay_audit.specs.Audits.{IsInstrOf}
 use Rattle.cut_replay.specs.ClosedCuts.{IsClosed}
 use Rattle.cut_moves.specs.Steps.{IsStep, next_in}
-use Rattle.debug_place.specs.Places.{Placed, cut_at, plan_at}
-use Rattle.gdb_monitor.specs.Moves.{IsKept}
+use Rattle.debug_place.specs.Places.{IsKept, Placed, cut_at, plan_at}
 use Rattle.gdb_session.specs.declared.direction.Direction.{Direction}
 use Rattle.gdb_session.specs.declared.direction.Direction.TheVariants.{Forward, Back}
 use Rattle.gdb_session.specs.declared.orders.Order.{Order}

@@ -1,7 +1,8 @@
 //! Commands of the debugger's user.
 ghost use Rattle.std.specs.Prelude.{◌≡◌, IfOk, OnOk};
+ghost use Rattle.debug_place.specs.Places.{IsKept};
 ghost use Rattle.gdb_monitor.specs.Commands.{command_of};
-ghost use Rattle.gdb_monitor.specs.Moves.{IsKept, IsOf};
+ghost use Rattle.gdb_monitor.specs.Moves.{IsOf};
 ghost use Rattle.gdb_session.specs.Commanded.{IsCommanded};
 ghost use Rattle.gdb_session.specs.Wishes.{Fit, commanded_wishes};
 

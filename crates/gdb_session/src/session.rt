@@ -1,8 +1,7 @@
 //! A session.
 ghost use Rattle.std.specs.Prelude.{◌≡◌, ◌∷◌, [], IfOk, IfSome, OnOk};
-ghost use Rattle.debug_place.specs.Places.{Stands, cut_at};
+ghost use Rattle.debug_place.specs.Places.{IsKept, Stands, cut_at};
 ghost use Rattle.gdb_packets.specs.Replies.{spelled};
-ghost use Rattle.gdb_monitor.specs.Moves.{IsKept};
 ghost use Rattle.gdb_session.specs.Answers.{AnswersPacket, AnswersPlain, AnswersWith, MovesBy, next_after};
 ghost use Rattle.gdb_session.specs.Orders.{IsWithin};
 ghost use Rattle.gdb_session.specs.Points.{takes, with_point};

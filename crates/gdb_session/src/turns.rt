@@ -3,8 +3,8 @@ ghost use Rattle.std.specs.Prelude.{◌≡◌, ◌<◌, IfOk, IfSome, MatchOptio
 ghost use Rattle.race_log.specs.Validity.{Valid};
 ghost use Rattle.replay_audit.specs.Audits.{IsInstrOf};
 ghost use Rattle.cut_replay.specs.ClosedCuts.{count_in};
-ghost use Rattle.debug_place.specs.Places.{cut_at};
-ghost use Rattle.gdb_monitor.specs.Moves.{IsKept, IsOf};
+ghost use Rattle.debug_place.specs.Places.{IsKept, cut_at};
+ghost use Rattle.gdb_monitor.specs.Moves.{IsOf};
 ghost use Rattle.gdb_session.specs.declared.direction.Direction.TheVariants.{Back, Forward};
 ghost use Rattle.gdb_session.specs.Directions.{ahead_in};
 ghost use Rattle.gdb_session.specs.Moves.{GoesWith, StepsFree, StepsInto};

@@ -34,7 +34,7 @@ returns-in_ok-seek-in-Some-clause-ok g c =
       state = here.state;
       ends = came_back test old c.seek.new.self to here.there (way_back old to) (length (way_back old to))
           c.in-Some.seen
-          c.in_ok-seek-in-Some.ensures.recording c.in_ok-seek-in-Some.ensures.which
+          c.in_ok-seek-in-Some.ensures.kept.recording c.in_ok-seek-in-Some.ensures.kept.which
           (subst (λ (place : Placed). Valid place.recording) c.self.view_is c.self.invariant.valid) c.cut.ensures.stands
           c.in_ok-seek-in-Some.ensures.ok here.state here.notes;
     }

@@ -7,10 +7,10 @@ pub returns-in-Forward-clause-next : goal.returns-in-Forward-clause-next
 returns-in-Forward-clause-next c =
     next_where c.go_to.result _ Forward (stops_at (stopping_of c.args.self.now)) c.args.place.now c.go_to.new.self
     c.args.to.now c.in-Forward.is c.cut.ensures.stands c.requires.valid c.requires.closed c.requires.ahead
-    c.go_to.ensures.recording c.go_to.ensures.which c.go_to.ensures.ok
+    c.go_to.ensures.kept c.go_to.ensures.ok
 
 pub returns-in-Back-clause-next : goal.returns-in-Back-clause-next
 returns-in-Back-clause-next c =
     next_where c.back.result _ Back (stops_at (stopping_of c.args.self.now)) c.args.place.now c.back.new.self
     c.args.to.now c.in-Back.is c.cut.ensures.stands c.requires.valid c.requires.closed c.requires.ahead
-    c.back.ensures.recording c.back.ensures.which c.back.ensures.ok
+    c.back.ensures.kept c.back.ensures.ok

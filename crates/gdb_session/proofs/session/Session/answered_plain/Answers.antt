@@ -1,6 +1,6 @@
 use Rattle.std.proofs.Common.{refl, subst}
 use Rattle.std.specs.Prelude.{IfOk}
-use Rattle.gdb_monitor.specs.Moves.{IsKept}
+use Rattle.debug_place.specs.Places.{IsKept}
 use Rattle.gdb_session.specs.Answers.{AnswersPlain}
 use Rattle.gdb_session.specs.Seats.{Seat, seat_of}
 use Rattle.gdb_session.proofs.StillLemmas.{still_told}
