@@ -1,6 +1,6 @@
 -- A part is named exactly where the parts below are spelled by a front of the bytes and no valid one follows.
-use Rattle.std.proofs.Common.{◌≡◌, ◌≢◌, ℕ, ◌≤◌, inl, inr, ◌⊎◌, nat_eq, List, [], Result, Ok, Err, sym, ap}
-use Rattle.std.proofs.Common.{subst, ◌∙◌, arith}
+use Rattle.std.proofs.Common.{◌≡◌, ◌≢◌, ℕ, ◌≤◌, inl, inr, nat_eq, List, [], Result, Ok, Err, ap}
+use Rattle.std.proofs.Common.{◌∙◌, arith}
 use Rattle.log_codec.specs.declared.codec_fault.TheConstants.{HEADER, REGULATED}
 use Rattle.race_log.specs.declared.recording.Recording.{Recording}
 use Rattle.log_codec.specs.BadParts.{UpToRegulated, recording_up_to}
@@ -8,7 +8,7 @@ use Rattle.log_codec.specs.Faults.{◌>>=◌}
 use Rattle.log_codec.specs.Laws.{IsBytes}
 use Rattle.log_codec.specs.Reading.{number_at, front_at}
 use Rattle.rtr_types.specs.Turns.{stay, count_up}
-use Rattle.log_codec.proofs.BadPartLaws.{after-5, at_end, bad_part, never-both, no-reading, some-end}
+use Rattle.log_codec.proofs.BadPartLaws.{after-5, at_end, bad_part, no-reading, some-end}
 use Rattle.log_codec.proofs.CoreCountLaws.{counts-name}
 use Rattle.log_codec.proofs.LastParts.{StopsAt, stops_at}
 use Rattle.log_codec.proofs.Named.{Names, bind-names, guard-names, number-names, turns-name}

@@ -1,6 +1,6 @@
 -- Which part of a thinned recording is named. Bytes that don't begin as version 2 does have no header there; for all
 -- others the first five parts are named as a recording's are, and then the sixth and the end.
-use Rattle.std.proofs.Common.{◌≡◌, ◌≢◌, ℕ, ◌≤◌, inl, inr, ◌⊎◌, Bool, true, false, nat_eq, List, [], ◌++◌}
+use Rattle.std.proofs.Common.{◌≡◌, ◌≢◌, ℕ, ◌≤◌, inl, inr, Bool, true, false, nat_eq, List, [], ◌++◌}
 use Rattle.std.proofs.Common.{length, Result, Ok, Err}
 use Rattle.std.proofs.Common.{refl, sym, ap, subst, ◌∙◌, arith}
 use Rattle.std.specs.List.{starts_with}
@@ -17,7 +17,7 @@ use Rattle.log_codec.specs.Reading.{front_at, number_at}
 use Rattle.log_codec.specs.Spelling.{header_text}
 use Rattle.log_codec.specs.CoreCounts.{counts_at}
 use Rattle.log_codec.specs.Versions.{magic}
-use Rattle.log_codec.proofs.BadPartLaws.{after-5, at_end, bad_part, never-both, no-reading, some-end}
+use Rattle.log_codec.proofs.BadPartLaws.{after-5, at_end, bad_part, no-reading, some-end}
 use Rattle.log_codec.proofs.CoreCountLaws.{counts-name}
 use Rattle.log_codec.proofs.LastParts.{StopsAt, stops_at}
 use Rattle.log_codec.proofs.Named.{Names, bind-names, number-names, turns-name}
