@@ -24,26 +24,16 @@ returns-in-Err-clause-none g c = refused_not_done (command_of c.args.asked) c.in
 -- a part of the text was given
 pub returns-clause-answered : goal.returns-clause-answered
 returns-clause-answered g c =
-    let part = rw c.as_slice.ensures.value at c.in-Err-write_all.ensures.part in (
-      c.in-Ok.bytes.items,
-      c.in-Ok-make_joint.made.out.items,
-      c.in-Ok.ensures.bytes,
-      c.in-Ok-make_joint.ensures.made,
-      c.in-Ok-make_joint.ensures.promised,
-      part,
-    )
+    let part = rw c.as_slice.ensures.value at c.in-Err-write_all.ensures.part in
+    let it = c.in-Ok-make_joint in
+    (c.in-Ok.bytes.items, it.made.out.items, c.in-Ok.ensures.bytes, it.ensures.made, it.ensures.promised, part)
 
 -- or all of it
 pub returns-in-Ok-write_all-clause-answered : goal.returns-in-Ok-write_all-clause-answered
 returns-in-Ok-write_all-clause-answered g c =
-    let whole = rw c.as_slice.ensures.value at c.in-Ok-write_all.ensures.all in (
-      c.in-Ok.bytes.items,
-      c.in-Ok-make_joint.made.out.items,
-      c.in-Ok.ensures.bytes,
-      c.in-Ok-make_joint.ensures.made,
-      c.in-Ok-make_joint.ensures.promised,
-      whole,
-    )
+    let whole = rw c.as_slice.ensures.value at c.in-Ok-write_all.ensures.all in
+    let it = c.in-Ok-make_joint in
+    (c.in-Ok.bytes.items, it.made.out.items, c.in-Ok.ensures.bytes, it.ensures.made, it.ensures.promised, whole)
 
 pub returns-in-Ok-write_all-clause-closed : goal.returns-in-Ok-write_all-clause-closed
 returns-in-Ok-write_all-clause-closed g c =
