@@ -22,7 +22,7 @@ use Rattle.tool_words.specs.declared.command.Command.TheVariants.{TsoRecord, Tso
 use Rattle.rtr_cli.specs.declared.joint.Asked.{Asked}
 use Rattle.rtr_cli.specs.Answers.{Answers, IsRead}
 use Rattle.rtr_cli.specs.Commands.{IsReplayed, Refuses, SpellsSome, file_bytes_max, most_of}
-use Rattle.rtr_cli.specs.Completeness.{Accepts, EndsWell, HasLeft, IsFaultless}
+use Rattle.rtr_cli.specs.Completeness.{MakesWhole}
 use Rattle.rtr_cli.specs.Joints.{ClosesWith, PrintsJoint, PrintsSome, asked_by, command_of, joint_lines}
 
 none_some : {X : Type 0} (x : X) → None ≡ Some x → ⊥
@@ -106,14 +106,10 @@ answers_asked meant words a exit left left' got got' same asked h command is =
 pub complete_asked : (meant words : Option Command) (a : Asked) (exit : Exit) (left : Option (List ℕ)) (f f' o o' : ℕ)
     → meant ≡ words →
     asked_by meant ≡ Some a →
-    ((bytes : List ℕ) → HasLeft (Some file_bytes_max) left bytes → Accepts (command_of a) bytes → IsFaultless f f'
-    → IsFaultless o o' → EndsWell exit) →
-    (command : Command) (bytes : List ℕ) → words ≡ Some command → HasLeft (most_of command) left bytes
-    → Accepts command bytes →
-    IsFaultless f f' → IsFaultless o o' → EndsWell exit
+    ((bytes : List ℕ) → MakesWhole (command_of a) bytes exit left f f' o o') →
+    (command : Command) (bytes : List ℕ) → words ≡ Some command → MakesWhole command bytes exit left f f' o o'
 complete_asked meant words a exit left f f' o o' same asked h command bytes is =
-    subst (λ (q : Command). HasLeft (most_of q) left bytes → Accepts q bytes → IsFaultless f f' → IsFaultless o o'
-    → EndsWell exit)
+    subst (λ (q : Command). MakesWhole q bytes exit left f f' o o')
     (asked_command meant a command asked (same ∙ is)) (h bytes)
 
 pub taken_asked : (meant words : Option Command) (a : Asked) (command : Command) → meant ≡ words

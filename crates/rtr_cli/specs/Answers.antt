@@ -30,6 +30,10 @@ abbrev pub IsTakenUpTo : (most : Option ℕ) → (old new : Option (List ℕ)) �
 IsTakenUpTo None old new = Keeps old new
 IsTakenUpTo (Some most) old new = TakesAtMost most old new
 
+-- an input of which nothing is taken is as it was
+abbrev pub LeavesUntaken : (most : Option ℕ) → (old new : Option (List ℕ)) → (faults faults' : ℕ) → Type 0
+LeavesUntaken most old new faults faults' = most ≡ None → Keeps old new × (faults' ≡ faults)
+
 -- one byte more
 abbrev pub one_more : Option ℕ → Option ℕ
 one_more most = option_map (λ n. n + 1) most

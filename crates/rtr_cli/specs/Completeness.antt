@@ -32,7 +32,8 @@ use Rattle.tso_replay.specs.Told.{Telling}
 use Rattle.vector_reduce.specs.declared.thinned.Thinned.{Thinned}
 use Rattle.vector_reduce.specs.Answers.{AreFew, IsThinningOf}
 use Rattle.vector_reduce.specs.Reading.{thinned_at}
-use Rattle.rtr_cli.specs.Commands.{Makes, Promised, Refuses, SpellsSome, loaded, recording_of_bytes, run_bytes_max}
+use Rattle.rtr_cli.specs.Commands.{Makes, Promised, Refuses, SpellsSome, loaded, most_of, recording_of_bytes}
+use Rattle.rtr_cli.specs.Commands.{run_bytes_max}
 
 -- the recording is one that `record` makes: that of a run of an image that the memory holds, within the limits
 pub record IsOfRecord (r : Recording) : Type 0 where
@@ -105,6 +106,13 @@ IsFaultless faults faults' = HasRisen faults faults' → ⊥
 -- the output is whole, or memory ran out
 abbrev pub EndsWell : Exit → Type 0
 EndsWell exit = (exit ≡ exits.Done) ⊎ (exit ≡ exits.OutOfMemory)
+
+-- of these bytes, if it accepts them, a command makes its whole output, unless memory runs out or a stream fails
+abbrev pub MakesWhole : Command → (bytes : List ℕ) → Exit → (left : Option (List ℕ)) →
+    (read read' written written' : ℕ) → Type 0
+MakesWhole command bytes exit left read read' written written' =
+    HasLeft (most_of command) left bytes → Accepts command bytes → IsFaultless read read' →
+    IsFaultless written written' → EndsWell exit
 
 -- ---- laws
 

@@ -8,9 +8,9 @@ ghost use Rattle.replay_table.specs.Seats.{IsEnd};
 ghost use Rattle.rtr_io.specs.Faults.{HasRisen};
 ghost use Rattle.tool_words.specs.Commands.{AreFewThreads, HasFittingParams};
 ghost use Rattle.rtr_cli.specs.Answers.{Answers};
-ghost use Rattle.rtr_cli.specs.Commands.{AuditEnds, IsReplayed, Makes, Promised, Refuses, SpellsSome, file_bytes_max};
+ghost use Rattle.rtr_cli.specs.Commands.{AuditEnds, IsReplayed, Makes, Promised, Refuses, SpellsSome};
 ghost use Rattle.rtr_cli.specs.Commands.{replay_lines};
-ghost use Rattle.rtr_cli.specs.Completeness.{Accepts, EndsWell, HasLeft, IsFaultless};
+ghost use Rattle.rtr_cli.specs.Completeness.{MakesWhole};
 ghost use Rattle.rtr_cli.specs.Joints.{PrintsJoint, asked_by, command_of, joint_lines};
 
 use crate::commands::{FILE_BYTES_MAX, audited, image};
@@ -93,9 +93,8 @@ pub(crate) fn perform_joint<R: Threads + Wait + Sync, I: Source, O: Sink, G: Gat
     ensures no_read_fault { (result.exit ≡ Exit.ReadFault) ⊎ (I.faults input.new ≡ I.faults input.old) }
     ensures write_fault { result.exit ≡ Exit.WriteFault → HasRisen (O.faults output.old) (O.faults output.new) }
     ensures no_write_fault { (result.exit ≡ Exit.WriteFault) ⊎ (O.faults output.new ≡ O.faults output.old) }
-    ensures complete { (bytes : List ℕ) → HasLeft (Some file_bytes_max) (I.left input.old) bytes →
-        Accepts (command_of asked) bytes → IsFaultless (I.faults input.old) (I.faults input.new) →
-        IsFaultless (O.faults output.old) (O.faults output.new) → EndsWell result.exit }
+    ensures complete { (bytes : List ℕ) → MakesWhole (command_of asked) bytes result.exit (I.left input.old)
+        (I.faults input.old) (I.faults input.new) (O.faults output.old) (O.faults output.new) }
     ensures none { IfNone result.joint (result.exit ≢ Exit.Done) }
     ensures closed { IfSome result.joint (λ closed. (result.exit ≡ Exit.Done)
         × PrintsJoint asked closed (I.left input.old) (I.left input.new) (O.got output.old) (O.got output.new)) }

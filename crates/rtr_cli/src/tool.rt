@@ -6,9 +6,9 @@ ghost use Rattle.rtr_io.specs.Faults.{HasRisen, IsUnlessFault};
 ghost use Rattle.state_text.specs.Exits.{fault_line};
 ghost use Rattle.tool_words.specs.Commands.{HasFittingParams};
 ghost use Rattle.tool_words.specs.Reading.{meaning};
-ghost use Rattle.rtr_cli.specs.Answers.{Answers, HasMore, IsTaken, IsTakenUpTo, Tells, one_more};
+ghost use Rattle.rtr_cli.specs.Answers.{Answers, HasMore, IsTaken, IsTakenUpTo, LeavesUntaken, Tells, one_more};
 ghost use Rattle.rtr_cli.specs.Commands.{most_of};
-ghost use Rattle.rtr_cli.specs.Completeness.{Accepts, EndsWell, HasLeft, IsFaultless};
+ghost use Rattle.rtr_cli.specs.Completeness.{MakesWhole};
 ghost use Rattle.rtr_cli.specs.Joints.{PrintsSome, asked_by};
 ghost use Rattle.rtr_cli.specs.declared.joint.Asked.{Asked};
 ghost use Rattle.tool_words.specs.declared.command.Command.{Command};
@@ -79,14 +79,13 @@ pub fn run_tool<R: Threads + Wait + Sync, I: Source, O: Sink, E: Sink, G: Gate>(
 
     // A command that takes no input leaves it as it was.
     ensures untaken { (command : Command) → meaning (map string_bytes words.now) ≡ Some command →
-        most_of command ≡ None → Keeps (I.left input.old) (I.left input.new)
-        × (I.faults input.new ≡ I.faults input.old) }
+        LeavesUntaken (most_of command) (I.left input.old) (I.left input.new) (I.faults input.old)
+        (I.faults input.new) }
 
     // Of what it accepts a command makes its whole output, unless memory runs out or a stream fails.
     ensures complete { (command : Command) (bytes : List ℕ) → meaning (map string_bytes words.now) ≡ Some command →
-        HasLeft (most_of command) (I.left input.old) bytes → Accepts command bytes →
-        IsFaultless (I.faults input.old) (I.faults input.new) →
-        IsFaultless (O.faults output.old) (O.faults output.new) → EndsWell result.exit }
+        MakesWhole command bytes result.exit (I.left input.old) (I.faults input.old) (I.faults input.new)
+        (O.faults output.old) (O.faults output.new) }
 
     ensures told { Tells (fault_line result.exit) (E.got report.old) (E.got report.new) (E.faults report.old)
         (E.faults report.new) }
@@ -147,14 +146,13 @@ pub fn run_alone<I: Source, O: Sink, E: Sink>(
 
     // A command that takes no input leaves it as it was.
     ensures untaken { (command : Command) → meaning (map string_bytes words.now) ≡ Some command →
-        most_of command ≡ None → Keeps (I.left input.old) (I.left input.new)
-        × (I.faults input.new ≡ I.faults input.old) }
+        LeavesUntaken (most_of command) (I.left input.old) (I.left input.new) (I.faults input.old)
+        (I.faults input.new) }
 
     // Of what it accepts a command makes its whole output, unless memory runs out or a stream fails.
     ensures complete { (command : Command) (bytes : List ℕ) → meaning (map string_bytes words.now) ≡ Some command →
-        HasLeft (most_of command) (I.left input.old) bytes → Accepts command bytes →
-        IsFaultless (I.faults input.old) (I.faults input.new) →
-        IsFaultless (O.faults output.old) (O.faults output.new) → EndsWell result }
+        MakesWhole command bytes result (I.left input.old) (I.faults input.old) (I.faults input.new)
+        (O.faults output.old) (O.faults output.new) }
 
     ensures told { Tells (fault_line result) (E.got report.old) (E.got report.new) (E.faults report.old)
         (E.faults report.new) }
@@ -183,11 +181,10 @@ fn perform<I: Source, O: Sink>(
     ensures no_read_fault { (result ≡ Exit.ReadFault) ⊎ (I.faults input.new ≡ I.faults input.old) }
     ensures write_fault { result ≡ Exit.WriteFault → HasRisen (O.faults output.old) (O.faults output.new) }
     ensures no_write_fault { (result ≡ Exit.WriteFault) ⊎ (O.faults output.new ≡ O.faults output.old) }
-    ensures untaken { most_of command ≡ None → Keeps (I.left input.old) (I.left input.new)
-        × (I.faults input.new ≡ I.faults input.old) }
-    ensures complete { (bytes : List ℕ) → HasLeft (most_of command) (I.left input.old) bytes →
-        Accepts command bytes → IsFaultless (I.faults input.old) (I.faults input.new) →
-        IsFaultless (O.faults output.old) (O.faults output.new) → EndsWell result }
+    ensures untaken { LeavesUntaken (most_of command) (I.left input.old) (I.left input.new) (I.faults input.old)
+        (I.faults input.new) }
+    ensures complete { (bytes : List ℕ) → MakesWhole command bytes result (I.left input.old) (I.faults input.old)
+        (I.faults input.new) (O.faults output.old) (O.faults output.new) }
 {
     let bytes = match take(alloc, most_of(&command), input) {
         Ok(bytes) => bytes,
@@ -218,8 +215,8 @@ pub(crate) fn take<I: Source>(
         IsTakenUpTo (one_more most) (I.left input.old) (I.left input.new) }
     ensures fault { IsErrOf result ReadEnd.ReadFault → HasRisen (I.faults input.old) (I.faults input.new) }
     ensures no_fault { IsUnlessFault ReadEnd.ReadFault result (I.faults input.old) (I.faults input.new) }
-    ensures untaken { most ≡ None → Keeps (I.left input.old) (I.left input.new)
-        × (I.faults input.new ≡ I.faults input.old) }
+    ensures untaken { LeavesUntaken most (I.left input.old) (I.left input.new) (I.faults input.old)
+        (I.faults input.new) }
 {
     match most {
         Some(most) => read_all(alloc, input, most),
