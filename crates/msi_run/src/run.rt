@@ -7,13 +7,12 @@ ghost use Rattle.machine_plain.specs.Plain.{plain};
 ghost use Rattle.run_outcome.specs.Outcomes.{StandsAt, outcome_of};
 ghost use Rattle.msi_run.specs.Clerks.{no_riding};
 
-use crate::ends::{cores_of, words_of};
 use access_times::{NoCarry, NoRider};
 use image_mem::Image;
 use msi_machine::Machine;
-use rtr_types::Params;
-use run_steps::{LoadClerk, Stepping, run_to_end};
-use rv_core::Outcome;
+use rtr_types::{BLOCK_WORDS, Params};
+use run_steps::{Ending, LoadClerk, Stepping, cores_of, run_to_end, words_of};
+use rv_core::{Core, Outcome};
 use schedule_pick::Schedule;
 use std::alloc::{AllocError, Global};
 
@@ -81,6 +80,20 @@ impl Stepping for Running {
     }
 }
 
+impl Ending for Running {
+    ghost cores = { λ r. r.machine.state.cores };
+
+    ghost memory = { λ r. (plain r.machine.state).memory };
+
+    fn core(&self, core: u8) -> &Core {
+        self.machine.core(core)
+    }
+
+    fn final_words(&self, block: u32) -> [u32; BLOCK_WORDS] {
+        self.machine.final_words(block)
+    }
+}
+
 /// Runs what stands at its start to the end.
 fn run_on(alloc: Global, running: Running, params: Params) -> Result<Ran, AllocError>
     requires fits { Fits params }
@@ -93,14 +106,16 @@ fn run_on(alloc: Global, running: Running, params: Params) -> Result<Ran, AllocE
 {
     let mut running = running;
     run_to_end(&mut running)?;
+    let cores = cores_of(alloc, &running, params.cores)?;
+    let words = words_of(alloc, &running, params.words)?;
     let Running {
         machine,
         clerk,
         choices: _choices,
     } = running;
     let outcome = Outcome {
-        cores: cores_of(alloc, &machine, params.cores)?,
-        words: words_of(alloc, &machine, params.words)?,
+        cores,
+        words,
         loads: clerk.into_loads(),
     };
     Ok(Ran {

@@ -21,7 +21,7 @@ returns-clause-outcome c =
     let s = c.run_to_end.new.run.machine.state in
     let made : List Core → List ℕ → List (List LoadNote) → Outcome =
     λ cs ws ls. record { cores = cs; words = ws; loads = ls } in
-    ap (λ cs. made cs c.in_ok-words_of.field-0 c.into_loads.result) c.in_ok-cores_of.ensures
-    ∙ ap (λ ws. made s.cores ws c.into_loads.result) c.in_ok-words_of.ensures
+    ap (λ cs. made cs c.in_ok-words.words c.into_loads.result) c.in_ok-cores.ensures
+    ∙ ap (λ ws. made s.cores ws c.into_loads.result) c.in_ok-words.ensures
     ∙ ap (made s.cores (final_memory none_riding none_carrying (plain s))) c.into_loads.ensures
     ∙ outcome_is _ _ _ stands.0 s _ _ c.requires.fits c.in_ok-run_to_end.ensures.done stands.1

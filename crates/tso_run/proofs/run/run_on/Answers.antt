@@ -1,4 +1,5 @@
 use Rattle.std.proofs.Common.{ap, sym, ◌∙◌, List, ℕ, map}
+use Rattle.std.proofs.lemmas.List.{length-map}
 use Rattle.access_times.specs.Riding.{none_carrying, none_riding}
 use Rattle.run_steps.proofs.Starts.{under_way}
 use Rattle.rv_core.specs.declared.core_state.Core.{Core}
@@ -15,7 +16,9 @@ pub run_to_end-requires-clause-under_way : goal.run_to_end-requires-clause-under
 run_to_end-requires-clause-under_way c = under_way _ _ _ _ c.requires.fits c.requires.stands
 
 pub cores_of-requires : goal.cores_of-requires
-cores_of-requires c = sym (c.in_ok-run_to_end.ensures.stands _ _ _ _ c.requires.stands).1.runs.cores
+cores_of-requires c =
+    sym (c.in_ok-run_to_end.ensures.stands _ _ _ _ c.requires.stands).1.runs.cores
+    ∙ sym (length-map c.run_to_end.new.run.machine.state.cores (λ (t : BufferedCore). t.core))
 
 pub returns-clause-outcome : goal.returns-clause-outcome
 returns-clause-outcome c =
@@ -24,8 +27,8 @@ returns-clause-outcome c =
     let made : List Core → List ℕ → List (List LoadNote) → Outcome =
     λ cs ws ls. record { cores = cs; words = ws; loads = ls } in
     let cores = map (λ (t : BufferedCore). t.core) s.cores in
-    ap (λ cs. made cs c.in_ok-words_of.field-0 c.into_loads.result) c.in_ok-cores_of.ensures
-    ∙ ap (λ ws. made cores ws c.into_loads.result) c.in_ok-words_of.ensures
+    ap (λ cs. made cs c.in_ok-words.words c.into_loads.result) c.in_ok-cores.ensures
+    ∙ ap (λ ws. made cores ws c.into_loads.result) c.in_ok-words.ensures
     ∙ ap (made cores (final_memory none_riding none_carrying (plain s))) c.into_loads.ensures
     ∙ outcome_is _ _ _ stands.0 (plain s) _ _ c.requires.fits
     (sym (plain_done s) ∙ c.in_ok-run_to_end.ensures.done) stands.1

@@ -1,11 +1,10 @@
 use Rattle.std.proofs.Common.{◌∙◌, arith}
 use Rattle.access_times.specs.Riding.{none_carrying, none_riding}
 use Rattle.run_steps.proofs.BlockWords.{words_more}
-use Rattle.tso_plain.specs.Plain.{plain}
-use Rattle.tso_run.proofs.ends.words_of.Goals as goal
+use Rattle.run_steps.proofs.ends.words_of.Goals as goal
 
 pub loop-block-preserved : goal.loop-block-preserved
 loop-block-preserved g c =
     c.in_ok-extend_from_slice.ensures.items
-    ∙ words_more none_riding none_carrying (plain c.args.machine.now.state).memory c.loop-block.block _
-    c.final_words.result c.loop-block.invariant (grind arith) c.final_words.ensures.plain
+    ∙ words_more none_riding none_carrying (g.E.Ending.memory c.args.run.now) c.loop-block.block _ c.final_words.result
+    c.loop-block.invariant (grind arith) c.final_words.ensures

@@ -1,6 +1,0 @@
-use Rattle.std.proofs.Common.{◌≡◌, take}
-use Rattle.msi_run.proofs.ends.cores_of.Given as goal
-
--- the cores so far
-abbrev pub invariant-loop-core : goal.invariant-loop-core
-invariant-loop-core g l = l.list ≡ take l.core l.machine.state.cores
