@@ -8,4 +8,4 @@ mod recording;
 mod sources;
 
 pub use laws::{source_laws, validity_laws};
-pub use recording::Recording;
+pub use recording::{Recording, item_count};

@@ -45,7 +45,7 @@ impl Recording {
         ensures listed { result ≡ length (log_edges which self.now) }
     {
         match which {
-            Which::Reduced => edges_of_all(self.reduced.as_slice()),
+            Which::Reduced => item_count(self.reduced.as_slice()),
             Which::Regulated => positions_of_all(self.regulated.as_slice()),
         }
     }
@@ -65,14 +65,14 @@ impl Recording {
     }
 }
 
-/// The edges of all pairs.
-fn edges_of_all(reduced: &[Items<(u32, u32)>]) -> u64
-    requires { sum_by (λ edges. length edges) reduced.now < 2 ^ 64 }
-    ensures { result ≡ sum_by (λ edges. length edges) reduced.now }
+/// How many items all the lists have.
+pub fn item_count<T>(lists: &[Items<T>]) -> u64
+    requires { sum_by (λ list. length list) lists.now < 2 ^ 64 }
+    ensures { result ≡ sum_by (λ list. length list) lists.now }
 {
     let mut count = 0;
-    for edges in reduced {
-        count += edges.len() as u64;
+    for list in lists {
+        count += list.len() as u64;
     }
     count
 }

@@ -1,5 +1,5 @@
 //! Leaving out whole vectors.
-ghost use Rattle.std.specs.Prelude.{◌≡◌, ◌<◌, ◌^◌, length, sum_by, Err, IfOk, IsOkUnless, MatchOption, MatchResult};
+ghost use Rattle.std.specs.Prelude.{◌≡◌, length, Err, IfOk, IsOkUnless, MatchOption, MatchResult};
 ghost use Rattle.rtr_types.specs.declared.pairs.Which.TheVariants.{Regulated};
 ghost use Rattle.race_log.specs.Validity.{Valid};
 ghost use Rattle.vector_reduce.specs.Answers.{AreFew, AreTooMany, IsRefusedFor, IsThinningOf, ThinRefuses, too_many_of};
@@ -13,30 +13,17 @@ use crate::arrivals::Arrivals;
 use crate::copies::kept_of;
 use crate::pair_vector::vectors_of;
 use crate::thinned::{Shown, Thinned};
-use race_log::Recording;
+use race_log::{Recording, item_count};
 use replay_audit::Audited;
 use rtr_types::{Items, Which};
 use std::alloc::{AllocError, Global};
-use stride_vector::StrideVector;
-
-/// How many vectors all pairs have.
-fn vector_count(regulated: &[Items<StrideVector>]) -> u64
-    requires { sum_by (λ vectors. length vectors) regulated.now < 2 ^ 64 }
-    ensures { result ≡ sum_by (λ vectors. length vectors) regulated.now }
-{
-    let mut count = 0;
-    for vectors in regulated {
-        count += vectors.len() as u64;
-    }
-    count
-}
 
 /// Why a recording with too many vectors, or with too many positions, is refused; none where it has few.
 fn refused(recording: &Recording) -> Option<ThinFault>
     requires { Valid recording.now }
     ensures { MatchOption result (AreFew recording.now) (IsRefusedFor recording.now) }
 {
-    let vectors = vector_count(recording.regulated.as_slice());
+    let vectors = item_count(recording.regulated.as_slice());
     let edges = recording.edge_count(Which::Regulated);
     if vectors > VECTORS_MAX || edges > POSITIONS_MAX {
         return Some(ThinFault::TooMany { vectors, edges });

@@ -10,8 +10,8 @@ use Rattle.race_log.proofs.Counted.{edges_fit, positions_fit}
 use Rattle.race_log.proofs.EdgeCounts.{edges-counted}
 use Rattle.race_log.proofs.recording.Recording.edge_count.Goals as goal
 
-pub edges_of_all-requires : goal.edges_of_all-requires
-edges_of_all-requires c = rw c.as_slice.ensures (edges_fit c.args.self.now c.requires)
+pub item_count-requires : goal.item_count-requires
+item_count-requires c = rw c.as_slice.ensures (edges_fit c.args.self.now c.requires)
 
 pub positions_of_all-requires : goal.positions_of_all-requires
 positions_of_all-requires c = rw c.as_slice-in-Regulated.ensures (positions_fit c.args.self.now c.requires)
@@ -24,8 +24,8 @@ listed chosen which r result valid is counted =
 
 pub returns-in-Reduced-clause-listed : goal.returns-in-Reduced-clause-listed
 returns-in-Reduced-clause-listed c =
-    listed c.args.which Reduced c.args.self.now c.edges_of_all.result c.requires c.in-Reduced.is
-    (c.edges_of_all.ensures ∙ ap (sum_by (λ (edges : List (ℕ × ℕ)). length edges)) c.as_slice.ensures)
+    listed c.args.which Reduced c.args.self.now c.item_count.result c.requires c.in-Reduced.is
+    (c.item_count.ensures ∙ ap (sum_by (λ (edges : List (ℕ × ℕ)). length edges)) c.as_slice.ensures)
 
 pub returns-in-Regulated-clause-listed : goal.returns-in-Regulated-clause-listed
 returns-in-Regulated-clause-listed c =
