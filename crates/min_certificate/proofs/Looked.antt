@@ -1,9 +1,8 @@
 -- Entries and logged sources, looked up.
 use Rattle.std.proofs.Common.{◌≡◌, ◌≢◌, ◌↔◌, ℕ, zero, suc, ◌-◌, ◌<◌, ◌≤◌, List, [], get_or, refl, sym, ap, ◌∙◌, subst}
 use Rattle.std.proofs.Common.{arith, Some, None}
-use Rattle.std.proofs.Common.{Bool, IsTrue, true}
-use Rattle.std.specs.Prelude.{slice_index, Option, nat_lt}
-use Rattle.std.proofs.lemmas.Bool.Decides.{nat_tests}
+use Rattle.std.proofs.Common.{IsTrue, true}
+use Rattle.std.specs.Prelude.{slice_index, IfSome, Option}
 use Rattle.rtr_types.specs.declared.instr.Instr.{Instr}
 use Rattle.rtr_types.specs.declared.pairs.Which.TheVariants.{Reduced}
 use Rattle.clock_core.specs.Order.{Among}
@@ -17,7 +16,8 @@ use Rattle.clock_entries.specs.Ends.{instr, Clocks, entry_at, last_entry}
 use Rattle.replay_audit.proofs.Logs.{edge_within}
 use Rattle.certificate_codec.specs.declared.certificate.Certificate.{Certificate}
 use Rattle.certificate_codec.specs.Ends.{reduced_edges, IsWithin}
-use Rattle.min_certificate.specs.Places.{entry_in, IsBelow, IsSourceBelow, AreSourcesBelow, AreAllBelow, IsUnknownThere}
+use Rattle.min_certificate.specs.Places.{entry_in, IsBelow, AreSourcesBelow, AreAllBelow, IsUnknownThere}
+use Rattle.min_certificate.specs.Places.{IsSourceOn, on_core}
 
 pub entry_none : (clocks : Clocks) (c k : ℕ) → k ≡ 0 → [] ≡ entry_at clocks c k
 entry_none clocks c k e = ap (λ (j : ℕ). entry_at clocks c j) (sym e)
@@ -28,7 +28,7 @@ entry_some clocks c (suc k) ne = ap (λ (j : ℕ). get_or (get_or clocks c []) j
 
 -- ---- logged sources
 
-pub source_within : (r : Recording) (of n : ℕ) (at : Instr) → Valid r → HasEdge Reduced r (instr of n) at →
+source_within : (r : Recording) (of n : ℕ) (at : Instr) → Valid r → HasEdge Reduced r (instr of n) at →
     IsWithin r (instr of n)
 source_within r of n at valid has = let w = edges-within Reduced r (instr of n) at valid has in
     record { core = w.pair.source; count = w.source_most }
@@ -43,12 +43,12 @@ pub only_source : (r : Recording) (of : ℕ) (at : Instr) (found : Option ℕ) �
 only_source r of at found only z a c =
     only z.count (subst (λ (i : ℕ). HasEdge Reduced r (instr i z.count) at) c (among_contains (reduced_edges r) z at a))
 
-pub some_source : (of n : ℕ) (z : Instr) → ◌≡◌ {A = Option ℕ} (Some n) (Some z.count) → z.core ≡ of →
+some_source : (of n : ℕ) (z : Instr) → ◌≡◌ {A = Option ℕ} (Some n) (Some z.count) → z.core ≡ of →
     ◌≡◌ {A = Option Instr} (Some (instr of n)) (Some z)
 some_source of n z e c = let m : n ≡ z.count = cc in ap (λ (x : Instr). Some x) (instr_eq (instr of n) z (sym c) m)
 
 -- so of a source that was found in the recording at hand, which is the certificate's
-pub there_among : (q m : Recording) (d : Certificate) (of n : ℕ) (at : Instr) → q ≡ m → Valid m → m ≡ d.recording →
+there_among : (q m : Recording) (d : Certificate) (of n : ℕ) (at : Instr) → q ≡ m → Valid m → m ≡ d.recording →
     HasEdge Reduced q (instr of n) at →
     Among (reduced_edges d.recording) (instr of n) at × (of ≡ of) × IsWithin d.recording (instr of n)
 there_among q m d of n at same valid is has = (
@@ -58,11 +58,30 @@ there_among q m d of n at same valid is has = (
       (source_within q of n at (subst Valid (sym same) valid) has),
 )
 
-pub there_only : (q : Recording) (d : Certificate) (of : ℕ) (at : Instr) (found : Option ℕ) → q ≡ d.recording →
+there_only : (q : Recording) (d : Certificate) (of : ℕ) (at : Instr) (found : Option ℕ) → q ≡ d.recording →
     ((a : ℕ) → HasEdge Reduced q (instr of a) at → found ≡ Some a) → (z : Instr) →
     Among (reduced_edges d.recording) z at → z.core ≡ of → found ≡ Some z.count
 there_only q d of at found is only z a core = only_source q of at found only z
     (subst (λ (p : Recording). Among (reduced_edges p) z at) (sym is) a) core
+
+-- what was found, or not, there
+pub source_on : (q m : Recording) (d : Certificate) (of : ℕ) (at : Instr) (count : Option ℕ) (result : Option Instr) →
+    q ≡ m → Valid m → m ≡ d.recording → IfSome count (λ n. HasEdge Reduced q (instr of n) at) →
+    ((a : ℕ) → HasEdge Reduced q (instr of a) at → count ≡ Some a) → result ≡ on_core of count →
+    IsSourceOn d of at result
+source_on q m d of at count result same valid is found only result_is =
+    subst (IsSourceOn d of at) (sym result_is) (by count found only)
+  where
+    by : (n : Option ℕ) → IfSome n (λ a. HasEdge Reduced q (instr of a) at) →
+        ((a : ℕ) → HasEdge Reduced q (instr of a) at → n ≡ Some a) → IsSourceOn d of at (on_core of n)
+    by None found only = record {
+      some = tt;
+      only = λ z a core. let none = there_only q d of at None (same ∙ is) only z a core in absurd (cc);
+    }
+    by (Some n) found only = record {
+      some = there_among q m d of n at same valid is found;
+      only = λ z a core. some_source of n z (there_only q d of at (Some n) (same ∙ is) only z a core) core;
+    }
 
 -- a test of the sources on each other core, which has come to the last core, is true of all sources
 pub all_sources : {r : Recording} {cores n : ℕ} (y : Instr) (P : Instr → Type 0) → Valid r → cores ≡ r.params.cores →
@@ -75,39 +94,7 @@ all_sources {r} {cores} {n} y P valid all most each = ((λ _. of_all), λ _. ref
         let w = edge_within Reduced r z y valid a in
         each z.core (let lt = w.pair.source in omega arith) w.pair.differ z a refl
 
--- what holds of the one source on a core holds of all there
-pub of_one : (r : Recording) (of : ℕ) (y x : Instr) (P : Instr → Type 0) →
-    ((z : Instr) → Among (reduced_edges r) z y → z.core ≡ of → ◌≡◌ {A = Option Instr} (Some x) (Some z)) → P x →
-    (z : Instr) → Among (reduced_edges r) z y →
-    z.core ≡ of → P z
-of_one r of y x P only p z a c = let same : x ≡ z = let s = only z a c in cc in subst P same p
-
-pub of_none : (r : Recording) (of : ℕ) (y : Instr) (P : Instr → Type 0) →
-    ((z : Instr) → Among (reduced_edges r) z y → z.core ≡ of → ◌≡◌ {A = Option Instr} None (Some z)) → (z : Instr) →
-    Among (reduced_edges r) z y →
-    z.core ≡ of → P z
-of_none r of y P only z a c = let s = only z a c in absurd (cc)
-
 -- ---- entries of sources
-
--- a logged source of y on a core, and no other
-pub record IsSourceOf (r : Recording) (of : ℕ) (y x : Instr) : Type 0 where
-  pub edge : Among (reduced_edges r) x y
-  pub core : x.core ≡ of
-  pub only : (z : Instr) → Among (reduced_edges r) z y → z.core ≡ of → ◌≡◌ {A = Option Instr} (Some x) (Some z)
-
-pub some_below : (c : Certificate) (of : ℕ) (y x : Instr) (entry here : List ℕ) (b : Bool) →
-    IsSourceOf c.recording of y x →
-    entry ≡ last_entry (reduced_edges c.recording) c.clocks x → (IsTrue b ↔ IsBelow entry here) → IsTrue b ↔
-    IsSourceBelow c y of here
-some_below c of y x entry here b h is test = (to, back)
-  where
-    to : IsTrue b → IsSourceBelow c y of here
-    to t = of_one c.recording of y x (λ z. (i : ℕ) → entry_in c z i ≤ slice_index here i) h.only
-        (λ i. subst (λ (l : List ℕ). slice_index l i ≤ slice_index here i) is (test.0 t i))
-
-    back : IsSourceBelow c y of here → IsTrue b
-    back f = test.1 (λ i. subst (λ (l : List ℕ). slice_index l i ≤ slice_index here i) (sym is) (f x h.edge h.core i))
 
 -- two entries that were found
 pub is_below_in : (c : Certificate) (x y : Instr) (there here : List ℕ) →
@@ -135,22 +122,3 @@ own_only r x y z valid a b same =
 pub own_known : (c : Certificate) (x y : Instr) (of : ℕ) → Valid c.recording → Among (reduced_edges c.recording) x y →
     of ≡ x.core → IsUnknownThere c x y of
 own_known c x y of valid a same z b core ne = absurd (ne (own_only c.recording x y z valid a b (core ∙ same)))
-
--- it is on another core than x
-pub other_unknown : (c : Certificate) (of : ℕ) (x y other : Instr) (entry : List ℕ) (count : ℕ) →
-    IsSourceOf c.recording of y other → of ≢ x.core →
-    entry ≡ last_entry (reduced_edges c.recording) c.clocks other → count ≡ slice_index entry x.core →
-    IsTrue (nat_lt count x.count) ↔ IsUnknownThere c x y of
-other_unknown c of x y other entry count h ne is count_is = (to, back)
-  where
-    same : count ≡ entry_in c other x.core
-    same = count_is ∙ ap (λ (l : List ℕ). slice_index l x.core) is
-
-    to : IsTrue (nat_lt count x.count) → IsUnknownThere c x y of
-    to t = of_one c.recording of y other (λ z. z ≢ x → entry_in c z x.core < x.count) h.only
-        (λ _. let lt : count < x.count = grind (arith, nat_tests) in
-        let s = same in omega arith)
-
-    back : IsUnknownThere c x y of → IsTrue (nat_lt count x.count)
-    back f = let lt = f other h.edge h.core (λ e. ne (sym h.core ∙ ap (λ (z : Instr). z.core) e)) in let s = same in
-        let less : count < x.count = omega arith in grind (arith, nat_tests)

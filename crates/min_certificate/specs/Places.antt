@@ -1,11 +1,11 @@
 -- What a certificate's clocks have for the instructions of its recording.
-use Rattle.std.specs.Prelude.{◌≡◌, ◌≢◌, ℕ, ◌<◌, ◌≤◌, List, slice_index}
+use Rattle.std.specs.Prelude.{◌≡◌, ◌≢◌, ℕ, ◌<◌, ◌≤◌, List, slice_index, Option, Some, None, IfSome}
 use Rattle.rtr_types.specs.declared.instr.Instr.{Instr}
 use Rattle.clock_core.specs.Order.{Among}
-use Rattle.clock_entries.specs.Ends.{entry_of}
+use Rattle.clock_entries.specs.Ends.{entry_of, instr}
 use Rattle.clock_entries.specs.Entries.{IsGoodAt, IsNeeded, IsKnownOtherwise, AreGood, AreExact}
 use Rattle.certificate_codec.specs.declared.certificate.Certificate.{Certificate}
-use Rattle.certificate_codec.specs.Ends.{reduced_edges}
+use Rattle.certificate_codec.specs.Ends.{reduced_edges, IsWithin}
 
 -- the last entry of the instruction's core at or before it, at each place
 abbrev pub entry_in : Certificate → Instr → ℕ → ℕ
@@ -27,6 +27,16 @@ abbrev pub IsKnownOtherwiseIn : Certificate → Instr → Instr → Type 0
 IsKnownOtherwiseIn c x y = IsKnownOtherwise (reduced_edges c.recording) (entry_in c) x y
 
 -- ---- core by core
+
+-- the instruction of a core with a count, if there is one
+abbrev pub on_core : (core : ℕ) → Option ℕ → Option Instr
+on_core core (Some count) = Some (instr core count)
+on_core core None = None
+
+-- the logged source of y on a core, if there is one
+pub record IsSourceOn (c : Certificate) (core : ℕ) (y : Instr) (found : Option Instr) : Type 0 where
+  pub some : IfSome found (λ z. Among (reduced_edges c.recording) z y × (z.core ≡ core) × IsWithin c.recording z)
+  pub only : (z : Instr) → Among (reduced_edges c.recording) z y → z.core ≡ core → found ≡ Some z
 
 -- no place has more there than here
 abbrev pub IsBelow : List ℕ → List ℕ → Type 0

@@ -1,13 +1,12 @@
 //! The clocks of a certificate, looked up at the edge ends of its recording, and tested there.
-ghost use Rattle.std.specs.Prelude.{◌≡◌, ◌≢◌, ◌≤◌, ◌<◌, ◌-◌, ◌↔◌, IfSome, IsTrue, Some, slice_index};
+ghost use Rattle.std.specs.Prelude.{◌≡◌, ◌≢◌, ◌≤◌, ◌<◌, ◌-◌, ◌↔◌, IsTrue, slice_index};
 ghost use Rattle.rtr_types.specs.Pairs.{IsPair};
-ghost use Rattle.rtr_types.specs.declared.instr.Instr.{Instr as SomeInstr};
 ghost use Rattle.race_log.specs.Validity.{Valid};
 ghost use Rattle.clock_core.specs.Order.{Among};
 ghost use Rattle.clock_entries.specs.Ends.{ends_to, instr, last_entry};
 ghost use Rattle.certificate_codec.specs.Ends.{reduced_edges, IsWithin};
 ghost use Rattle.min_certificate.specs.Places.{IsSourceBelow, AreSourcesBelow, IsUnknownThere, IsUnknownByOthers};
-ghost use Rattle.min_certificate.specs.Places.{IsGoodIn, IsNeededIn, AreAllBelow};
+ghost use Rattle.min_certificate.specs.Places.{IsGoodIn, IsNeededIn, IsSourceOn, AreAllBelow, on_core};
 ghost use Rattle.min_certificate.specs.Firsts.{FirstWithout, FirstBadOf, FirstBad};
 ghost use Rattle.min_certificate.specs.Sound.{IsSound};
 
@@ -19,6 +18,16 @@ use std::marker::Model;
 
 /// A place for each core, as the length of an array.
 const PLACES: usize = CORES_MAX as usize;
+
+/// The instruction of a core with a count, if there is one.
+fn on_core(core: u8, count: Option<u32>) -> Option<Instr>
+    ensures { result ≡ on_core core count }
+{
+    match count {
+        Some(count) => Some(Instr { core, count }),
+        None => None,
+    }
+}
 
 /// The edge ends of a recording, with clocks for them. Contracts see it as the certificate.
 #[derive(Drop)]
@@ -76,28 +85,20 @@ impl<'a> Entries<'a> {
     /// The instruction's logged source on another core, if there is one.
     fn source(&self, of: u8, at: Instr) -> Option<Instr>
         requires { IsPair self.now.recording.params.cores of at.core }
-        ensures some { IfSome result (λ z. Among (reduced_edges self.now.recording) z at × (z.core ≡ of)
-            × IsWithin self.now.recording z) }
-        ensures only { (z : SomeInstr) → Among (reduced_edges self.now.recording) z at → z.core ≡ of → result ≡ Some z }
+        ensures { IsSourceOn self.now of at result }
     {
-        match self.ends.recording().source(Which::Reduced, of, at) {
-            Some(count) => Some(Instr { core: of, count }),
-            None => None,
-        }
+        let count = self.ends.recording().source(Which::Reduced, of, at);
+        on_core(of, count)
     }
 
     /// The same, looked for from a place in the two cores' list of edges on; the place where it was found
     /// is left.
     fn source_near(&self, of: u8, at: Instr, near: &mut usize) -> Option<Instr>
         requires { IsPair self.now.recording.params.cores of at.core }
-        ensures some { IfSome result (λ z. Among (reduced_edges self.now.recording) z at × (z.core ≡ of)
-            × IsWithin self.now.recording z) }
-        ensures only { (z : SomeInstr) → Among (reduced_edges self.now.recording) z at → z.core ≡ of → result ≡ Some z }
+        ensures { IsSourceOn self.now of at result }
     {
-        match self.ends.recording().reduced_source_near(of, at, near) {
-            Some(count) => Some(Instr { core: of, count }),
-            None => None,
-        }
+        let count = self.ends.recording().reduced_source_near(of, at, near);
+        on_core(of, count)
     }
 
     /// The last entry of the instruction's core at or before it; empty where there is none.
