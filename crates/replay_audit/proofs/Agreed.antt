@@ -28,7 +28,8 @@ use Rattle.replay_core.specs.Orders.{counts, nought, Ready, Ordered, IsReplayOrd
 use Rattle.replay_core.proofs.Lists.{accesses_on, valued_accesses_on, valued_plays_on, ordered_on, ordered_join}
 use Rattle.replay_core.proofs.Lists.{valued_on}
 use Rattle.replay_core.proofs.Low.{low_order_law}
-use Rattle.replay_core.proofs.Places.{PlaceGiven, place_given_law, start_known}
+use Rattle.replay_core.specs.Laws.{PlaceGiven}
+use Rattle.replay_core.proofs.Places.{place_given_law, start_known}
 use Rattle.replay_core.specs.Laws.{Lowest}
 use Rattle.replay_core.specs.Orders.{bump}
 use Rattle.replay_audit.specs.Determinate.{Decides, DecidesValued, IsDeterminate}

@@ -1,5 +1,5 @@
 -- What is known after a place, and after the places of a replay order.
-use Rattle.std.proofs.Common.{inl, inr, ◌≡◌, ◌≢◌, ℕ, subst, ◌+◌, ◌<◌, ◌≤◌, Bool, true, false, cond, List, [], ◌∷◌}
+use Rattle.std.proofs.Common.{inl, inr, ◌≡◌, ℕ, subst, ◌+◌, ◌<◌, ◌≤◌, Bool, true, false, cond, List, [], ◌∷◌}
 use Rattle.std.proofs.Common.{length, sym, refl, ap, ◌∙◌, arith, length-set}
 use Rattle.std.proofs.Common.{get_or-set_same, get_or-set_other}
 use Rattle.std.specs.Prelude.{slice_index, slice_index_or, slice_set, replicate, Option, Some, None}
@@ -17,12 +17,12 @@ use Rattle.rv_core.specs.States.{starting}
 use Rattle.rv_core.specs.Steps.{after}
 use Rattle.rv_core.proofs.LawLemmas.{start_law, count_law, number_law, limit_law}
 use Rattle.replay_core.specs.Plans.{Plan}
-use Rattle.replay_core.specs.Play.{Given, no_values, Use, words_after, core_at, loads_at, need_at, use_of, uses}
+use Rattle.replay_core.specs.Play.{Given, no_values, Use, words_after, core_at, uses}
 use Rattle.replay_core.specs.Play.{old_given, new_given, place_given, touched_given}
-use Rattle.replay_core.specs.Play.{loads_after, accesses_by, instr, given_next, place, valued_place, start, play}
+use Rattle.replay_core.specs.Play.{given_next, place, valued_place, start, play}
 use Rattle.replay_core.specs.Play.{valued_play, valued_played}
 use Rattle.replay_core.specs.Orders.{bump, counts, nought, counts_in, Ready, Ordered, IsReplayOrder}
-use Rattle.replay_core.specs.Laws.{PlayStartLaw, PlaceLaw, PlayKnown, PlayLaw}
+use Rattle.replay_core.specs.Laws.{PlaceGiven, PlayStartLaw, PlaceLaw, PlayKnown, PlayLaw}
 use Rattle.replay_core.proofs.Counts.{bump_same, bump_else}
 
 -- ---- one place
@@ -36,22 +36,6 @@ pub length-words_after : (used : Use) (words : List ℕ) (value : ℕ) →
     length (words_after used words value) ≡ length words
 length-words_after None words value = refl
 length-words_after (Some used) words value = length-written (is_write used.0) words used.1 value
-
--- what a place does to the cores, the words and the loads, and its access, where a value is given or none
-pub record PlaceGiven (p : Plan) (s : Outcome) (c : ℕ) (given : Option ℕ) : Type 0 where
-  pub core : c < length s.cores →
-      core_at (place_given p s c given) c ≡ after p.image (core_at s c) (old_given p s c given)
-  pub words : (place_given p s c given).words ≡ words_after (uses p s c given) s.words (new_given p s c given)
-  pub loads : c < length s.loads → loads_at (place_given p s c given) c
-      ≡ loads_after (use_of (need_at p s c)) (loads_at s c) ((core_at s c).count + 1) (old_given p s c given)
-  pub access : touched_given p s c given
-      ≡ accesses_by (uses p s c given) (instr c ((core_at s c).count + 1)) (old_given p s c given)
-      (new_given p s c given)
-  pub other_cores : (i : ℕ) → i ≢ c → core_at (place_given p s c given) i ≡ core_at s i
-  pub other_loads : (i : ℕ) → i ≢ c → loads_at (place_given p s c given) i ≡ loads_at s i
-  pub all_cores : length (place_given p s c given).cores ≡ length s.cores
-  pub all_words : length (place_given p s c given).words ≡ length s.words
-  pub all_loads : length (place_given p s c given).loads ≡ length s.loads
 
 pub place_given_law : (p : Plan) (s : Outcome) (c : ℕ) (given : Option ℕ) → PlaceGiven p s c given
 unfolding place_given touched_given
@@ -68,19 +52,7 @@ place_given_law p s c given = record {
 }
 
 pub place_law : PlaceLaw
-place_law p s c =
-    let law = place_given_law p s c None in
-    record {
-      core = law.core;
-      words = law.words;
-      loads = law.loads;
-      access = law.access;
-      other_cores = law.other_cores;
-      other_loads = law.other_loads;
-      all_cores = law.all_cores;
-      all_words = law.all_words;
-      all_loads = law.all_loads;
-    }
+place_law p s c = place_given_law p s c None
 
 -- ---- the start
 

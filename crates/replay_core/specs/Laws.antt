@@ -1,16 +1,16 @@
 -- What holds of every plan, list of cores and play.
-use Rattle.std.specs.Prelude.{◌≡◌, ◌≢◌, ℕ, ◌+◌, ◌<◌, ◌≤◌, ◌↔◌, true, List, [], ◌∷◌, ◌++◌, length, slice_index, None}
+use Rattle.std.specs.Prelude.{◌≡◌, ◌≢◌, ℕ, ◌+◌, ◌<◌, ◌≤◌, ◌↔◌, true, List, [], ◌∷◌, ◌++◌, length, slice_index}
+use Rattle.std.specs.Prelude.{Option, None}
 use Rattle.std.specs.List.{Contains}
 use Rattle.rtr_types.specs.declared.instr.Edge.{Edge}
 use Rattle.rtr_types.specs.declared.instr.Instr.{Instr}
-use Rattle.rv_core.specs.declared.outcome.LoadNote.{LoadNote}
 use Rattle.rv_core.specs.declared.outcome.Outcome.{Outcome}
 use Rattle.rv_core.specs.States.{starting}
 use Rattle.rv_core.specs.Steps.{after}
 use Rattle.replay_core.specs.Plans.{Plan}
 use Rattle.replay_core.specs.Play.{use_of, words_after, loads_after, accesses_by, core_at, loads_at, instr, need_at}
-use Rattle.replay_core.specs.Play.{old_at, new_at, place}
-use Rattle.replay_core.specs.Play.{touched, start, play, accesses_from, Plays, first_short, played}
+use Rattle.replay_core.specs.Play.{uses, old_given, new_given, place_given, touched_given}
+use Rattle.replay_core.specs.Play.{start, play, accesses_from, Plays, first_short, played}
 use Rattle.replay_core.specs.Orders.{bump, counts, nought, counts_in, Sourced, Ready, Ordered, IsReplayOrder, is_ready}
 use Rattle.replay_core.specs.Orders.{low_order}
 
@@ -109,26 +109,24 @@ pub record StartKnown (p : Plan) : Type 0 where
 abbrev pub PlayStartLaw : Type 0
 PlayStartLaw = (p : Plan) → StartKnown p
 
--- what core c's list has after its place
-abbrev pub loads_noted : Plan → Outcome → ℕ → List LoadNote
-loads_noted p s c = loads_after (use_of (need_at p s c)) (loads_at s c) ((core_at s c).count + 1) (old_at p s c)
-
--- what a place does to the cores, the words and the loads, and its access
-pub record PlaceKnown (p : Plan) (s : Outcome) (c : ℕ) : Type 0 where
-  pub core : c < length s.cores → core_at (place p s c) c ≡ after p.image (core_at s c) (old_at p s c)
-  pub words : (place p s c).words ≡ words_after (use_of (need_at p s c)) s.words (new_at p s c)
-  pub loads : c < length s.loads → loads_at (place p s c) c ≡ loads_noted p s c
-  pub access :
-      touched p s c
-      ≡ accesses_by (use_of (need_at p s c)) (instr c ((core_at s c).count + 1)) (old_at p s c) (new_at p s c)
-  pub other_cores : (i : ℕ) → i ≢ c → core_at (place p s c) i ≡ core_at s i
-  pub other_loads : (i : ℕ) → i ≢ c → loads_at (place p s c) i ≡ loads_at s i
-  pub all_cores : length (place p s c).cores ≡ length s.cores
-  pub all_words : length (place p s c).words ≡ length s.words
-  pub all_loads : length (place p s c).loads ≡ length s.loads
+-- what a place does to the cores, the words and the loads, and its access, where a value is given or none
+pub record PlaceGiven (p : Plan) (s : Outcome) (c : ℕ) (given : Option ℕ) : Type 0 where
+  pub core : c < length s.cores →
+      core_at (place_given p s c given) c ≡ after p.image (core_at s c) (old_given p s c given)
+  pub words : (place_given p s c given).words ≡ words_after (uses p s c given) s.words (new_given p s c given)
+  pub loads : c < length s.loads → loads_at (place_given p s c given) c
+      ≡ loads_after (use_of (need_at p s c)) (loads_at s c) ((core_at s c).count + 1) (old_given p s c given)
+  pub access : touched_given p s c given
+      ≡ accesses_by (uses p s c given) (instr c ((core_at s c).count + 1)) (old_given p s c given)
+      (new_given p s c given)
+  pub other_cores : (i : ℕ) → i ≢ c → core_at (place_given p s c given) i ≡ core_at s i
+  pub other_loads : (i : ℕ) → i ≢ c → loads_at (place_given p s c given) i ≡ loads_at s i
+  pub all_cores : length (place_given p s c given).cores ≡ length s.cores
+  pub all_words : length (place_given p s c given).words ≡ length s.words
+  pub all_loads : length (place_given p s c given).loads ≡ length s.loads
 
 abbrev pub PlaceLaw : Type 0
-PlaceLaw = (p : Plan) (s : Outcome) (c : ℕ) → PlaceKnown p s c
+PlaceLaw = (p : Plan) (s : Outcome) (c : ℕ) → PlaceGiven p s c None
 
 -- what is known after the places of a replay order
 pub record PlayKnown (p : Plan) (f : ℕ → ℕ) (s : Outcome) : Type 0 where
