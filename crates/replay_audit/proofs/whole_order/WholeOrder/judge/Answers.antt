@@ -43,11 +43,8 @@ loop-core-init c =
 
 pub bounds-counts-core : goal.bounds-counts-core
 bounds-counts-core c =
-    let walk = is_walk (goal.at.bounds-counts-core c).After-as_slice-core-items in
-    let few = few_place c.requires walk c.loop-core.core-index c.loop-core.invariant.judged c.loop-core-test.true 0 refl
-    in
-    let most : CORES_MAX ≡ 16 = refl in
-    omega arith
+    few_place c.requires (is_walk (goal.at.bounds-counts-core c).After-as_slice-core-items)
+    c.loop-core.core-index c.loop-core.invariant.judged c.loop-core-test.true 0 refl
 
 pub overflow_add-count : goal.overflow_add-count
 overflow_add-count c =
@@ -64,19 +61,13 @@ overflow_add-count c =
 
 pub bounds-counts-core-in-loop-core : goal.bounds-counts-core-in-loop-core
 bounds-counts-core-in-loop-core c =
-    let walk = is_walk (goal.at.bounds-counts-core-in-loop-core c).After-as_slice-core-items in
-    let few = few_place c.requires walk c.loop-core.core-index c.loop-core.invariant.judged c.loop-core-test.true 0 refl
-    in
-    let most : CORES_MAX ≡ 16 = refl in
-    omega arith
+    few_place c.requires (is_walk (goal.at.bounds-counts-core-in-loop-core c).After-as_slice-core-items)
+    c.loop-core.core-index c.loop-core.invariant.judged c.loop-core-test.true 0 refl
 
 pub bounds-places-core : goal.bounds-places-core
 bounds-places-core c =
-    let walk = is_walk (goal.at.bounds-places-core c).After-as_slice-core-items in
-    let few = few_place c.requires walk c.loop-core.core-index c.loop-core.invariant.judged c.loop-core-test.true 0 refl
-    in
-    let most : CORES_MAX ≡ 16 = refl in
-    omega arith
+    few_place c.requires (is_walk (goal.at.bounds-places-core c).After-as_slice-core-items)
+    c.loop-core.core-index c.loop-core.invariant.judged c.loop-core-test.true 0 refl
 
 pub access_at-requires-clause-core : goal.access_at-requires-clause-core
 access_at-requires-clause-core c =
