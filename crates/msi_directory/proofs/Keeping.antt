@@ -12,7 +12,8 @@ use Rattle.indexmap.specs.IndexMap.{IndexMap, insert_entry, keys, set_value_at, 
 use Rattle.indexmap.proofs.CallerLemmas.{index_map_len-with_value_at, keys-with_value_at}
 use Rattle.indexmap.proofs.MapLemmas.{Missing-position, index-first, insert_entry-absent}
 use Rattle.indexmap.proofs.RemoveLemmas.{own_first}
-use Rattle.msi_directory.specs.Deeds.{Deed, IsDoneAt}
+use Rattle.msi_directory.specs.Deeds.{Deed}
+use Rattle.msi_directory.specs.KeptDeeds.{IsDoneAt}
 use Rattle.msi_directory.specs.Entries.{answer_riding}
 use Rattle.msi_directory.specs.Kept.{Kept, copy_of, entry_of, kept_at, kept_more, kept_with, place_of}
 use Rattle.msi_directory.specs.declared.entry.Entry.{Entry}

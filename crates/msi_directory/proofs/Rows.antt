@@ -5,7 +5,8 @@ use Rattle.std.specs.Prelude.{length, slice_index_or, slice_set}
 use Rattle.std.proofs.lemmas.List.{get_or-set_other}
 use Rattle.std.proofs.lemmas.List.Elements.{All-set}
 use Rattle.msi_directory.specs.Blocks.{Blocks, entry_at, has_room, no_entry, opening_entry}
-use Rattle.msi_directory.specs.Deeds.{Deed, IsAnswered, IsDoneAt, IsServed}
+use Rattle.msi_directory.specs.Deeds.{Deed, IsAnswered, IsServed}
+use Rattle.msi_directory.specs.KeptDeeds.{IsDoneAt}
 use Rattle.msi_directory.specs.Entries.{answer_riding}
 use Rattle.msi_directory.specs.Fitting.{stage_fits}
 use Rattle.msi_directory.specs.Kept.{HomeFits, IsAt, Kept, Sparse, blocks_in, is_kept, kept_at, kept_with, place_of}

@@ -7,7 +7,6 @@ use Rattle.msi_cache.specs.declared.messages.Response.{Response}
 use Rattle.msi_directory.specs.Blocks.{Blocks, SameElsewhere, entry_at}
 use Rattle.msi_directory.specs.Entries.{answer_by, answer_riding, answer_to_request, answer_to_response}
 use Rattle.msi_directory.specs.Entries.{entry_after_request, entry_after_response, entry_left, entry_met}
-use Rattle.msi_directory.specs.Kept.{Kept, kept_at, kept_with}
 use Rattle.msi_directory.specs.Table.{HomeRow, is_free}
 use Rattle.msi_directory.specs.declared.entry.Entry.{Entry}
 use Rattle.msi_directory.specs.declared.entry.HomeAnswer.{HomeAnswer}
@@ -62,10 +61,3 @@ pub record IsServed {R : Type 0} (fresh : R) (done : Deed R) (old new : Blocks R
   where
     pub home : IsAnswered fresh done old new (answer_riding hand served.answer)
     pub free : served.free ≡ is_free (done.after (entry_at fresh old.entries done.block)).stage
-
--- this was done to the entry that is kept at the place
-pub record IsDoneAt {R : Type 0} (done : Deed R) (old new : Kept R) (place : ℕ) (hand : R) (served : Served) : Type 0
-  where
-    pub kept : (past : Entry R) → new ≡ kept_with old place (done.after (kept_at old place past))
-    pub answer : (past : Entry R) → answer_riding hand served.answer ≡ done.answer (kept_at old place past)
-    pub free : (past : Entry R) → served.free ≡ is_free (done.after (kept_at old place past)).stage

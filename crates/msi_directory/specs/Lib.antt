@@ -5,3 +5,4 @@ pub mod Kept
 pub mod PlainPart
 pub mod Fitting
 pub mod Deeds
+pub mod KeptDeeds

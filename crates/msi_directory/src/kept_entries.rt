@@ -1,7 +1,8 @@
 //! The entries that a home keeps.
 ghost use Rattle.std.specs.Prelude.{◌≡◌, ◌<◌, IfSome, IsTrue, None, OnErr, OnOk, length, slice_index_or};
 ghost use Rattle.msi_cache.specs.Messages.{request_seen};
-ghost use Rattle.msi_directory.specs.Deeds.{IsDoneAt, request_deed, response_deed};
+ghost use Rattle.msi_directory.specs.Deeds.{request_deed, response_deed};
+ghost use Rattle.msi_directory.specs.KeptDeeds.{IsDoneAt};
 ghost use Rattle.msi_directory.specs.Entries.{has_request_row, has_response_row};
 ghost use Rattle.msi_directory.specs.Fitting.{stage_fits};
 ghost use Rattle.msi_directory.specs.Kept.{IsAt, IsEven, is_kept, kept_more, nothing_kept, place_of};

@@ -1,6 +1,7 @@
 use Rattle.std.proofs.Common.{IsTrue, ◌∙◌, subst}
 use Rattle.msi_cache.specs.Messages.{request_seen}
-use Rattle.msi_directory.specs.Deeds.{IsDoneAt, request_deed}
+use Rattle.msi_directory.specs.Deeds.{request_deed}
+use Rattle.msi_directory.specs.KeptDeeds.{IsDoneAt}
 use Rattle.msi_directory.specs.Entries.{has_request_row}
 use Rattle.msi_directory.specs.Kept.{home_of}
 use Rattle.msi_directory.proofs.Fits.{request_keeps_fit}

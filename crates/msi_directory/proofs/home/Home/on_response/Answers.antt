@@ -1,5 +1,6 @@
 use Rattle.std.proofs.Common.{IsTrue, ◌∙◌, refl, subst}
-use Rattle.msi_directory.specs.Deeds.{IsDoneAt, response_deed}
+use Rattle.msi_directory.specs.Deeds.{response_deed}
+use Rattle.msi_directory.specs.KeptDeeds.{IsDoneAt}
 use Rattle.msi_directory.specs.Entries.{has_response_row}
 use Rattle.msi_directory.specs.Fitting.{stage_fits}
 use Rattle.msi_directory.specs.Kept.{home_of}
