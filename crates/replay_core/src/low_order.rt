@@ -20,20 +20,11 @@ const PLACES: usize = CORES_MAX as usize;
 
 /// A tally along the low order, with the lowest core that is ready. Which cores below it are ready is looked
 /// at again only where a core comes as far as one of them waits for.
+#[derive(Drop)]
 pub struct LowOrder<'a> {
     tally: Tally<'a>,
     low: Option<u8>,
     until: [u32; PLACES],
-}
-
-impl Drop for LowOrder<'_> {
-    fn drop(self) {
-        let LowOrder {
-            tally: _tally,
-            low: _low,
-            until: _until,
-        } = self;
-    }
 }
 
 impl<'a> Model for LowOrder<'a> {

@@ -23,13 +23,24 @@ const PLACES: usize = CORES_MAX as usize;
 
 /// How far each core has come along an order that obeys the log, and the logged sources of its next
 /// instruction, which are looked up once.
-#[derive(Drop)]
 pub struct Tally<'a> {
     recording: &'a Recording,
     which: Which,
     counts: Vec<u32>,
     wanted: Vec<Option<Clock>>,
     sources: Sources<'a>,
+}
+
+impl Drop for Tally<'_> {
+    fn drop(self) {
+        let Tally {
+            recording: _recording,
+            which: _which,
+            counts: _counts,
+            wanted: _wanted,
+            sources: _sources,
+        } = self;
+    }
 }
 
 impl<'a> Model for Tally<'a> {
