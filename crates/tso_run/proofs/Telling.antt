@@ -1,6 +1,6 @@
 -- What the clerk that keeps loads accepts, and what it comes to. Of what is told in a step the first alone may be
 -- noted, so that room for one load of each core is enough.
-use Rattle.std.proofs.Common.{◌≡◌, ◌∙◌, ap, subst, sym, ℕ, ◌<◌, List, [], ◌∷◌, length, Some, arith}
+use Rattle.std.proofs.Common.{◌≡◌, ◌∙◌, ap, subst, sym, ℕ, ◌<◌, List, [], ◌∷◌, length, Some}
 use Rattle.std.specs.Prelude.{IsTrue}
 use Rattle.std.proofs.lemmas.List.FromFn.{length-map-range_with_len}
 use Rattle.access_times.specs.Riding.{Carrying, Riding}
