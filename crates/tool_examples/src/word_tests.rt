@@ -12,6 +12,16 @@ fn meaning_of(alloc: Global, line: &str) -> Result<Option<Command>, AllocError> 
     meaning(alloc, words.as_slice())
 }
 
+/// Each row's line means what the row says.
+macro_rules! each_means {
+    ($rt:ident, $rows:ident by $is_meant:ident) => {
+        for row in &$rows {
+            let command = meaning_of($rt.alloc(), row.line)?;
+            assert!($rt; $is_meant(command, row), "{}", row.line);
+        }
+    };
+}
+
 /// What is done with a run, of plain cores or of ones with store buffers.
 enum Verb {
     Run,
@@ -105,36 +115,43 @@ fn is_run(command: Option<Command>, row: &Row) -> bool {
 
 #[test]
 fn words_that_mean_a_run_or_its_record(rt: HostRuntime) -> Result<(), Fail> {
-    for row in &ROWS {
-        let command = meaning_of(rt.alloc(), row.line)?;
-        assert!(rt; is_run(command, row), "{}", row.line);
-    }
+    each_means!(rt, ROWS by is_run);
     Ok(())
 }
 
-/// The line means a command of this form.
-macro_rules! means {
-    ($rt:ident, $line:literal => $($form:tt)*) => {
-        assert!($rt; matches!(meaning_of($rt.alloc(), $line)?, Some($($form)*)), $line);
+/// A line of words and the replay that it means.
+struct ReplayRow {
+    line: &'static str,
+    which: Which,
+    threads: Option<u32>,
+    loads: bool,
+}
+
+macro_rules! replay {
+    ($line:literal => $which:ident, $threads:expr, $loads:literal) => {
+        ReplayRow { line: $line, which: Which::$which, threads: $threads, loads: $loads }
     };
 }
 
-/// The line means this replay.
-macro_rules! replays {
-    ($rt:ident, $line:literal => $which:ident, $threads:pat, $loads:literal) => {
-        means!($rt, $line => Command::Replay { which: Which::$which, threads: $threads, loads: $loads });
-    };
+static REPLAYS: [ReplayRow; 7] = [
+    replay!("replay" => Reduced, None, false),
+    replay!("replay --log regulated" => Regulated, None, false),
+    replay!("replay --loads --log=reduced" => Reduced, None, true),
+    replay!("replay --log=regulated --loads" => Regulated, None, true),
+    replay!("replay --threads 1" => Reduced, Some(1), false),
+    replay!("replay --threads=8 --log regulated" => Regulated, Some(8), false),
+    replay!("replay --loads --threads 2" => Reduced, Some(2), true),
+];
+
+/// Whether the command is the replay of the row.
+fn is_replay(command: Option<Command>, row: &ReplayRow) -> bool {
+    matches!(command, Some(Command::Replay { which, threads, loads })
+        if which == row.which && threads == row.threads && loads == row.loads)
 }
 
 #[test]
 fn words_that_mean_a_replay(rt: HostRuntime) -> Result<(), Fail> {
-    replays!(rt, "replay" => Reduced, None, false);
-    replays!(rt, "replay --log regulated" => Regulated, None, false);
-    replays!(rt, "replay --loads --log=reduced" => Reduced, None, true);
-    replays!(rt, "replay --log=regulated --loads" => Regulated, None, true);
-    replays!(rt, "replay --threads 1" => Reduced, Some(1), false);
-    replays!(rt, "replay --threads=8 --log regulated" => Regulated, Some(8), false);
-    replays!(rt, "replay --loads --threads 2" => Reduced, Some(2), true);
+    each_means!(rt, REPLAYS by is_replay);
     Ok(())
 }
 
@@ -253,46 +270,129 @@ fn words_that_mean_nothing(rt: HostRuntime) -> Result<(), Fail> {
     Ok(())
 }
 
+/// A line of words and the image that it asks for.
+struct ImageRow {
+    line: &'static str,
+    shape: Shape,
+    number: u64,
+}
+
+macro_rules! image {
+    ($line:literal => $shape:ident, $number:literal) => {
+        ImageRow { line: $line, shape: Shape::$shape, number: $number }
+    };
+}
+
+static IMAGES: [ImageRow; 4] = [
+    image!("gen --shape lock --number 500" => Lock, 500),
+    image!("gen --number=2047 --shape=lock" => Lock, 2047),
+    image!("gen --shape mix --number 0" => Mix, 0),
+    image!("gen --number 18446744073709551615 --shape mix" => Mix, 18_446_744_073_709_551_615),
+];
+
+/// Whether the command makes the row's image.
+fn is_image(command: Option<Command>, row: &ImageRow) -> bool {
+    matches!(command, Some(Command::Gen { shape, number })
+        if shape == row.shape && number == row.number)
+}
+
 #[test]
 fn words_that_mean_an_image(rt: HostRuntime) -> Result<(), Fail> {
-    means!(rt, "gen --shape lock --number 500" => Command::Gen { shape: Shape::Lock, number: 500 });
-    means!(rt, "gen --number=2047 --shape=lock" => Command::Gen { shape: Shape::Lock, number: 2047 });
-    means!(rt, "gen --shape mix --number 0" => Command::Gen { shape: Shape::Mix, number: 0 });
-    means!(rt, "gen --number 18446744073709551615 --shape mix" =>
-        Command::Gen { shape: Shape::Mix, number: 18_446_744_073_709_551_615 });
+    each_means!(rt, IMAGES by is_image);
     Ok(())
+}
+
+/// A line of words and the soak that it asks for.
+struct SoakRow {
+    line: &'static str,
+    shape: Shape,
+    number: u64,
+    params: Params,
+    seed: u64,
+}
+
+static SOAKS: [SoakRow; 2] = [
+    SoakRow {
+        line: "soak --shape lock --number 1 --words 4",
+        shape: Shape::Lock,
+        number: 1,
+        params: Params {
+            cores: 1,
+            limit: 10_000,
+            words: 4,
+        },
+        seed: 0,
+    },
+    SoakRow {
+        line: "soak --limit=100000 --number 3 --seed 9 --shape mix --cores 8",
+        shape: Shape::Mix,
+        number: 3,
+        params: Params {
+            cores: 8,
+            limit: 100_000,
+            words: 16_384,
+        },
+        seed: 9,
+    },
+];
+
+/// Whether the command is the soak of the row.
+fn is_soak(command: Option<Command>, row: &SoakRow) -> bool {
+    matches!(command, Some(Command::Soak { shape, number, params, seed })
+        if shape == row.shape && number == row.number && params == row.params && seed == row.seed)
 }
 
 #[test]
 fn words_that_mean_a_soak(rt: HostRuntime) -> Result<(), Fail> {
-    means!(rt, "soak --shape lock --number 1 --words 4" =>
-        Command::Soak { shape: Shape::Lock, number: 1, params: Params { cores: 1, limit: 10_000, words: 4 }, seed: 0 });
-    means!(rt, "soak --limit=100000 --number 3 --seed 9 --shape mix --cores 8" =>
-        Command::Soak {
-            shape: Shape::Mix, number: 3, params: Params { cores: 8, limit: 100_000, words: 16_384 }, seed: 9
-        });
+    each_means!(rt, SOAKS by is_soak);
     Ok(())
 }
 
-/// The line asks for the state at this instruction.
-macro_rules! looks_at {
-    ($rt:ident, $line:literal => $which:ident, $core:literal: $count:literal, $latest:literal, $loads:literal) => {
-        means!($rt, $line => Command::At {
+/// A line of words and the instruction that it names, with how it is asked for.
+struct AtRow {
+    line: &'static str,
+    which: Which,
+    at: Instr,
+    latest: bool,
+    loads: bool,
+}
+
+macro_rules! at {
+    ($line:literal => $which:ident, $core:literal: $count:literal, $latest:literal, $loads:literal) => {
+        AtRow {
+            line: $line,
             which: Which::$which,
             at: Instr { core: $core, count: $count },
             latest: $latest,
             loads: $loads,
-        });
+        }
     };
+}
+
+static INSTRUCTIONS: [AtRow; 4] = [
+    at!("at --core 1 --count 2" => Reduced, 1: 2, false, false),
+    at!("at --latest --count=1 --core=0" => Reduced, 0: 1, true, false),
+    at!("at --core 15 --log regulated --count 1000000 --loads" => Regulated, 15: 1_000_000, false, true),
+    at!("at --loads --core=3 --latest --count=7 --log=reduced" => Reduced, 3: 7, true, true),
+];
+
+/// Whether the command asks for the state at the row's instruction.
+fn is_at(command: Option<Command>, row: &AtRow) -> bool {
+    matches!(command, Some(Command::At { which, at, latest, loads })
+        if which == row.which && at == row.at && latest == row.latest && loads == row.loads)
 }
 
 #[test]
 fn words_that_mean_an_instruction(rt: HostRuntime) -> Result<(), Fail> {
-    looks_at!(rt, "at --core 1 --count 2" => Reduced, 1: 2, false, false);
-    looks_at!(rt, "at --latest --count=1 --core=0" => Reduced, 0: 1, true, false);
-    looks_at!(rt, "at --core 15 --log regulated --count 1000000 --loads" => Regulated, 15: 1_000_000, false, true);
-    looks_at!(rt, "at --loads --core=3 --latest --count=7 --log=reduced" => Reduced, 3: 7, true, true);
+    each_means!(rt, INSTRUCTIONS by is_at);
     Ok(())
+}
+
+/// The line means a command of this form.
+macro_rules! means {
+    ($rt:ident, $line:literal => $($form:tt)*) => {
+        assert!($rt; matches!(meaning_of($rt.alloc(), $line)?, Some($($form)*)), $line);
+    };
 }
 
 #[test]
