@@ -12,8 +12,8 @@ pub back-requires-clause-closed : goal.back-requires-clause-closed
 back-requires-clause-closed c =
     let place = c.in_ok-place.place in
     let later = c.seek.new.self in
-    subst (λ (w : Which). IsClosed w later.recording c.cut-nothing.result) (sym c.seek.ensures.which)
-    (subst (λ (r : Recording). IsClosed place.which r c.cut-nothing.result) (sym c.seek.ensures.recording)
+    subst (λ (w : Which). IsClosed w later.recording c.cut-nothing.result) (sym c.seek.ensures.kept.which)
+    (subst (λ (r : Recording). IsClosed place.which r c.cut-nothing.result) (sym c.seek.ensures.kept.recording)
     (subst (λ (k : Cut). IsClosed place.which place.recording k) (sym c.cut-nothing.ensures.cut)
     c.cut-nothing.ensures.stands.closed))
 
