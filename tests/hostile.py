@@ -59,7 +59,6 @@ READERS = [
     ["thin"],
     ["checkthin"],
     ["tsoreplay", "--loads"],
-    ["expand"],
 ]
 ELF_READERS = [["run", "--elf", "--words", "64", "--limit", "200"], ["record", "--elf", "--cores", "2", "--words", "64", "--limit", "200"]]
 IMAGE_READERS = [["tsorun", "--cores", "3", "--words", "64", "--limit", "200"], ["tsorecord", "--cores", "3", "--words", "64", "--limit", "200"], ["run", "--cores", "3", "--words", "64", "--limit", "200"], ["record", "--cores", "3", "--words", "64", "--limit", "200"]]
