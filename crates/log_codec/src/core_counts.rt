@@ -57,7 +57,7 @@ pub fn counts_into<'a>(
     Ok(rest)
 }
 
-/// Appends a count of each core.
+/// Appends a count of each core. The only refusal is want of memory.
 pub fn put_counts(out: &mut Vec<u8>, counts: &[u32]) -> Result<(), AllocError>
     ensures { OnOk result (out.new.items ≡ out.old.items ++ counts_text counts.now) }
 {

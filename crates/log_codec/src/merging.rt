@@ -154,7 +154,7 @@ fn put_into(
     Ok(())
 }
 
-/// The edges into each core.
+/// The edges into each core. The only refusal is want of memory.
 pub fn put_targets(
     out: &mut Vec<u8>,
     reduced: &[Items<(u32, u32)>],

@@ -19,7 +19,7 @@ use std::alloc::{AllocError, Global};
 use stride_vector::StrideVector;
 use varint_core::put_u32;
 
-/// The parameters and the length of the image.
+/// The parameters and the length of the image. The only refusal is want of memory.
 pub fn put_sizes(out: &mut Vec<u8>, params: &Params, len: u32) -> Result<(), AllocError>
     ensures { OnOk result (out.new.items ≡ out.old.items ++ sizes_text params.now len) }
 {
@@ -42,7 +42,7 @@ fn put_header(
     put_sizes(out, params, len)
 }
 
-/// The totals of all cores.
+/// The totals of all cores. The only refusal is want of memory.
 pub fn put_totals(out: &mut Vec<u8>, totals: &[u32]) -> Result<(), AllocError>
     ensures { OnOk result (out.new.items ≡ out.old.items ++ totals_text totals.now) }
 {
@@ -152,7 +152,7 @@ fn spell_in(alloc: Global, version: Version, value: &Recording) -> Result<Vec<u8
     Ok(out)
 }
 
-/// The one spelling of the recording in version 2.
+/// The one spelling of the recording in version 2. The only refusal is want of memory.
 pub fn spell(alloc: Global, value: &Recording) -> Result<Vec<u8>, AllocError>
     requires { Valid value.now }
     ensures { IfOk result (λ bytes. bytes.items ≡ spelling value.now) }
@@ -161,6 +161,7 @@ pub fn spell(alloc: Global, value: &Recording) -> Result<Vec<u8>, AllocError>
 }
 
 /// The one spelling of the recording in version 1, for recordings within its limits.
+/// The only refusal is want of memory.
 pub fn spell_v1(alloc: Global, value: &Recording) -> Result<Vec<u8>, AllocError>
     requires valid { Valid value.now }
     requires limits { FitsOld value.now.params }

@@ -31,6 +31,7 @@ fn put_shown(out: &mut Vec<u8>, shown: &[Shown]) -> Result<(), AllocError>
 }
 
 /// The one spelling: that of the recording in version 2, and then what shows that its vectors are needed.
+/// The only refusal is want of memory.
 pub fn spell_thin(alloc: Global, value: &Thinned) -> Result<Vec<u8>, AllocError>
     requires { IsThin value.now }
     ensures { IfOk result (λ bytes. bytes.items ≡ spelling value.now) }
