@@ -8,7 +8,8 @@ use Rattle.log_codec.specs.Faults.{◌>>=◌}
 use Rattle.log_codec.specs.Laws.{IsBytes}
 use Rattle.log_codec.specs.Reading.{number_at, front_at}
 use Rattle.rtr_types.specs.Turns.{stay, count_up}
-use Rattle.log_codec.proofs.BadPartLaws.{after-5, at_end, bad_part, no-reading, some-end}
+use Rattle.log_codec.proofs.BadPartLaws.{after-5, at_end, bad_part, some-end}
+use Rattle.log_codec.proofs.FourParts.{no-reading}
 use Rattle.log_codec.proofs.CoreCountLaws.{counts-name}
 use Rattle.log_codec.proofs.LastParts.{StopsAt, stops_at}
 use Rattle.log_codec.proofs.Named.{Names, bind-names, guard-names, number-names, turns-name}

@@ -5,7 +5,8 @@ use Rattle.log_codec.specs.BadParts.{UpToRegulated, recording_up_to}
 use Rattle.log_codec.specs.Faults.{◌>>=◌}
 use Rattle.log_codec.specs.Laws.{IsBytes}
 use Rattle.log_codec.specs.Reading.{front_at}
-use Rattle.log_codec.proofs.BadPartLaws.{at_end, end-names, end-some, never-both, read-all}
+use Rattle.log_codec.proofs.BadPartLaws.{at_end, end-names, end-some, read-all}
+use Rattle.log_codec.proofs.FourParts.{never-both}
 use Rattle.log_codec.proofs.Named.{Names}
 
 -- five valid parts, and no sixth after them
@@ -24,7 +25,7 @@ StopsAt IsSixth sixth last bytes p = (front_at bytes ≡ Err p)
     ⊎ (((p ≡ sixth) × NoSixth IsSixth bytes) ⊎ ((p ≡ last) × SixthAndMore IsSixth bytes))
 
 -- where all bytes have no reading, the last part has none, or bytes follow it
-last_part : {K A : Type 0} (part : Result (K × List ℕ) ℕ) (made : K → A) (last p : ℕ) →
+pub last_part : {K A : Type 0} (part : Result (K × List ℕ) ℕ) (made : K → A) (last p : ℕ) →
     ((part >>= λ k. Ok (made k.0, k.1)) >>= at_end last) ≡ Err p →
     (part ≡ Err p) ⊎ ((k : K) × (after : List ℕ) × (part ≡ Ok (k, after)) × (at_end last (made k, after) ≡ Err p))
 last_part (Ok k) made last p e = inr (k.0, k.1, refl, e)

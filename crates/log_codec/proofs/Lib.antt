@@ -13,6 +13,7 @@ pub mod Received
 pub mod Wholes
 pub mod Whole
 pub mod Named
+pub mod FourParts
 pub mod BadPartLaws
 pub mod CoreCountLaws
 pub mod LastParts

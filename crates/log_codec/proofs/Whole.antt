@@ -80,14 +80,19 @@ abbrev pub after_reduced : Params → List ℕ → List ℕ → List (List (ℕ 
 after_reduced params image totals reduced =
     regulated_at totals reduced.1 >>= λ regulated. Ok (made_of params image totals reduced.0 regulated.0, regulated.1)
 
-abbrev pub after_totals : Version → Params → List ℕ → List ℕ × List ℕ → Result (Recording × List ℕ) ℕ
-after_totals v params image totals = reduced_at v totals.0 totals.1 >>= after_reduced params image totals.0
+-- what reads the parts after the reduced log, by the parameters, the image, the totals, and that log with its rest
+abbrev pub AfterFour : Type 0 → Type 0
+AfterFour A = Params → List ℕ → List ℕ → List (List (ℕ × ℕ)) × List ℕ → Result A ℕ
 
-abbrev pub after_image : Version → Params → List ℕ × List ℕ → Result (Recording × List ℕ) ℕ
-after_image v params image = totals_at params.limit params.cores image.1 >>= after_totals v params image.0
+abbrev pub after_totals : {A : Type 0} → AfterFour A → Version → Params → List ℕ → List ℕ × List ℕ → Result A ℕ
+after_totals next v params image totals = reduced_at v totals.0 totals.1 >>= next params image totals.0
 
-abbrev pub after_header : Headed → Result (Recording × List ℕ) ℕ
-after_header header = image_at header.2 header.3 >>= after_image header.0 header.1
+abbrev pub after_image : {A : Type 0} → AfterFour A → Version → Params → List ℕ × List ℕ → Result A ℕ
+after_image next v params image =
+    totals_at params.limit params.cores image.1 >>= after_totals next v params image.0
+
+abbrev pub after_header : {A : Type 0} → AfterFour A → Headed → Result A ℕ
+after_header next header = image_at header.2 header.3 >>= after_image next header.0 header.1
 
 -- the limits of either version lie within those of version 2
 pub within-new : (v : Version) (p : Params) → FitsIn v p → Fits p
@@ -112,10 +117,10 @@ pub parts_read : (bytes : List ℕ) (r : Recording) (rest : List ℕ) → front_
     PartsRead bytes r rest
 unfolding front_at
 parts_read bytes r rest e =
-    let h = bind_ok (header_at bytes) after_header (r, rest) e in
+    let h = bind_ok (header_at bytes) (after_header after_reduced) (r, rest) e in
     let p = h.0.1 in
-    let i = bind_ok (image_at h.0.2 h.0.3) (after_image h.0.0 p) (r, rest) h.2 in
-    let t = bind_ok (totals_at p.limit p.cores i.0.1) (after_totals h.0.0 p i.0.0) (r, rest) i.2 in
+    let i = bind_ok (image_at h.0.2 h.0.3) (after_image after_reduced h.0.0 p) (r, rest) h.2 in
+    let t = bind_ok (totals_at p.limit p.cores i.0.1) (after_totals after_reduced h.0.0 p i.0.0) (r, rest) i.2 in
     let d = bind_ok (reduced_at h.0.0 t.0.0 t.0.1) (after_reduced p i.0.0 t.0.0) (r, rest) t.2 in
     let g = bind_ok (regulated_at t.0.0 d.0.1) (λ regulated. Ok (made_of p i.0.0 t.0.0 d.0.0 regulated.0, regulated.1))
     (r, rest) d.2 in

@@ -44,33 +44,37 @@ pub record IsRegulated (totals bytes : List ℕ) (regulated : List (List StrideV
 
 -- ---- the parts up to one, of which each is valid, and the rest after it
 
-pub record UpToHeader (bytes rest : List ℕ) : Type 0 where
+-- what is a header of bytes, before the rest: the version of the parts after it, the parameters, the image's length
+abbrev pub HeaderRelation : Type 1
+HeaderRelation = (bytes : List ℕ) → Version → Params → (len : ℕ) → (rest : List ℕ) → Type 0
+
+pub record UpToHeader (Header : HeaderRelation) (bytes rest : List ℕ) : Type 0 where
   pub version : Version
   pub params : Params
   pub len : ℕ
-  pub header : IsHeader bytes version params len rest
+  pub header : Header bytes version params len rest
 
-pub record UpToImage (bytes rest : List ℕ) : Type 0 where
+pub record UpToImage (Header : HeaderRelation) (bytes rest : List ℕ) : Type 0 where
   pub before : List ℕ
-  pub first : UpToHeader bytes before
+  pub first : UpToHeader Header bytes before
   pub image : List ℕ
   pub second : IsImage first.len before image rest
 
-pub record UpToTotals (bytes rest : List ℕ) : Type 0 where
+pub record UpToTotals (Header : HeaderRelation) (bytes rest : List ℕ) : Type 0 where
   pub before : List ℕ
-  pub two : UpToImage bytes before
+  pub two : UpToImage Header bytes before
   pub totals : List ℕ
   pub third : IsTotals two.first.params before totals rest
 
-pub record UpToReduced (bytes rest : List ℕ) : Type 0 where
+pub record UpToReduced (Header : HeaderRelation) (bytes rest : List ℕ) : Type 0 where
   pub before : List ℕ
-  pub three : UpToTotals bytes before
+  pub three : UpToTotals Header bytes before
   pub reduced : List (List (ℕ × ℕ))
   pub fourth : IsReduced three.two.first.version three.totals before reduced rest
 
 pub record UpToRegulated (bytes rest : List ℕ) : Type 0 where
   pub before : List ℕ
-  pub four : UpToReduced bytes before
+  pub four : UpToReduced IsHeader bytes before
   pub regulated : List (List StrideVector)
   pub fifth : IsRegulated four.three.totals before regulated rest
 
@@ -86,29 +90,29 @@ recording_up_to bytes rest u = record {
 
 -- ---- a part that isn't there, after those below it
 
--- no header, in either version
-abbrev pub NoHeader : (bytes : List ℕ) → Type 0
-NoHeader bytes = (v : Version) (p : Params) (len : ℕ) (rest : List ℕ) → IsHeader bytes v p len rest → ⊥
+-- no header, in any version
+abbrev pub NoHeader : HeaderRelation → (bytes : List ℕ) → Type 0
+NoHeader Header bytes = (v : Version) (p : Params) (len : ℕ) (rest : List ℕ) → Header bytes v p len rest → ⊥
 
 -- a header, and no image after it
-abbrev pub NoImage : (bytes : List ℕ) → Type 0
-NoImage bytes = (rest : List ℕ) × (u : UpToHeader bytes rest)
+abbrev pub NoImage : HeaderRelation → (bytes : List ℕ) → Type 0
+NoImage Header bytes = (rest : List ℕ) × (u : UpToHeader Header bytes rest)
     × ((image after : List ℕ) → IsImage u.len rest image after → ⊥)
 
 -- an image, and no totals after it
-abbrev pub NoTotals : (bytes : List ℕ) → Type 0
-NoTotals bytes = (rest : List ℕ) × (u : UpToImage bytes rest)
+abbrev pub NoTotals : HeaderRelation → (bytes : List ℕ) → Type 0
+NoTotals Header bytes = (rest : List ℕ) × (u : UpToImage Header bytes rest)
     × ((totals after : List ℕ) → IsTotals u.first.params rest totals after → ⊥)
 
 -- totals, and no reduced log after them
-abbrev pub NoReduced : (bytes : List ℕ) → Type 0
-NoReduced bytes = (rest : List ℕ) × (u : UpToTotals bytes rest)
+abbrev pub NoReduced : HeaderRelation → (bytes : List ℕ) → Type 0
+NoReduced Header bytes = (rest : List ℕ) × (u : UpToTotals Header bytes rest)
     × ((reduced : List (List (ℕ × ℕ))) (after : List ℕ) →
     IsReduced u.two.first.version u.totals rest reduced after → ⊥)
 
 -- a reduced log, and no regulated log after it
 abbrev pub NoRegulated : (bytes : List ℕ) → Type 0
-NoRegulated bytes = (rest : List ℕ) × (u : UpToReduced bytes rest)
+NoRegulated bytes = (rest : List ℕ) × (u : UpToReduced IsHeader bytes rest)
     × ((regulated : List (List StrideVector)) (after : List ℕ) → IsRegulated u.three.totals rest regulated after → ⊥)
 
 -- ---- which part is named, by its number
@@ -125,8 +129,8 @@ pub record FiveNamed (A : Type 0) (read : Result A ℕ) (last : ℕ)
 
 -- by a reading of a front of the bytes
 abbrev pub FrontNames : (bytes : List ℕ) → Type 0
-FrontNames bytes = FiveNamed (Recording × List ℕ) (front_at bytes) 5 (NoHeader bytes) (NoImage bytes) (NoTotals bytes)
-    (NoReduced bytes) (NoRegulated bytes)
+FrontNames bytes = FiveNamed (Recording × List ℕ) (front_at bytes) 5 (NoHeader IsHeader bytes)
+    (NoImage IsHeader bytes) (NoTotals IsHeader bytes) (NoReduced IsHeader bytes) (NoRegulated bytes)
 
 -- by a reading of all bytes: the same, or the end, where bytes follow the other parts
 pub record WholeNames (bytes : List ℕ) : Type 0 where

@@ -23,7 +23,7 @@ use Rattle.log_codec.proofs.ReducedLaws.{reduced_takes, reduced_again}
 use Rattle.race_log.proofs.Parts.{total-small}
 use Rattle.log_codec.proofs.Wholes.{SpellingLaws, Taken, spelling_laws}
 use Rattle.log_codec.proofs.Steps.{bind_ok, guard_ok, ok_is, bytes-drop, Takes, Takes-then}
-use Rattle.log_codec.proofs.Whole.{totals_take, totals_again, totals_fit}
+use Rattle.log_codec.proofs.Whole.{after_header, after_image, after_totals, totals_take, totals_again, totals_fit}
 use Rattle.race_log.proofs.Parts.{valid-made, edges-placed}
 use Rattle.tso_codec.specs.declared.recording.TheConstants.{END}
 use Rattle.tso_codec.specs.declared.recording.TsoRecording.{TsoRecording}
@@ -66,14 +66,8 @@ abbrev pub after_reduced : Params → List ℕ → List ℕ → List (List (ℕ 
 after_reduced p image totals reduced =
     all_values_at p.cores totals reduced.1 >>= λ values. Ok (made_of p image totals reduced.0 values.0, values.1)
 
-abbrev pub after_totals : Params → List ℕ → List ℕ × List ℕ → Result (TsoRecording × List ℕ) ℕ
-after_totals p image totals = targets_at totals.0 totals.1 >>= after_reduced p image totals.0
-
-abbrev pub after_image : Params → List ℕ × List ℕ → Result (TsoRecording × List ℕ) ℕ
-after_image p image = totals_at p.limit p.cores image.1 >>= after_totals p image.0
-
 abbrev pub after_sizes : Params × ℕ × List ℕ → Result (TsoRecording × List ℕ) ℕ
-after_sizes sizes = image_at sizes.1 sizes.2 >>= after_image sizes.0
+after_sizes sizes = after_header after_reduced (Two, sizes.0, sizes.1, sizes.2)
 
 abbrev pub after_magic : List ℕ → Result (TsoRecording × List ℕ) ℕ
 after_magic rest = sizes_at Two rest >>= after_sizes
@@ -91,8 +85,8 @@ parts_take bytes r rest are e =
     let m = bind_ok (magic_at bytes) after_magic (r, rest) e in
     let h = bind_ok (sizes_at Two m.0) after_sizes (r, rest) m.2 in
     let p = h.0.0 in
-    let i = bind_ok (image_at h.0.1 h.0.2) (after_image p) (r, rest) h.2 in
-    let t = bind_ok (totals_at p.limit p.cores i.0.1) (after_totals p i.0.0) (r, rest) i.2 in
+    let i = bind_ok (image_at h.0.1 h.0.2) (after_image after_reduced Two p) (r, rest) h.2 in
+    let t = bind_ok (totals_at p.limit p.cores i.0.1) (after_totals after_reduced Two p i.0.0) (r, rest) i.2 in
     let d = bind_ok (targets_at t.0.0 t.0.1) (after_reduced p i.0.0 t.0.0) (r, rest) t.2 in
     let v = bind_ok (all_values_at p.cores t.0.0 d.0.1) (λ values. Ok (made_of p i.0.0 t.0.0 d.0.0 values.0, values.1))
     (r, rest) d.2 in

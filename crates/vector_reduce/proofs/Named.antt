@@ -17,7 +17,8 @@ use Rattle.log_codec.specs.Reading.{front_at, number_at}
 use Rattle.log_codec.specs.Spelling.{header_text}
 use Rattle.log_codec.specs.CoreCounts.{counts_at}
 use Rattle.log_codec.specs.Versions.{magic}
-use Rattle.log_codec.proofs.BadPartLaws.{after-5, at_end, bad_part, no-reading, some-end}
+use Rattle.log_codec.proofs.BadPartLaws.{after-5, at_end, bad_part, some-end}
+use Rattle.log_codec.proofs.FourParts.{no-reading}
 use Rattle.log_codec.proofs.CoreCountLaws.{counts-name}
 use Rattle.log_codec.proofs.LastParts.{StopsAt, stops_at}
 use Rattle.log_codec.proofs.Named.{Names, bind-names, number-names, turns-name}
@@ -57,10 +58,10 @@ header-version bytes One p len rest two h =
     let not : begins_two bytes ≡ false = ap (λ (b : List ℕ). begins_two b) h.spelled ∙ header-one p len rest in
     absurd cc
 
-version-two : (bytes rest : List ℕ) → begins_two bytes ≡ true → (u : UpToHeader bytes rest) → u.version ≡ Two
+version-two : (bytes rest : List ℕ) → begins_two bytes ≡ true → (u : UpToHeader IsHeader bytes rest) → u.version ≡ Two
 version-two bytes rest two u = header-version bytes u.version u.params u.len rest two u.header
 
-version-begins : (bytes rest : List ℕ) (u : UpToHeader bytes rest) → u.version ≡ Two → begins_two bytes ≡ true
+version-begins : (bytes rest : List ℕ) (u : UpToHeader IsHeader bytes rest) → u.version ≡ Two → begins_two bytes ≡ true
 version-begins bytes rest u two =
     header-begins bytes u.params u.len rest (subst (λ (v : Version). IsHeader bytes v u.params u.len rest) two u.header)
 
@@ -202,12 +203,12 @@ names-two bytes are two = record {
     below : (part : ℕ) → part ≤ 5 → thinned_at bytes ≡ Err part → front_at bytes ≡ Err part
     below part le e = in_front part le (stops bytes part are two e)
 
-    no_header : NoHeader bytes → recordings.NoHeader bytes
+    no_header : NoHeader bytes → recordings.NoHeader IsHeader bytes
     no_header none v p len rest is =
         none p len rest (subst (λ (w : Version). IsHeader bytes w p len rest)
         (header-version bytes v p len rest two is) is)
 
-    reduced_two : recordings.NoReduced bytes → NoReduced bytes
+    reduced_two : recordings.NoReduced IsHeader bytes → NoReduced bytes
     reduced_two (rest, u, none) =
         let v = version-two bytes _ two u.two.first in (
           rest,
@@ -217,7 +218,7 @@ names-two bytes are two = record {
               (subst (λ (w : Version). IsReduced w u.totals rest reduced after) (sym v) is),
         )
 
-    reduced_any : NoReduced bytes → recordings.NoReduced bytes
+    reduced_any : NoReduced bytes → recordings.NoReduced IsHeader bytes
     reduced_any (rest, u, v, none) = (
       rest,
       u,

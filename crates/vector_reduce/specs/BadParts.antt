@@ -36,19 +36,19 @@ abbrev pub NoHeader : (bytes : List ℕ) → Type 0
 NoHeader bytes = (p : Params) (len : ℕ) (rest : List ℕ) → IsHeader bytes Two p len rest → ⊥
 
 abbrev pub NoImage : (bytes : List ℕ) → Type 0
-NoImage bytes = (rest : List ℕ) × (u : UpToHeader bytes rest) × (u.version ≡ Two)
+NoImage bytes = (rest : List ℕ) × (u : UpToHeader IsHeader bytes rest) × (u.version ≡ Two)
     × ((image after : List ℕ) → IsImage u.len rest image after → ⊥)
 
 abbrev pub NoTotals : (bytes : List ℕ) → Type 0
-NoTotals bytes = (rest : List ℕ) × (u : UpToImage bytes rest) × (u.first.version ≡ Two)
+NoTotals bytes = (rest : List ℕ) × (u : UpToImage IsHeader bytes rest) × (u.first.version ≡ Two)
     × ((totals after : List ℕ) → IsTotals u.first.params rest totals after → ⊥)
 
 abbrev pub NoReduced : (bytes : List ℕ) → Type 0
-NoReduced bytes = (rest : List ℕ) × (u : UpToTotals bytes rest) × (u.two.first.version ≡ Two)
+NoReduced bytes = (rest : List ℕ) × (u : UpToTotals IsHeader bytes rest) × (u.two.first.version ≡ Two)
     × ((reduced : List (List (ℕ × ℕ))) (after : List ℕ) → IsReduced Two u.totals rest reduced after → ⊥)
 
 abbrev pub NoRegulated : (bytes : List ℕ) → Type 0
-NoRegulated bytes = (rest : List ℕ) × (u : UpToReduced bytes rest) × (u.three.two.first.version ≡ Two)
+NoRegulated bytes = (rest : List ℕ) × (u : UpToReduced IsHeader bytes rest) × (u.three.two.first.version ≡ Two)
     × ((regulated : List (List StrideVector)) (after : List ℕ) → IsRegulated u.three.totals rest regulated after → ⊥)
 
 abbrev pub NoShown : (bytes : List ℕ) → Type 0
