@@ -1,6 +1,5 @@
 pub mod Parts
 pub mod Whole
-pub mod Edges
 pub mod Marks
 pub mod Ends
 pub mod Named

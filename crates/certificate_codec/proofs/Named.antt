@@ -18,9 +18,9 @@ use Rattle.certificate_codec.specs.declared.certificate.Certificate.{Certificate
 use Rattle.certificate_codec.specs.declared.certificate.TheConstants.{CLOCKS, END}
 use Rattle.certificate_codec.specs.BadParts.{AreClocks, BadPart, CertificateNames, NoClocks, UpToClocks}
 use Rattle.certificate_codec.specs.Ends.{end_count}
-use Rattle.certificate_codec.specs.Reading.{certificate_at, clocks_at, entries_at, entry_at, parts_at, true_number}
+use Rattle.certificate_codec.specs.Reading.{certificate_at, clocks_at, entries_at, entry_at, made_of, parts_at}
+use Rattle.certificate_codec.specs.Reading.{true_number}
 use Rattle.certificate_codec.proofs.Parts.{clocks_again, clocks_take}
-use Rattle.certificate_codec.proofs.Whole.{made_of}
 
 -- ---- the sixth part's reader names that part alone
 

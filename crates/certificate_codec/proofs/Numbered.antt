@@ -3,7 +3,7 @@ use Rattle.std.proofs.Common.{inl, inr, ◌≡◌, ◌⊎◌, ℕ, ◌-◌, ◌<
 use Rattle.std.proofs.lemmas.Bool.{cases_order}
 use Rattle.rtr_types.specs.declared.instr.Edge.{Edge}
 use Rattle.clock_entries.specs.Ends.{ends_to}
-use Rattle.clock_entries.proofs.Numbers.{end_at, at_low, at_high, fronted}
+use Rattle.clock_entries.proofs.Numbers.{at_low, at_high, fronted}
 use Rattle.certificate_codec.specs.Ends.{IsNumber}
 
 between : (edges : List Edge) (c m n k : ℕ) → m ≤ n → IsNumber (ends_to edges c n) m k → k ≡ length (ends_to edges c m)

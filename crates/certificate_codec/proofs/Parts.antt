@@ -1,6 +1,5 @@
 -- The sixth part: what is read is spelled so, and what is spelled is read again.
-use Rattle.std.proofs.Common.{◌≡◌, ℕ, ◌^◌, ◌<◌, ◌≤◌, true, cond, nat_le, nat_eq, List, [], ◌++◌, length, get_or, ◌+◌}
-use Rattle.std.proofs.Common.{Ok, Err, refl}
+use Rattle.std.proofs.Common.{◌≡◌, ℕ, ◌^◌, ◌<◌, true, nat_eq, List, ◌++◌, length, get_or, ◌+◌, Ok}
 use Rattle.std.proofs.Common.{sym, ap, subst, ◌∙◌, append_assoc, arith}
 use Rattle.std.specs.Prelude.{slice_index}
 use Rattle.std.proofs.lemmas.Bool.Decides.{nat_tests}
@@ -85,10 +84,10 @@ pub few_ends : (r : Recording) → Valid r → (c : ℕ) → end_count r c < 2 ^
 few_ends r valid c = let a = few (reduced_edges r) c (slice_index r.totals c) in let b = totals_small r valid c in
     omega arith
 
-pub entries_few : (c : Certificate) → IsCertificate c → (core : ℕ) → core < length c.clocks →
-    length (get_or c.clocks core []) < 2 ^ 32
-entries_few c v core lt =
-    let e = (stand-places (AreEntries c.recording) 0 c.clocks v.entries core [] lt).number in
+pub entries_few : (c : Certificate) → IsCertificate c → (core : ℕ) (d : List (List ℕ)) → core < length c.clocks →
+    length (get_or c.clocks core d) < 2 ^ 32
+entries_few c v core d lt =
+    let e = (stand-places (AreEntries c.recording) 0 c.clocks v.entries core d lt).number in
     let f = few_ends c.recording v.recording (0 + core) in
     omega arith
 

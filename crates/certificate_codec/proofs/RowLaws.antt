@@ -1,6 +1,5 @@
 -- Rows of one width in one list: how many, the row at a place, and one row more.
 use Rattle.std.proofs.Common.{◌≡◌, ◌∙◌, ℕ, zero, suc, ◌+◌, ◌*◌, ◌<◌, ◌≤◌, List, [], ◌∷◌, ◌++◌, length, get_or, refl}
-use Rattle.std.proofs.Common.{sym}
 use Rattle.std.proofs.Common.{ap, arith, drop, suc-mul, take, zero-mul}
 use Rattle.std.proofs.lemmas.List.{drop-append-le, drop-drop, length-drop, take-append-le, take_all}
 use Rattle.certificate_codec.specs.Rows.{rows}

@@ -1,25 +1,21 @@
 -- Whole certificates: the laws.
 use Rattle.std.proofs.Common.{◌≡◌, ℕ, List, [], ◌++◌, Ok, refl, sym, ap, subst, ◌∙◌}
 use Rattle.std.proofs.Common.{append_assoc, append-nil}
-use Rattle.race_log.specs.declared.recording.Recording.{Recording}
-use Rattle.log_codec.specs.Faults.{◌>>=◌}
 use Rattle.log_codec.specs.Laws.{IsBytes}
 use Rattle.log_codec.specs.Reading.{front_at}
 use Rattle.log_codec.specs.Spelling as recordings
 use Rattle.log_codec.specs.declared.version.Version.TheVariants.{Two}
-use Rattle.log_codec.proofs.Steps.{bind_ok, ok_is, Takes, Takes-then}
+use Rattle.log_codec.proofs.Steps.{Takes, Takes-then}
 use Rattle.log_codec.proofs.Whole.{front_takes, front_again}
 use Rattle.log_codec.proofs.Wholes.{front_read, one_front, read_front}
+use Rattle.part_lists.proofs.Listing.{has_list}
 use Rattle.certificate_codec.specs.declared.certificate.Certificate.{Certificate}
 use Rattle.certificate_codec.specs.declared.certificate.TheConstants.{END}
 use Rattle.certificate_codec.specs.Validity.{IsCertificate}
 use Rattle.certificate_codec.specs.Spelling.{Spells, spelling, clocks_text}
-use Rattle.certificate_codec.specs.Reading.{clocks_at, parts_at, certificate_at}
+use Rattle.certificate_codec.specs.Reading.{clocks_at, made_of, parts_at, certificate_at}
 use Rattle.certificate_codec.specs.Laws.{ReadIsSpelled, SpelledIsRead, WrittenSpells, PrefixFree}
 use Rattle.certificate_codec.proofs.Parts.{clocks_take, clocks_again}
-
-abbrev pub made_of : Recording → List (List (List ℕ)) → Certificate
-made_of r clocks = record { recording = r; clocks = clocks }
 
 -- a certificate that was taken from the front of the bytes
 record PartsTaken (bytes : List ℕ) (c : Certificate) (rest : List ℕ) : Type 0 where
@@ -32,20 +28,17 @@ parts_taken : (bytes : List ℕ) (c : Certificate) (rest : List ℕ) → IsBytes
     PartsTaken bytes c rest
 unfolding parts_at
 parts_taken bytes c rest are e =
-    let f = bind_ok (front_at bytes)
-    (λ front. clocks_at front.0 front.1 >>= λ clocks. Ok (made_of front.0 clocks.0, clocks.1)) (c, rest) e in
-    let k = bind_ok (clocks_at f.0.0 f.0.1) (λ clocks. Ok (made_of f.0.0 clocks.0, clocks.1)) (c, rest) f.2 in
-    let tf = front_takes bytes f.0.0 f.0.1 are f.1 in
-    let tk = clocks_take f.0.0 f.0.1 k.0.0 k.0.1 tf.taken.rest_fits k.1 in
-    let front = recordings.spelling_in tf.version f.0.0 in
-    let made : PartsTaken bytes (made_of f.0.0 k.0.0) k.0.1 = record {
-      text = front ++ clocks_text k.0.0;
+    let h = has_list front_at clocks_at made_of bytes c rest e in
+    let tf = front_takes bytes h.recording h.middle are h.first in
+    let tk = clocks_take h.recording h.middle h.items rest tf.taken.rest_fits h.then in
+    let front = recordings.spelling_in tf.version h.recording in
+    let made : PartsTaken bytes (made_of h.recording h.items) rest = record {
+      text = front ++ clocks_text h.items;
       spells = record { front = front; recording = (tf.version, tf.limits, refl); parts = refl };
-      taken = Takes-then bytes front f.0.1 (clocks_text k.0.0) k.0.1 tf.taken tk.0;
+      taken = Takes-then bytes front h.middle (clocks_text h.items) rest tf.taken tk.0;
       valid = record { recording = tf.valid; each_core = tk.1; entries = tk.2 };
     } in
-    subst (λ (y : Certificate × List ℕ). PartsTaken bytes y.0 y.1) (ok_is (made_of f.0.0 k.0.0, k.0.1) (c, rest) k.2)
-    made
+    subst (λ (d : Certificate). PartsTaken bytes d rest) h.made_is made
 
 parts_again : (c : Certificate) (bytes rest : List ℕ) → IsCertificate c → Spells bytes c →
     parts_at (bytes ++ rest) ≡ Ok (c, rest)

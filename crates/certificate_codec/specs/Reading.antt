@@ -6,6 +6,7 @@ use Rattle.log_codec.specs.Faults.{◌>>=◌, read_all}
 use Rattle.log_codec.specs.Reading.{number_at, front_at}
 use Rattle.rtr_types.specs.Turns.{stay, count_up}
 use Rattle.log_codec.specs.Turns.{read_in_turn}
+use Rattle.part_lists.specs.Listed.{with_list}
 use Rattle.certificate_codec.specs.declared.certificate.Certificate.{Certificate}
 use Rattle.certificate_codec.specs.declared.certificate.TheConstants.{CLOCKS, END}
 use Rattle.certificate_codec.specs.Ends.{end_count}
@@ -29,12 +30,12 @@ entries_at r core bytes = do
 abbrev pub clocks_at : Recording → List ℕ → Result (List (List (List ℕ)) × List ℕ) ℕ
 clocks_at r bytes = read_in_turn (entries_at r) count_up r.params.cores 0 bytes
 
+abbrev pub made_of : Recording → List (List (List ℕ)) → Certificate
+made_of r clocks = record { recording = r; clocks = clocks }
+
 -- the parts but for the end, and the bytes after them: the first five are a recording's, then the clocks
 unfoldable pub parts_at : List ℕ → Result (Certificate × List ℕ) ℕ
-parts_at bytes = do
-  front ← front_at bytes
-  clocks ← clocks_at front.0 front.1
-  Ok (record { recording = front.0; clocks = clocks.0 }, clocks.1)
+parts_at bytes = with_list front_at clocks_at made_of bytes
 
 -- all parts
 unfoldable pub certificate_at : List ℕ → Result Certificate ℕ

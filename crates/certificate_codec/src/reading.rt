@@ -13,6 +13,7 @@ use crate::certificate::{CLOCKS, Certificate, END};
 use crate::core_entries::CoreEntries;
 use crate::edge_ends::EdgeEnds;
 use log_codec::{CodecFault, Reading, counts_into, number, read_all, read_front};
+use part_lists::{ReadsItems, read_items};
 use race_log::Recording;
 use rtr_types::Items;
 use std::alloc::Global;
@@ -53,6 +54,19 @@ fn entries<'a>(
     entries_from(alloc, ends.recording().totals.as_slice(), n as usize, rest)
 }
 
+impl<'r> ReadsItems<CoreEntries> for EdgeEnds<'r> {
+    ghost item_at = { entries_at };
+
+    ghost fits = { λ r core. core < r.params.cores };
+
+    /// The entries of the core with this number.
+    fn item<'a>(&self, alloc: Global, place: usize, bytes: &'a [u8]) -> Reading<'a, CoreEntries> {
+        // What always holds of the edge ends: their recording is valid.
+        let _ = self.recording();
+        entries(alloc, self, place as u8, bytes)
+    }
+}
+
 /// The sixth part: the entries of each core.
 fn clocks<'a>(
     alloc: Global,
@@ -63,14 +77,7 @@ fn clocks<'a>(
     ensures { Gives (λ x. (x.0, x.1.now)) result (clocks_at recording.now bytes.now) }
 {
     let ends = EdgeEnds::new(alloc, recording)?;
-    let mut found = Items::new(alloc);
-    let mut rest = bytes;
-    for core in 0..recording.params.cores {
-        let (next, after) = entries(alloc, &ends, core, rest)?;
-        found.push(next)?;
-        rest = after;
-    }
-    Ok((found, rest))
+    read_items(alloc, &ends, recording.params.cores as usize, bytes)
 }
 
 /// The parts but for the end, and the bytes after them.

@@ -2,14 +2,13 @@
 use Rattle.std.proofs.Common.{◌≡◌, ℕ, zero, suc, ◌+◌, ◌-◌, ◌*◌, ◌<◌, ◌≤◌, ◌^◌, List, [], ◌∷◌, ◌++◌, length, drop}
 use Rattle.std.proofs.Common.{get_or, cond, refl}
 use Rattle.std.proofs.Common.{sym, ap, subst, ◌∙◌, true, false}
-use Rattle.std.proofs.Common.{append-nil, arith}
+use Rattle.std.proofs.Common.{arith}
 use Rattle.std.specs.Prelude.{All, Bool, map, sum_by}
 use Rattle.std.specs.List.{Contains, flat_map, range_with_len}
 use Rattle.std.proofs.lemmas.List.{get_or_default, length-append, length-map}
 use Rattle.std.proofs.lemmas.List.Elements.{Contains-get_or}
 use Rattle.std.proofs.lemmas.List.FromFn.{get_or-range_with_len, length-range_with_len}
 use Rattle.std.proofs.Math.Nat.{mul-le-mul_left}
-use Rattle.std.proofs.lemmas.Grind.{flat_map-append}
 use Rattle.std.proofs.lemmas.List.Sums.{sum_by-cons, sum_by-le}
 use Rattle.rtr_types.specs.declared.params.Params.{Params}
 use Rattle.rtr_types.specs.Pairs.{IsPair, pair_count, source_at, target_at}
@@ -20,7 +19,6 @@ use Rattle.stride_vector.specs.Vectors.{last_of}
 use Rattle.race_log.specs.declared.recording.Recording.{Recording}
 use Rattle.rtr_types.specs.Turns.{StandInTurn}
 use Rattle.rtr_types.specs.PairEdges.{AreEdges}
-use Rattle.rtr_types.proofs.Ranges.{range_more}
 use Rattle.race_log.specs.Validity.{AreVectors, Valid, VectorStands, bound_at, end_of}
 use Rattle.race_log.proofs.Logs.{few_vectors, vector_small}
 use Rattle.race_log.proofs.Looked.{contains-flat, map-contains}
@@ -281,38 +279,6 @@ between_more cores most vs le b k lt =
       some_source = h.some_source;
       some_target = h.some_target;
     }
-
--- ---- the list of all vectors, pair by pair
-
-pub vectors_more : (r : Recording) (place : ℕ) (old new : List PairVector) →
-    old ≡ flat_map (pair_vectors r) (range_with_len 0 place) →
-    new ≡ old ++ pair_vectors r place → new ≡ flat_map (pair_vectors r) (range_with_len 0 (place + 1))
-vectors_more r place old new old_is new_is =
-    new_is ∙ ap (λ (l : List PairVector). l ++ pair_vectors r place) old_is
-    ∙ ap (λ (l : List PairVector). flat_map (pair_vectors r) (range_with_len 0 place) ++ l)
-    (sym (append-nil (pair_vectors r place)))
-    ∙ sym (flat_map-append (pair_vectors r) (range_with_len 0 place) (place ∷ []))
-    ∙ ap (λ (l : List ℕ). flat_map (pair_vectors r) l) (sym (range_more place))
-
-pub vectors_done : (r : Recording) (place : ℕ) (list : List PairVector) → place ≡ pair_count r.params.cores →
-    list ≡ flat_map (pair_vectors r) (range_with_len 0 place) → list ≡ vectors_of r
-unfolding vectors_of
-vectors_done r place list e is = is ∙ ap (λ (n : ℕ). flat_map (pair_vectors r) (range_with_len 0 n)) e
-
--- what is put at the end for the pair at a place
-pub pair_vectors_are : (r : Recording) (place : ℕ) (pair : ℕ × ℕ) (lists : List (List StrideVector))
-    (item vectors : List StrideVector)
-    (old new : List PairVector) → Valid r → place < pair_count r.params.cores →
-    pair ≡ (source_at r.params.cores place, target_at r.params.cores place) → lists ≡ r.regulated →
-    item ≡ get_or lists place item → vectors ≡ item →
-    new ≡ old ++ map (led_between pair.0 pair.1) vectors → new ≡ old ++ pair_vectors r place
-pair_vectors_are r place pair lists item vectors old new valid lt p l i k is =
-    is ∙ ap (λ (m : List StrideVector). old ++ map (led_between pair.0 pair.1) m) list
-    ∙ ap (λ (a : ℕ × ℕ). old ++ map (led_between a.0 a.1) (get_or r.regulated place [])) p
-  where
-    list : vectors ≡ get_or r.regulated place []
-    list = k ∙ i ∙ ap (λ (m : List (List StrideVector)). get_or m place item) l
-        ∙ get_or_default r.regulated place item [] (subst (λ (n : ℕ). place < n) (sym valid.each_regulated) lt)
 
 -- ---- how many there may be
 

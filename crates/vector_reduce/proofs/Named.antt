@@ -28,10 +28,9 @@ use Rattle.vector_reduce.specs.declared.thinned.Thinned.{Thinned}
 use Rattle.vector_reduce.specs.declared.thinned.TheConstants.{END, SHOWN}
 use Rattle.vector_reduce.specs.BadParts.{AreShown, BadPart, NoHeader, NoReduced, NoShown}
 use Rattle.vector_reduce.specs.BadParts.{ThinNames, UpToShown}
-use Rattle.vector_reduce.specs.Reading.{front_two_at, one_at, parts_at, shown_in, thinned_at}
+use Rattle.vector_reduce.specs.Reading.{front_two_at, made_of, one_at, parts_at, shown_in, thinned_at}
 use Rattle.vector_reduce.specs.Vectors.{vectors_of}
 use Rattle.vector_reduce.proofs.Parts.{few_totals, shown_again, shown_take}
-use Rattle.vector_reduce.proofs.Whole.{made_of}
 
 -- ---- the version
 

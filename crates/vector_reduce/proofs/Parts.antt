@@ -26,7 +26,6 @@ use Rattle.race_log.proofs.Counted.{totals_small}
 use Rattle.vector_reduce.specs.declared.thinned.Shown.{Shown}
 use Rattle.vector_reduce.specs.declared.thinned.TheConstants.{SHOWN}
 use Rattle.vector_reduce.specs.declared.thinned.Thinned.{Thinned}
-use Rattle.vector_reduce.specs.Showing.{no_shown}
 use Rattle.vector_reduce.specs.Reading.{one_at, shown_in}
 use Rattle.vector_reduce.specs.Spelling.{one_text, shown_text}
 use Rattle.vector_reduce.specs.Validity.{IsThin, ShownStands, counts_of, cut_of}
@@ -159,12 +158,12 @@ few_counts totals bytes counts rest few e = let same =
     turn_length (count_at SHOWN totals) count_up (length totals) 0 bytes counts rest e in omega (arith, few, same)
 
 stand_few : (totals : List ℕ) (shown : List Shown) → length totals ≤ CORES_MAX →
-    StandInTurn (ShownStands totals) stay tt shown → (k : ℕ) → k < length shown →
-    (get_or shown k no_shown).cut.cores ≤ CORES_MAX
-stand_few totals [] few h k lt = absurd (omega (arith, lt))
-stand_few totals (s ∷ shown) few h zero lt = few_cores totals tt s few h.0
-stand_few totals (s ∷ shown) few h (suc k) lt = stand_few totals shown few h.1 k (omega (arith, lt))
+    StandInTurn (ShownStands totals) stay tt shown → (k : ℕ) (d : Shown) → k < length shown →
+    (get_or shown k d).cut.cores ≤ CORES_MAX
+stand_few totals [] few h k d lt = absurd (omega (arith, lt))
+stand_few totals (s ∷ shown) few h zero d lt = few_cores totals tt s few h.0
+stand_few totals (s ∷ shown) few h (suc k) d lt = stand_few totals shown few h.1 k d (omega (arith, lt))
 
-pub shown_few : (t : Thinned) → IsThin t → (k : ℕ) → k < length t.shown →
-    (get_or t.shown k no_shown).cut.cores ≤ CORES_MAX
+pub shown_few : (t : Thinned) → IsThin t → (k : ℕ) (d : Shown) → k < length t.shown →
+    (get_or t.shown k d).cut.cores ≤ CORES_MAX
 shown_few t thin = stand_few t.recording.totals t.shown (few_totals t.recording thin.recording) thin.shown

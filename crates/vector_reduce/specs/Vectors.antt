@@ -1,13 +1,13 @@
 -- The vectors of a recording's regulated log, one after the other, and their edges.
-use Rattle.std.specs.Prelude.{◌≡◌, ℕ, suc, List, [], ◌++◌, map, take, drop, slice_index_or}
-use Rattle.std.specs.List.{flat_map, range_with_len}
+use Rattle.std.specs.Prelude.{◌≡◌, ℕ, suc, List, ◌++◌, map, take, drop, slice_index_or}
+use Rattle.std.specs.List.{flat_map}
 use Rattle.rtr_types.specs.declared.instr.Edge.{Edge}
 use Rattle.rtr_types.specs.declared.pairs.Which.TheVariants.{Regulated}
-use Rattle.rtr_types.specs.Pairs.{pair_count, source_at, target_at}
 use Rattle.stride_vector.specs.declared.StrideVector.{StrideVector}
 use Rattle.stride_vector.specs.Vectors.{edges_of, position_of}
 use Rattle.race_log.specs.declared.recording.Recording.{Recording}
 use Rattle.race_log.specs.Sources.{edge_between, log_edges}
+use Rattle.part_lists.specs.Leading.{led_at, led_of}
 use Rattle.vector_reduce.specs.declared.pair_vector.PairVector.{PairVector}
 
 -- the edge at a position, counted from 0
@@ -28,13 +28,11 @@ led_between from to v = record { from = from; to = to; vector = v }
 
 -- the vectors of the pair at a place
 abbrev pub pair_vectors : Recording → ℕ → List PairVector
-pair_vectors r place =
-    map (led_between (source_at r.params.cores place) (target_at r.params.cores place))
-    (slice_index_or r.regulated place [])
+pair_vectors r place = led_at led_between r.params.cores r.regulated place
 
 -- all vectors of the regulated log, by pair, and within a pair in their order
 unfoldable pub vectors_of : Recording → List PairVector
-vectors_of r = flat_map (pair_vectors r) (range_with_len 0 (pair_count r.params.cores))
+vectors_of r = led_of led_between r.params.cores r.regulated
 
 abbrev pub regulated_edges : Recording → List Edge
 regulated_edges r = log_edges Regulated r

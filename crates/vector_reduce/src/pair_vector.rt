@@ -1,11 +1,12 @@
 //! Vectors with the cores between which they lead.
-ghost use Rattle.std.specs.Prelude.{◌≡◌, ◌<◌, ◌++◌, IfOk, OnOk, map};
+ghost use Rattle.std.specs.Prelude.{◌≡◌, ◌<◌, IfOk};
 ghost use Rattle.stride_vector.specs.Vectors.{IsVector};
 ghost use Rattle.race_log.specs.Validity.{Valid};
 ghost use Rattle.vector_reduce.specs.Vectors.{edge_at, led_between, vectors_of};
 
+use part_lists::{Led, led_of};
 use race_log::Recording;
-use rtr_types::{Edge, Instr, Items, pair_count, pair_of};
+use rtr_types::{Edge, Instr, Items};
 use std::alloc::{AllocError, Global};
 use stride_vector::StrideVector;
 
@@ -38,19 +39,12 @@ impl PairVector {
     }
 }
 
-/// Puts the vectors of a pair at the end.
-fn push_vectors(
-    list: &mut Vec<PairVector>,
-    from: u8,
-    to: u8,
-    vectors: &[StrideVector],
-) -> Result<(), AllocError>
-    ensures { OnOk result (list.new.items ≡ list.old.items ++ map (led_between from to) vectors.now) }
-{
-    for &vector in vectors {
-        list.push(PairVector { from, to, vector })?;
+impl Led<StrideVector> for PairVector {
+    ghost between = { led_between };
+
+    fn between(from: u8, to: u8, vector: StrideVector) -> Self {
+        PairVector { from, to, vector }
     }
-    Ok(())
 }
 
 /// The vectors of the regulated log, by pair and within a pair in their order.
@@ -58,12 +52,9 @@ pub fn vectors_of(alloc: Global, recording: &Recording) -> Result<Items<PairVect
     requires { Valid recording.now }
     ensures { IfOk result (λ list. list ≡ vectors_of recording.now) }
 {
-    let cores = recording.params.cores;
-    let mut list = Vec::new(alloc);
-    for place in 0..pair_count(cores) {
-        let (from, to) = pair_of(cores, place);
-        let vectors = recording.regulated.as_slice()[place].as_slice();
-        push_vectors(&mut list, from, to, vectors)?;
-    }
-    Ok(Items::from_vec(list))
+    led_of(
+        alloc,
+        recording.params.cores,
+        recording.regulated.as_slice(),
+    )
 }

@@ -2,10 +2,8 @@
 ghost use Rattle.std.specs.Prelude.{◌≡◌, ◌≤◌, length, IfOk, Ok};
 ghost use Rattle.rtr_types.specs.declared.TheConstants.{CORES_MAX};
 ghost use Rattle.log_codec.specs.Faults.{Gives};
-ghost use Rattle.rtr_types.specs.Turns.{stay};
-ghost use Rattle.log_codec.specs.Turns.{read_in_turn};
 ghost use Rattle.race_log.specs.Validity.{Valid};
-ghost use Rattle.vector_reduce.specs.Reading.{front_two_at, one_at, parts_at, thinned_at};
+ghost use Rattle.vector_reduce.specs.Reading.{front_two_at, one_at, parts_at, shown_in, thinned_at};
 ghost use Rattle.vector_reduce.specs.Spelling.{Spells};
 ghost use Rattle.vector_reduce.specs.Validity.{IsThin, cut_of};
 ghost use Rattle.vector_reduce.specs.declared.thinned.Thinned.{Thinned as SomeThinned};
@@ -13,6 +11,7 @@ ghost use Rattle.vector_reduce.specs.declared.thinned.Thinned.{Thinned as SomeTh
 use crate::pair_vector::vectors_of;
 use crate::thinned::{END, SHOWN, Shown, Thinned};
 use log_codec::{CodecFault, HEADER, Reading, counts, number, read_all, read_front};
+use part_lists::{ReadsItems, read_items};
 use race_log::Recording;
 use rtr_types::{CORES_MAX, Cut, Items};
 use std::alloc::Global;
@@ -50,24 +49,24 @@ fn one<'a>(alloc: Global, totals: &[u32], bytes: &'a [u8]) -> Reading<'a, Shown>
     Ok((Shown { edge, cut }, rest))
 }
 
-/// The sixth part: one for each of so many vectors.
-fn shown<'a>(
-    alloc: Global,
-    totals: &[u32],
-    vectors: usize,
-    bytes: &'a [u8],
-) -> Reading<'a, Items<Shown>>
-    requires { length totals.now ≤ CORES_MAX }
-    ensures { Gives (λ x. (x.0, x.1.now)) result (read_in_turn (one_at totals.now) stay vectors tt bytes.now) }
-{
-    let mut found = Items::new(alloc);
-    let mut rest = bytes;
-    for _ in 0..vectors {
-        let (next, after) = one(alloc, totals, rest)?;
-        found.push(next)?;
-        rest = after;
+impl ReadsItems<Shown> for Recording {
+    ghost item_at = { λ r place. one_at r.totals tt };
+
+    ghost fits = { λ r place. length r.totals ≤ CORES_MAX };
+
+    /// The number of an edge, and a cut, at whichever place.
+    fn item<'a>(&self, alloc: Global, _place: usize, bytes: &'a [u8]) -> Reading<'a, Shown> {
+        one(alloc, self.totals.as_slice(), bytes)
     }
-    Ok((found, rest))
+}
+
+/// The sixth part: one for each vector.
+fn shown<'a>(alloc: Global, recording: &Recording, bytes: &'a [u8]) -> Reading<'a, Items<Shown>>
+    requires { Valid recording.now }
+    ensures { Gives (λ x. (x.0, x.1.now)) result (shown_in recording.now bytes.now) }
+{
+    let vectors = vectors_of(alloc, recording)?.len();
+    read_items(alloc, recording, vectors, bytes)
 }
 
 /// The first five parts, which are a recording's in version 2, and the bytes after them.
@@ -89,8 +88,7 @@ fn parts(alloc: Global, bytes: &[u8]) -> Reading<Thinned>
     ensures { Gives (λ x. (x.0, x.1.now)) result (parts_at bytes.now) }
 {
     let (recording, rest) = front(alloc, bytes)?;
-    let vectors = vectors_of(alloc, &recording)?.len();
-    let (shown, rest) = shown(alloc, recording.totals.as_slice(), vectors, rest)?;
+    let (shown, rest) = shown(alloc, &recording, rest)?;
     Ok((Thinned { recording, shown }, rest))
 }
 

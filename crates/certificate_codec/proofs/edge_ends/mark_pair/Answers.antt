@@ -1,4 +1,4 @@
-use Rattle.std.proofs.Common.{◌<◌, ◌+◌, ◌||◌, ◌∙◌, ap, arith, false, get_or, length, refl, sym, take, List, Bool, ℕ}
+use Rattle.std.proofs.Common.{◌<◌, ◌+◌, ◌||◌, ◌∙◌, ap, arith, false, get_or, length, refl, sym, List, Bool, ℕ}
 use Rattle.std.specs.Prelude.{map}
 use Rattle.std.proofs.lemmas.List.{take_all}
 use Rattle.race_log.specs.Sources.{edge_between}

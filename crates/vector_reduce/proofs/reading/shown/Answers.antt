@@ -1,28 +1,23 @@
-use Rattle.std.proofs.lemmas.Result.{err_from_is_err_and}
-use Rattle.rtr_types.specs.Turns.{stay}
+use Rattle.std.proofs.Common.{◌≡◌, ℕ, List, length, ap, ◌∙◌}
+use Rattle.rtr_types.specs.Turns.{stay, count_up}
 use Rattle.log_codec.specs.Turns.{read_in_turn}
-use Rattle.log_codec.proofs.InTurn.{begins, goes_on, ends, is_done}
-use Rattle.vector_reduce.specs.Reading.{one_at}
+use Rattle.part_lists.proofs.Turns.{read_alike}
+use Rattle.vector_reduce.specs.Reading.{one_at, shown_in}
+use Rattle.vector_reduce.specs.declared.pair_vector.PairVector.{PairVector}
+use Rattle.vector_reduce.proofs.Parts.{few_totals}
 use Rattle.vector_reduce.proofs.reading.shown.Goals as goal
 
-pub loop-init : goal.loop-init
-loop-init c = rw c.new-found.ensures (begins (one_at c.args.totals.now) stay c.args.vectors tt c.args.bytes.now)
-
-pub returns-in_err-next : goal.returns-in_err-next
-returns-in_err-next c =
-    let p = err_from_is_err_and c.from_residual.result c.from_residual.ensures.1 in
-    rw (p.1, p.2) (ends (one_at c.args.totals.now) stay c.in_err-next.field-0.0 c.loop.found c.args.vectors
-    c.loop.counter tt c.loop.rest.now
-    (read_in_turn (one_at c.args.totals.now) stay c.args.vectors tt c.args.bytes.now) c.loop-test.true
-    c.in_err-next.ensures c.loop.invariant)
-
-pub loop-preserved : goal.loop-preserved
-loop-preserved c = rw c.in_ok-push.ensures.ok
-    (goes_on (one_at c.args.totals.now) stay c.loop.found c.args.vectors c.loop.counter tt c.loop.rest.now
-    c.in_ok-next.next c.in_ok-next.after.now
-    (read_in_turn (one_at c.args.totals.now) stay c.args.vectors tt c.args.bytes.now) c.loop-test.true
-    c.in_ok-next.ensures c.loop.invariant)
+pub read_items-requires : goal.read_items-requires
+read_items-requires c place lt = few_totals c.args.recording.now c.requires
 
 pub returns : goal.returns
-returns c = is_done (one_at c.args.totals.now) stay c.loop.found c.args.vectors c.loop.counter tt c.loop.rest.now
-    (read_in_turn (one_at c.args.totals.now) stay c.args.vectors tt c.args.bytes.now) c.loop-test.false c.loop.invariant
+unfolding one_at
+returns c =
+    let r = c.args.recording.now in
+    let bytes = c.args.bytes.now in
+    let n = c.len-vectors.result in
+    let read : read_in_turn (λ (place : ℕ). one_at r.totals tt) count_up n 0 bytes ≡ shown_in r bytes =
+    read_alike (one_at r.totals tt) count_up stay n 0 tt bytes
+    ∙ ap (λ (k : ℕ). read_in_turn (one_at r.totals) stay k tt bytes)
+    (c.len-vectors.ensures ∙ ap (λ (l : List PairVector). length l) c.in_ok-vectors_of.ensures) in
+    rw (← read) c.read_items.ensures

@@ -1,0 +1,3 @@
+pub mod ByPairs
+pub mod Listing
+pub mod Turns
