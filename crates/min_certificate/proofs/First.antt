@@ -21,7 +21,7 @@ use Rattle.replay_audit.proofs.Logs.{edge_within, recorded_log}
 use Rattle.certificate_codec.specs.declared.certificate.Certificate.{Certificate}
 use Rattle.certificate_codec.specs.Ends.{reduced_edges, IsWithin}
 use Rattle.certificate_codec.proofs.Marks.{one_more}
-use Rattle.min_certificate.specs.Places.{IsGoodIn}
+use Rattle.min_certificate.specs.Places.{IsGoodIn, LeadsTo}
 use Rattle.min_certificate.specs.Firsts.{FailsFirst, IsFirstBadOf, AreGoodOf}
 use Rattle.min_certificate.proofs.Shown.{end_within}
 
@@ -31,23 +31,23 @@ abbrev pub no_edge : Edge
 no_edge = record { from = record { core = 0; count = 0 }; to = record { core = 0; count = 0 } }
 
 -- an edge of the log, with what its ends are
-pub record IsEdge (r : Recording) (x y : Instr) : Type 0 where
-  pub edge : Among (reduced_edges r) x y
+pub record EdgeStands (r : Recording) (x y : Instr) : Type 0 where
+  pub leads : LeadsTo r x y
   pub source_within : IsWithin r x
-  pub within : IsWithin r y
-  pub some : 1 ≤ y.count
 
 pub edge_at : {r : Recording} {edges : List Edge} {i : ℕ} (d : Edge) → Valid r → edges ≡ reduced_edges r →
-    i < length edges → IsEdge r (get_or edges i d).from (get_or edges i d).to
+    i < length edges → EdgeStands r (get_or edges i d).from (get_or edges i d).to
 edge_at {r} {edges} {i} d valid is lt =
     let a : Among (reduced_edges r) (get_or edges i d).from (get_or edges i d).to =
     subst (λ (l : List Edge). Among l (get_or edges i d).from (get_or edges i d).to) is (place_among edges i d lt) in
     let w = edge_within Reduced r (get_or edges i d).from (get_or edges i d).to valid a in
     record {
-      edge = a;
+      leads = record {
+        edge = a;
+        within = record { core = w.pair.target; count = w.target_most };
+        some = w.some_target;
+      };
       source_within = record { core = w.pair.source; count = w.source_most };
-      within = record { core = w.pair.target; count = w.target_most };
-      some = w.some_target;
     }
 
 among_end : (front : List Edge) (e : Edge) (x y : Instr) → Among (front ++ e ∷ []) x y →

@@ -4,6 +4,7 @@ use Rattle.rtr_types.specs.declared.instr.Instr.{Instr}
 use Rattle.clock_core.specs.Order.{Among}
 use Rattle.clock_entries.specs.Ends.{entry_of, instr}
 use Rattle.clock_entries.specs.Entries.{IsGoodAt, IsNeeded, IsKnownOtherwise, AreGood, AreExact}
+use Rattle.race_log.specs.declared.recording.Recording.{Recording}
 use Rattle.certificate_codec.specs.declared.certificate.Certificate.{Certificate}
 use Rattle.certificate_codec.specs.Ends.{reduced_edges, IsWithin}
 
@@ -25,6 +26,12 @@ IsNeededIn c x y = IsNeeded (reduced_edges c.recording) (entry_in c) x y
 
 abbrev pub IsKnownOtherwiseIn : Certificate → Instr → Instr → Type 0
 IsKnownOtherwiseIn c x y = IsKnownOtherwise (reduced_edges c.recording) (entry_in c) x y
+
+-- an edge of the reduced log leads from x to y, an instruction of the recording
+pub record LeadsTo (r : Recording) (x y : Instr) : Type 0 where
+  pub edge : Among (reduced_edges r) x y
+  pub within : IsWithin r y
+  pub some : 1 ≤ y.count
 
 -- ---- core by core
 

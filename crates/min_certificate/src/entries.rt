@@ -6,7 +6,7 @@ ghost use Rattle.clock_core.specs.Order.{Among};
 ghost use Rattle.clock_entries.specs.Ends.{ends_to, instr, last_entry};
 ghost use Rattle.certificate_codec.specs.Ends.{reduced_edges, IsWithin};
 ghost use Rattle.min_certificate.specs.Places.{IsSourceBelow, AreSourcesBelow, IsUnknownThere, IsUnknownByOthers};
-ghost use Rattle.min_certificate.specs.Places.{IsGoodIn, IsNeededIn, IsSourceOn, AreAllBelow, on_core};
+ghost use Rattle.min_certificate.specs.Places.{IsGoodIn, IsNeededIn, IsSourceOn, AreAllBelow, LeadsTo, on_core};
 ghost use Rattle.min_certificate.specs.Firsts.{FirstWithout, FirstBadOf, FirstBad};
 ghost use Rattle.min_certificate.specs.Sound.{IsSound};
 
@@ -259,9 +259,7 @@ impl<'a> Entries<'a> {
     /// another logged source of the target knows its source. The number of that entry and those sources are
     /// looked for from the ones that were found last.
     fn is_needed(&self, edge: Edge, number: &mut usize, near: &mut [usize; PLACES]) -> bool
-        requires within { IsWithin self.now.recording edge.to }
-        requires edge { Among (reduced_edges self.now.recording) edge.from edge.to }
-        requires some { 1 ≤ edge.to.count }
+        requires { LeadsTo self.now.recording edge.from edge.to }
         ensures { IsTrue result ↔ IsNeededIn self.now edge.from edge.to }
     {
         let before = Instr {

@@ -17,7 +17,7 @@ entry_near-there-requires c =
 
 pub entry_near-here-requires : goal.entry_near-here-requires
 entry_near-here-requires c =
-    (edge_at _ c.edges-edge-items.ensures.valid c.edges-edge-items.ensures.edges c.loop-edge-test.true).within
+    (edge_at _ c.edges-edge-items.ensures.valid c.edges-edge-items.ensures.edges c.loop-edge-test.true).leads.within
 
 pub loop-edge-preserved : goal.loop-edge-preserved
 loop-edge-preserved c =

@@ -12,8 +12,7 @@ use Rattle.min_certificate.proofs.entries.Entries.first_amiss.Goals.{
 
 pub is_needed-requires : goal.is_needed-requires
 is_needed-requires c =
-    let e = edge_at _ c.edges-edge-items.ensures.valid c.edges-edge-items.ensures.edges c.loop-edge-test.true in
-    record { within = e.within; edge = e.edge; some = e.some }
+    (edge_at _ c.edges-edge-items.ensures.valid c.edges-edge-items.ensures.edges c.loop-edge-test.true).leads
 
 pub returns-then-not-is_conflict : goal.returns-then-not-is_conflict
 returns-then-not-is_conflict c =

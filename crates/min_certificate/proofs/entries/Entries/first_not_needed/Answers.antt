@@ -8,8 +8,7 @@ use Rattle.min_certificate.proofs.entries.Entries.first_not_needed.Goals as goal
 
 pub is_needed-requires : goal.is_needed-requires
 is_needed-requires c =
-    let e = edge_at _ c.edges-edge-items.ensures.valid c.edges-edge-items.ensures.edges c.loop-edge-test.true in
-    record { within = e.within; edge = e.edge; some = e.some }
+    (edge_at _ c.edges-edge-items.ensures.valid c.edges-edge-items.ensures.edges c.loop-edge-test.true).leads
 
 pub returns-then-not-is_needed : goal.returns-then-not-is_needed
 returns-then-not-is_needed c =
