@@ -2,10 +2,10 @@
 use Rattle.std.proofs.Common.{◌≡◌, ◌≢◌, ◌∙◌, ap, refl, sym, subst, ℕ, ◌<◌, ◌≤◌, ◌==◌, ◌⊎◌, inl, inr, Bool, true, false}
 use Rattle.std.proofs.Common.{nat_lt, ◌&&◌, IsTrue, Option, Some}
 use Rattle.std.proofs.Common.{None, List, [], ◌∷◌, ◌++◌, drop, length, arith}
-use Rattle.std.specs.Prelude.{if◌then◌else◌, map, not}
+use Rattle.std.specs.Prelude.{if◌then◌else◌, map, not, slice_set}
 use Rattle.std.proofs.lemmas.Bool.{cases_eq, cases_lt, and_parts, ltb-true}
 use Rattle.std.proofs.lemmas.Bool.Decides.{nat_tests}
-use Rattle.std.proofs.lemmas.List.{length-map, map-append, set_past}
+use Rattle.std.proofs.lemmas.List.{drop-map, length-map, map-append, set_past}
 use Rattle.access_times.specs.Riding.{Riding, Carrying}
 use Rattle.rtr_types.specs.CoreSets.{has}
 use Rattle.rtr_types.specs.declared.instr.Instr.{Instr}
@@ -16,9 +16,8 @@ use Rattle.msi_cache.specs.declared.messages.FromHome.{FromHome}
 use Rattle.msi_cache.specs.declared.messages.FromHome.TheVariants.{Inv}
 use Rattle.msi_cache.specs.declared.messages.Request.{Request}
 use Rattle.msi_cache.specs.declared.messages.Response.{Response}
-use Rattle.msi_cache.specs.Messages.{request_block, response_block}
-use Rattle.msi_directory.specs.Blocks.{entry_at, entries_after_request, entries_after_response}
-use Rattle.msi_directory.specs.Entries.{answer_to_request, answer_to_response}
+use Rattle.msi_directory.specs.Blocks.{entry_at}
+use Rattle.msi_directory.specs.Deeds.{Deed, request_deed, response_deed}
 use Rattle.msi_directory.specs.declared.entry.Entry.{Entry}
 use Rattle.msi_directory.specs.declared.entry.HomeAnswer.{HomeAnswer}
 use Rattle.know_history.specs.Happenings.{Actor, AtCore, AtHome, Channel, Messages, Requests, Responses, is_channel}
@@ -26,9 +25,9 @@ use Rattle.know_history.specs.Happenings.{left_on, with_sent}
 use Rattle.know_history.specs.Knowing.{CarriesFollow, carry_retired, carry_taken, joined_oldest}
 use Rattle.msi_memory.specs.declared.port.Mail.{Mail}
 use Rattle.msi_memory.specs.declared.port.Port.{Port}
-use Rattle.msi_memory.specs.Acts.{TakeMessage, TakeRequest, TakeResponse, can_at, delivered, delivered_in, head_free}
+use Rattle.msi_memory.specs.Acts.{TakeMessage, TakeRequest, TakeResponse, delivered, delivered_in, head_free}
 use Rattle.msi_memory.specs.Acts.{port_requested, port_responded}
-use Rattle.msi_memory.specs.Acts.{port_sent, ports_sent, take_request_in, take_response_in, with_port}
+use Rattle.msi_memory.specs.Acts.{port_sent, ports_sent, take_in, with_port}
 use Rattle.msi_memory.specs.Memories.{Memory, port_at}
 use Rattle.msi_memory.specs.PlainPart.{plain_mail, plain_port}
 use Rattle.msi_state.specs.declared.moves.Move.{Move}
@@ -56,6 +55,27 @@ use Rattle.machine_known.proofs.Acting.{PortActs, received_acts, worked_acts}
 goes_left : {K : Type 0} (b : Bool) (before : List K) (k : K) → Goes b before k (if b then drop 1 before else before)
 goes_left true before k = refl
 goes_left false before k = inl refl
+
+-- a move takes no message from another core's links
+elsewhere : (taken link : Channel) → port_of link ≢ port_of taken → is_channel (Some taken) link ≡ false
+elsewhere (Requests c) (Requests d) apart = grind (arith, nat_tests)
+elsewhere (Requests c) (Responses d) apart = refl
+elsewhere (Requests c) (Messages d) apart = refl
+elsewhere (Responses c) (Requests d) apart = refl
+elsewhere (Responses c) (Responses d) apart = grind (arith, nat_tests)
+elsewhere (Responses c) (Messages d) apart = refl
+elsewhere (Messages c) (Requests d) apart = refl
+elsewhere (Messages c) (Responses d) apart = refl
+elsewhere (Messages c) (Messages d) apart = grind (arith, nat_tests)
+
+-- the carries of a link from which the oldest message was taken
+own_left : {T K : Type 0} (c d : ℕ) (items : List (Mail T K)) → d ≡ c →
+    map (λ (mail : Mail T K). mail.carry) (drop 1 items)
+    ≡ (if c == d then drop 1 (map (λ (mail : Mail T K). mail.carry) items)
+    else map (λ (mail : Mail T K). mail.carry) items)
+own_left c d items here =
+    let same : (c == d) ≡ true = grind (arith, nat_tests) in
+    rw same (sym (drop-map (λ (mail : Mail _ _). mail.carry) 1 items))
 
 module _ {R K : Type 0} where
   -- the number of messages on a port's link is that of their carries, and that of the plain port's link
@@ -197,13 +217,8 @@ module _ {R K : Type 0} where
       let e = event riding carrying s (MessageMove c) in
       port_moved carrying s (step riding carrying rider s (MessageMove c)) c (Some (Messages c)) (instr_of e)
       (port_told riding carrying rider e (port_taken riding carrying p)) lc (message_memory riding carrying rider s c
-      lc) refl elsewhere
+      lc) refl (elsewhere (Messages c))
       (received_acts riding carrying rider s c)
-    where
-      elsewhere : (link : Channel) → port_of link ≢ c → is_channel (Some (Messages c)) link ≡ false
-      elsewhere (Requests d) apart = refl
-      elsewhere (Responses d) apart = refl
-      elsewhere (Messages d) apart = grind (arith, nat_tests)
 
   -- the home's answer leaves each port as it was, or with one message more
   abbrev pub IsTold : K → Port R K → Port R K → Type 0
@@ -329,85 +344,55 @@ module _ {R K : Type 0} where
           carries_at link
           (port_at carrying s.memory.ports (port_of link))) (sym (elsewhere link apart))
 
-  request_acts : (riding : Riding R) (carrying : Carrying K) (s t : State R K) (c : ℕ) → c < length s.memory.ports →
-      can_at riding s.memory.home (port_at carrying s.memory.ports c) (TakeRequest c) ≡ true →
-      t.memory ≡ take_request_in (port_at carrying s.memory.ports c).requests.items riding carrying s.memory c →
-      StateActs carrying (Some (Requests c)) None AtHome s t
-  request_acts riding carrying s t c lc able is = by_items p.requests.items refl able is
-    where
-      p : Port R K
-      p = port_at carrying s.memory.ports c
+  -- where the home can take the oldest of these requests, there is one
+  free_there : (riding : Riding R) (home : List (Entry R)) (q : List (Mail (Request R) K)) →
+      head_free q riding home ≡ true → not (is_nil q) ≡ true
+  free_there riding home [] free = absurd (grind arith)
+  free_there riding home (mail ∷ rest) free = refl
 
-      elsewhere : (link : Channel) → port_of link ≢ c → is_channel (Some (Requests c)) link ≡ false
-      elsewhere (Requests d) apart = grind (arith, nat_tests)
-      elsewhere (Responses d) apart = refl
-      elsewhere (Messages d) apart = refl
+  -- a port without the oldest message of a link
+  abbrev port_left : Channel → Port R K → Port R K
+  port_left (Requests c) p = port_requested p (drop 1 p.requests.items)
+  port_left (Responses c) p = port_responded p (drop 1 p.responses.items)
+  port_left (Messages c) p = record p { messages = record p.messages { items = drop 1 p.messages.items } }
 
-      same_core : (d : ℕ) → d ≡ c → (c == d) ≡ true
-      same_core d f = grind (arith, nat_tests)
+  left_carry : (taken : Channel) (p : Port R K) → (port_left taken p).carry ≡ p.carry
+  left_carry (Requests c) p = refl
+  left_carry (Responses c) p = refl
+  left_carry (Messages c) p = refl
 
-      left : (mail : Mail (Request R) K) (rest : List (Mail (Request R) K)) → p.requests.items ≡ mail ∷ rest →
-          (link : Channel) → port_of link ≡ c →
-          carries_at link (port_requested p rest) ≡ left_on (Some (Requests c)) link (carries_at link p)
-      left mail rest items (Requests d) f =
-          ap (λ (q : List (Mail (Request R) K)). drop 1 (map (λ (x : Mail (Request R) K). x.carry) q)) (sym items)
-          ∙ ap (λ (b : Bool). if b then drop 1 (carries_at (Requests d) p) else carries_at (Requests d) p)
-          (sym (same_core d f))
-      left mail rest items (Responses d) f = refl
-      left mail rest items (Messages d) f = refl
+  left_links : (taken link : Channel) (p : Port R K) → port_of link ≡ port_of taken →
+      carries_at link (port_left taken p) ≡ left_on (Some taken) link (carries_at link p)
+  left_links (Requests c) (Requests d) p here = own_left c d p.requests.items here
+  left_links (Requests c) (Responses d) p here = refl
+  left_links (Requests c) (Messages d) p here = refl
+  left_links (Responses c) (Requests d) p here = refl
+  left_links (Responses c) (Responses d) p here = own_left c d p.responses.items here
+  left_links (Responses c) (Messages d) p here = refl
+  left_links (Messages c) (Requests d) p here = refl
+  left_links (Messages c) (Responses d) p here = refl
+  left_links (Messages c) (Messages d) p here = own_left c d p.messages.items here
 
-      by_items : (q : List (Mail (Request R) K)) → p.requests.items ≡ q → head_free q riding s.memory.home ≡ true →
-          t.memory ≡ take_request_in q riding carrying s.memory c → StateActs carrying (Some (Requests c)) None AtHome s
-          t
-      by_items [] items free made = absurd (grind arith)
-      by_items (mail ∷ rest) items free made =
-          home_moved carrying s t c (Some (Requests c)) (port_requested p rest)
-          (answer_to_request riding.absorbed (entry_at riding.fresh s.memory.home (request_block mail.item)) c
-          mail.item) (request_block mail.item)
-          (entries_after_request riding s.memory.home c mail.item) (carrying.joined s.memory.carry mail.carry) lc made
-          (ap (λ (q : List (Mail (Request R) K)). joined_oldest carrying (map (λ (x : Mail (Request R) K). x.carry) q)
-          s.memory.carry) (sym items)) refl
-          (left mail rest items) elsewhere (λ d. refl)
-
-  response_acts : (riding : Riding R) (carrying : Carrying K) (s t : State R K) (c : ℕ) → c < length s.memory.ports →
-      can_at riding s.memory.home (port_at carrying s.memory.ports c) (TakeResponse c) ≡ true →
-      t.memory ≡ take_response_in (port_at carrying s.memory.ports c).responses.items riding carrying s.memory c →
-      StateActs carrying (Some (Responses c)) None AtHome s t
-  response_acts riding carrying s t c lc able is = by_items p.responses.items refl able is
-    where
-      p : Port R K
-      p = port_at carrying s.memory.ports c
-
-      elsewhere : (link : Channel) → port_of link ≢ c → is_channel (Some (Responses c)) link ≡ false
-      elsewhere (Requests d) apart = refl
-      elsewhere (Responses d) apart = grind (arith, nat_tests)
-      elsewhere (Messages d) apart = refl
-
-      same_core : (d : ℕ) → d ≡ c → (c == d) ≡ true
-      same_core d f = grind (arith, nat_tests)
-
-      left : (mail : Mail (Response R) K) (rest : List (Mail (Response R) K)) → p.responses.items ≡ mail ∷ rest →
-          (link : Channel) → port_of link ≡ c →
-          carries_at link (port_responded p rest) ≡ left_on (Some (Responses c)) link (carries_at link p)
-      left mail rest items (Requests d) f = refl
-      left mail rest items (Responses d) f =
-          ap (λ (q : List (Mail (Response R) K)). drop 1 (map (λ (x : Mail (Response R) K). x.carry) q)) (sym items)
-          ∙ ap (λ (b : Bool). if b then drop 1 (carries_at (Responses d) p) else carries_at (Responses d) p)
-          (sym (same_core d f))
-      left mail rest items (Messages d) f = refl
-
-      by_items : (q : List (Mail (Response R) K)) → p.responses.items ≡ q → not (is_nil q) ≡ true →
-          t.memory ≡ take_response_in q riding carrying s.memory c →
-          StateActs carrying (Some (Responses c)) None AtHome s t
-      by_items [] items some made = absurd (grind arith)
-      by_items (mail ∷ rest) items some made =
-          home_moved carrying s t c (Some (Responses c)) (port_responded p rest)
-          (answer_to_response riding.absorbed (entry_at riding.fresh s.memory.home (response_block mail.item)) c
-          mail.item) (response_block mail.item)
-          (entries_after_response riding s.memory.home c mail.item) (carrying.joined s.memory.carry mail.carry) lc made
-          (ap (λ (q : List (Mail (Response R) K)). joined_oldest carrying (map (λ (x : Mail (Response R) K). x.carry) q)
-          s.memory.carry) (sym items)) refl
-          (left mail rest items) elsewhere (λ d. refl)
+  -- the home took the oldest message of one of a port's links, and answered
+  home_took : {T : Type 0} (does : ℕ → T → Deed R) (left : Port R K → List (Mail T K) → Port R K)
+      (items : List (Mail T K)) (riding : Riding R) (carrying : Carrying K) (s t : State R K) (taken : Channel) →
+      port_of taken < length s.memory.ports → not (is_nil items) ≡ true →
+      t.memory ≡ take_in does left items riding carrying s.memory (port_of taken) →
+      carries_at taken (port_at carrying s.memory.ports (port_of taken))
+      ≡ map (λ (mail : Mail T K). mail.carry) items →
+      left (port_at carrying s.memory.ports (port_of taken)) (drop 1 items)
+      ≡ port_left taken (port_at carrying s.memory.ports (port_of taken)) →
+      ((d : ℕ) → is_channel (Some taken) (Messages d) ≡ false) → StateActs carrying (Some taken) None AtHome s t
+  home_took does left [] riding carrying s t taken lc some is carries lost quiet = absurd (grind arith)
+  home_took does left (mail ∷ rest) riding carrying s t taken lc some is carries lost quiet =
+      let p = port_at carrying s.memory.ports (port_of taken) in
+      let done = does (port_of taken) mail.item in
+      let entry = entry_at riding.fresh s.memory.home done.block in
+      home_moved carrying s t (port_of taken) (Some taken) (left p rest) (done.answer entry) done.block
+      (slice_set s.memory.home done.block (done.after entry)) (carrying.joined s.memory.carry mail.carry) lc is
+      (ap (λ (ks : List K). joined_oldest carrying ks s.memory.carry) (sym carries))
+      (ap (λ (q : Port R K). q.carry) lost ∙ left_carry taken p)
+      (λ link here. ap (carries_at link) lost ∙ left_links taken link p here) (elsewhere taken) quiet
 
   -- the move's core has a port
   pub at_port : (riding : Riding R) (carrying : Carrying K) (s : State R K) (m : Move) →
@@ -426,11 +411,16 @@ module _ {R K : Type 0} where
       (step riding carrying rider s m)
   state_acts riding carrying s (CoreMove c) rider e lc = core_acts riding carrying s c rider lc
   state_acts riding carrying s (RequestMove c) rider e lc =
-      request_acts riding carrying s (step riding carrying rider s (RequestMove c)) c lc
-      (and_parts (nat_lt c (length s.memory.ports)) _ e).1 refl
+      let p = port_at carrying s.memory.ports c in
+      home_took (request_deed riding) port_requested p.requests.items riding carrying s
+      (step riding carrying rider s (RequestMove c)) (Requests c) lc
+      (free_there riding s.memory.home p.requests.items (and_parts (nat_lt c (length s.memory.ports)) _ e).1)
+      refl refl refl (λ d. refl)
   state_acts riding carrying s (ResponseMove c) rider e lc =
-      response_acts riding carrying s (step riding carrying rider s (ResponseMove c)) c lc
-      (and_parts (nat_lt c (length s.memory.ports)) _ e).1 refl
+      let p = port_at carrying s.memory.ports c in
+      home_took (response_deed riding) port_responded p.responses.items riding carrying s
+      (step riding carrying rider s (ResponseMove c)) (Responses c) lc
+      (and_parts (nat_lt c (length s.memory.ports)) _ e).1 refl refl refl (λ d. refl)
   state_acts riding carrying s (MessageMove c) rider e lc = message_acts riding carrying s c rider lc
 
   -- each move changes the carries as its event says
