@@ -3,13 +3,11 @@ ghost use Rattle.std.specs.Prelude.{◌≡◌, ◌*◌, ◌≤◌, IfOk, IsTrue,
 ghost use Rattle.trace_gen.specs.Assembly.{minus};
 ghost use Rattle.trace_gen.specs.Programs.{repeated, lock_setup, lock_round, mixed, mix_round, program, takes};
 
-use crate::assembly::{
-    X0, X5, X6, X7, X8, X9, X10, X11, X12, X13, addi, beq, bne, lw, sb, slli, sw, xori,
-};
+use crate::assembly::{X0, X5, X6, X7, X8, X9, X10, X11, X12, X13, branch, immediate, load, store};
 use crate::shape::Shape;
 use rand_core::utils::NextWord;
 use rand_pcg::Lcg64Xsh32;
-use rv_decode::Op;
+use rv_decode::{Alu, Cond, Op, Width};
 use std::alloc::{AllocError, Global};
 
 /// The program of a shape and number.
@@ -34,11 +32,11 @@ fn repeated(alloc: Global, rounds: u16, setup: &[Op], round: &[Op]) -> Result<Ve
     ensures { IfOk result (λ ops. ops.items ≡ repeated rounds setup.now round.now) }
 {
     let mut ops = Vec::new(alloc);
-    ops.push(addi(X5, X0, i32::from(rounds)))?;
+    ops.push(immediate(Alu::Add, X5, X0, i32::from(rounds)))?;
     ops.extend_from_slice(setup)?;
     ops.extend_from_slice(round)?;
-    ops.push(addi(X5, X5, -1))?;
-    ops.push(bne(X5, X0, back_over(round.len() + 1)))?;
+    ops.push(immediate(Alu::Add, X5, X5, -1))?;
+    ops.push(branch(Cond::Ne, X5, X0, back_over(round.len() + 1)))?;
     ops.push(Op::Ecall)?;
     Ok(ops)
 }
@@ -57,10 +55,10 @@ fn lock_setup() -> [Op; 4]
     ensures { result ≡ lock_setup }
 {
     [
-        slli(X6, X10, 4),
-        xori(X7, X10, 1),
-        slli(X8, X7, 4),
-        addi(X9, X0, 1),
+        immediate(Alu::Sll, X6, X10, 4),
+        immediate(Alu::Xor, X7, X10, 1),
+        immediate(Alu::Sll, X8, X7, 4),
+        immediate(Alu::Add, X9, X0, 1),
     ]
 }
 
@@ -70,16 +68,16 @@ fn lock_round() -> [Op; 10]
     ensures { result ≡ lock_round }
 {
     [
-        sw(X9, 256, X6),
-        sw(X7, 288, X0),
-        lw(X11, 256, X8),
-        beq(X11, X0, 12),
-        lw(X12, 288, X0),
-        beq(X12, X7, -12),
-        lw(X13, 304, X0),
-        addi(X13, X13, 1),
-        sw(X13, 304, X0),
-        sw(X0, 256, X6),
+        store(Width::Word, X9, 256, X6),
+        store(Width::Word, X7, 288, X0),
+        load(Width::Word, X11, 256, X8),
+        branch(Cond::Eq, X11, X0, 12),
+        load(Width::Word, X12, 288, X0),
+        branch(Cond::Eq, X12, X7, -12),
+        load(Width::Word, X13, 304, X0),
+        immediate(Alu::Add, X13, X13, 1),
+        store(Width::Word, X13, 304, X0),
+        store(Width::Word, X0, 256, X6),
     ]
 }
 
@@ -104,9 +102,14 @@ fn mixed(word: u32) -> Op
     let step = word / 16 % 64;
     let address = 1280 + 4 * step;
     match word % 4 {
-        0 => lw(register, address as i32, X0),
-        1 => sw(register, address as i32, X0),
-        2 => addi(register, register, (1 + step) as i32),
-        _ => sb(register, (address + word / 1024 % 4) as i32, X0),
+        0 => load(Width::Word, register, address as i32, X0),
+        1 => store(Width::Word, register, address as i32, X0),
+        2 => immediate(Alu::Add, register, register, (1 + step) as i32),
+        _ => store(
+            Width::Byte,
+            register,
+            (address + word / 1024 % 4) as i32,
+            X0,
+        ),
     }
 }
