@@ -20,7 +20,8 @@ pub use closed::Closed;
 pub use job::Job;
 pub use raced::Raced;
 pub use rules::{
-    ExchangeWord, HoldWord, LoadWord, PublishCount, RuleOf, SeeDone, StoreWord, TakeFirst, TakeIn,
+    ExchangeWord, HoldWord, LoadWord, PublishCount, RuleOf, SeeDone, StepKind, StoreWord,
+    TakeFirst, TakeIn, Told,
 };
 pub use seat::CoreSeat;
 pub use table::ReplayTable;

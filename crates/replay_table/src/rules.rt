@@ -1,4 +1,9 @@
 //! The rule of the table, and what it tells of each kind of step.
+ghost use Rattle.std.specs.Prelude.{ℕ};
+ghost use Rattle.atomic_table.specs.Table.{Step};
+ghost use Rattle.replay_core.specs.Plans.{Plan};
+ghost use Rattle.replay_table.specs.declared.view.View.{View};
+ghost use Rattle.replay_table.specs.Told.{ToldDone, ToldLoad, ToldHold, ToldStore, ToldExchange, ToldPublish};
 
 use crate::job::Job;
 use crate::view::View;
@@ -20,88 +25,65 @@ impl<J: Job> TableRule<u8, View, ()> for RuleOf<J> {
     ghost first = { λ _. first_view (plan_of J.which J.recording) };
 }
 
-/// A done word is loaded.
-pub struct SeeDone<J> {
-    of: PhantomData<J>,
+/// A kind of step: what the rule tells of one, by the plan, the view before, the step, the word found (at a store,
+/// the word stored) and the view after.
+pub trait StepKind {
+    ghost tells: { Plan → View → Step ℕ → ℕ → View → Type 0 };
 }
 
-impl<J: Job> Play<u8, View> for SeeDone<J> {
+/// What a step of a kind tells its caller by the recording and log of a job. It moves no slot.
+pub struct Told<J, K> {
+    of: PhantomData<(J, K)>,
+}
+
+impl<J: Job, K: StepKind> Play<u8, View> for Told<J, K> {
     ghost use Rattle.std.specs.Prelude.{◌≡◌};
     ghost use Rattle.replay_core.specs.Plans.{plan_of};
-    ghost use Rattle.replay_table.specs.Told.{ToldDone};
 
-    ghost then = { λ at before found after. ToldDone (plan_of J.which J.recording) before.0 at.word found after.0
+    ghost then = { λ at before found after. K.tells (plan_of J.which J.recording) before.0 at found after.0
         × (after.1 ≡ before.1) };
+}
+
+/// A done word is loaded.
+pub struct SeeDone;
+
+impl StepKind for SeeDone {
+    ghost tells = { λ p before at. ToldDone p before at.word };
 }
 
 /// A word is loaded for a load.
-pub struct LoadWord<J> {
-    of: PhantomData<J>,
-}
+pub struct LoadWord;
 
-impl<J: Job> Play<u8, View> for LoadWord<J> {
-    ghost use Rattle.std.specs.Prelude.{◌≡◌};
-    ghost use Rattle.replay_core.specs.Plans.{plan_of};
-    ghost use Rattle.replay_table.specs.Told.{ToldLoad};
-
-    ghost then = { λ at before found after. ToldLoad (plan_of J.which J.recording) before.0 at.word found after.0
-        × (after.1 ≡ before.1) };
+impl StepKind for LoadWord {
+    ghost tells = { λ p before at. ToldLoad p before at.word };
 }
 
 /// A word is loaded to be held.
-pub struct HoldWord<J> {
-    of: PhantomData<J>,
-}
+pub struct HoldWord;
 
-impl<J: Job> Play<u8, View> for HoldWord<J> {
-    ghost use Rattle.std.specs.Prelude.{◌≡◌};
-    ghost use Rattle.replay_core.specs.Plans.{plan_of};
-    ghost use Rattle.replay_table.specs.Told.{ToldHold};
-
-    ghost then = { λ at before found after. ToldHold (plan_of J.which J.recording) before.0 at.word found after.0
-        × (after.1 ≡ before.1) };
+impl StepKind for HoldWord {
+    ghost tells = { λ p before at. ToldHold p before at.word };
 }
 
 /// A whole word is stored.
-pub struct StoreWord<J> {
-    of: PhantomData<J>,
-}
+pub struct StoreWord;
 
-impl<J: Job> Play<u8, View> for StoreWord<J> {
-    ghost use Rattle.std.specs.Prelude.{◌≡◌};
-    ghost use Rattle.replay_core.specs.Plans.{plan_of};
-    ghost use Rattle.replay_table.specs.Told.{ToldStore};
-
-    ghost then = { λ at before new after. ToldStore (plan_of J.which J.recording) before.0 at.word new after.0
-        × (after.1 ≡ before.1) };
+impl StepKind for StoreWord {
+    ghost tells = { λ p before at. ToldStore p before at.word };
 }
 
 /// The held word is exchanged for the value after.
-pub struct ExchangeWord<J> {
-    of: PhantomData<J>,
-}
+pub struct ExchangeWord;
 
-impl<J: Job> Play<u8, View> for ExchangeWord<J> {
-    ghost use Rattle.std.specs.Prelude.{◌≡◌};
-    ghost use Rattle.replay_core.specs.Plans.{plan_of};
-    ghost use Rattle.replay_table.specs.Told.{ToldExchange};
-
-    ghost then = { λ at before found after. ToldExchange (plan_of J.which J.recording) before.0
-        at.word at.first at.second found after.0 × (after.1 ≡ before.1) };
+impl StepKind for ExchangeWord {
+    ghost tells = { λ p before at. ToldExchange p before at.word at.first at.second };
 }
 
 /// A count is published.
-pub struct PublishCount<J> {
-    of: PhantomData<J>,
-}
+pub struct PublishCount;
 
-impl<J: Job> Play<u8, View> for PublishCount<J> {
-    ghost use Rattle.std.specs.Prelude.{◌≡◌};
-    ghost use Rattle.replay_core.specs.Plans.{plan_of};
-    ghost use Rattle.replay_table.specs.Told.{ToldPublish};
-
-    ghost then = { λ at before new after. ToldPublish (plan_of J.which J.recording) before.0 at.word new after.0
-        × (after.1 ≡ before.1) };
+impl StepKind for PublishCount {
+    ghost tells = { λ p before at. ToldPublish p before at.word };
 }
 
 /// The first core of a view goes to a new one.

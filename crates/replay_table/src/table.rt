@@ -17,7 +17,7 @@ use crate::job::Job;
 use crate::past::Past;
 use crate::raced::Raced;
 use crate::rules::{
-    ExchangeWord, HoldWord, LoadWord, PublishCount, RuleOf, SeeDone, StoreWord, TakeFirst,
+    ExchangeWord, HoldWord, LoadWord, PublishCount, RuleOf, SeeDone, StoreWord, TakeFirst, Told,
 };
 use crate::seat::CoreSeat;
 use crate::upcoming::Upcoming;
@@ -137,7 +137,10 @@ impl<'a, J: Job> ReplayTable<'a, J> {
             (J.recording.params.words + core) result seat.new.view }
     {
         let word = self.recording.params.words as usize + core as usize;
-        let found = self.table.shared.load::<SeeDone<J>>(&mut seat.seat, word);
+        let found = self
+            .table
+            .shared
+            .load::<Told<J, SeeDone>>(&mut seat.seat, word);
         let value = found as u32;
         seat.seen[core as usize] = value;
         value
@@ -177,7 +180,7 @@ impl<'a, J: Job> ReplayTable<'a, J> {
         let found = self
             .table
             .shared
-            .load::<LoadWord<J>>(&mut seat.seat, word as usize);
+            .load::<Told<J, LoadWord>>(&mut seat.seat, word as usize);
         let value = found as u32;
         seat.past
             .finish(self.program.image(), seat.upcoming.op, value);
@@ -206,7 +209,7 @@ impl<'a, J: Job> ReplayTable<'a, J> {
         let found = self
             .table
             .shared
-            .load::<HoldWord<J>>(&mut seat.seat, word as usize);
+            .load::<Told<J, HoldWord>>(&mut seat.seat, word as usize);
         let value = found as u32;
         seat.held = Some(value);
         value
@@ -256,7 +259,7 @@ impl<'a, J: Job> ReplayTable<'a, J> {
         let count = core.count();
         self.table
             .shared
-            .store::<PublishCount<J>>(&mut seat.seat, word, count as u64);
+            .store::<Told<J, PublishCount>>(&mut seat.seat, word, count as u64);
     }
 }
 
@@ -281,7 +284,7 @@ impl<'a, J: Job> ReplayTable<'a, J> {
         let value = seat.past.finish(self.program.image(), seat.upcoming.op, 0);
         self.table
             .shared
-            .store::<StoreWord<J>>(&mut seat.seat, word as usize, value as u64);
+            .store::<Told<J, StoreWord>>(&mut seat.seat, word as usize, value as u64);
         seat.past.note(used, 0);
         seat.upcoming.advance(self.recording, self.which, &self.program, seat.past.core());
     }
@@ -311,7 +314,7 @@ impl<'a, J: Job> ReplayTable<'a, J> {
         let found = self
             .table
             .shared
-            .compare_exchange::<ExchangeWord<J>>(
+            .compare_exchange::<Told<J, ExchangeWord>>(
                 &mut seat.seat,
                 word as usize,
                 held as u64,
