@@ -1,10 +1,5 @@
-//! The instructions that the programs are made of, a function for each format. As an assembler writes them, the
-//! register that is written or stored comes first, and of a load or store the offset stands before the register that
-//! it is added to.
-ghost use Rattle.std.specs.Prelude.{◌≡◌};
-ghost use Rattle.rv_decode.specs.declared.op.Op.TheVariants.{AluImm, Branch, Load, Store};
-
-use rv_decode::{Alu, Cond, Op, Width};
+//! The instructions that the programs are made of, written as an assembler writes them: the register that is written
+//! or stored comes first, and of a load or store the offset stands before the register that it is added to.
 
 // The registers of the programs. X0 reads 0 always, and in X10 a core's number stands at the start.
 pub(crate) const X0: u8 = 0;
@@ -27,45 +22,20 @@ pub(crate) const X12: u8 = 12;
 
 pub(crate) const X13: u8 = 13;
 
-/// `rd` becomes `rs1` combined with `imm`.
-pub(crate) fn immediate(alu: Alu, rd: u8, rs1: u8, imm: i32) -> Op
-    ensures { result ≡ AluImm alu rd rs1 imm }
-{
-    Op::AluImm { alu, rd, rs1, imm }
+/// An instruction by its name. The offset of a branch counts from the branch itself.
+macro_rules! instruction {
+    (addi $rd:expr, $rs1:expr, $imm:expr) => { Op::AluImm { alu: Alu::Add, rd: $rd, rs1: $rs1, imm: $imm } };
+    (xori $rd:expr, $rs1:expr, $imm:expr) => { Op::AluImm { alu: Alu::Xor, rd: $rd, rs1: $rs1, imm: $imm } };
+    (slli $rd:expr, $rs1:expr, $imm:expr) => { Op::AluImm { alu: Alu::Sll, rd: $rd, rs1: $rs1, imm: $imm } };
+    (lw $rd:expr, $imm:expr, $rs1:expr) => { Op::Load { width: Width::Word, rd: $rd, rs1: $rs1, imm: $imm } };
+    (sw $rs2:expr, $imm:expr, $rs1:expr) => { Op::Store { width: Width::Word, rs1: $rs1, rs2: $rs2, imm: $imm } };
+    (sb $rs2:expr, $imm:expr, $rs1:expr) => { Op::Store { width: Width::Byte, rs1: $rs1, rs2: $rs2, imm: $imm } };
+    (beq $rs1:expr, $rs2:expr, $offset:expr) => {
+        Op::Branch { cond: Cond::Eq, rs1: $rs1, rs2: $rs2, offset: $offset }
+    };
+    (bne $rs1:expr, $rs2:expr, $offset:expr) => {
+        Op::Branch { cond: Cond::Ne, rs1: $rs1, rs2: $rs2, offset: $offset }
+    };
 }
 
-/// `rd` becomes what stands at `rs1` plus `imm`.
-pub(crate) fn load(width: Width, rd: u8, imm: i32, rs1: u8) -> Op
-    ensures { result ≡ Load width rd rs1 imm }
-{
-    Op::Load {
-        width,
-        rd,
-        rs1,
-        imm,
-    }
-}
-
-/// The lowest bytes of `rs2` are stored at `rs1` plus `imm`.
-pub(crate) fn store(width: Width, rs2: u8, imm: i32, rs1: u8) -> Op
-    ensures { result ≡ Store width rs1 rs2 imm }
-{
-    Op::Store {
-        width,
-        rs1,
-        rs2,
-        imm,
-    }
-}
-
-/// To the instruction `offset` bytes on where the two registers stand so to each other.
-pub(crate) fn branch(cond: Cond, rs1: u8, rs2: u8, offset: i32) -> Op
-    ensures { result ≡ Branch cond rs1 rs2 offset }
-{
-    Op::Branch {
-        cond,
-        rs1,
-        rs2,
-        offset,
-    }
-}
+pub(crate) use instruction;

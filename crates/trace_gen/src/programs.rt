@@ -3,7 +3,7 @@ ghost use Rattle.std.specs.Prelude.{◌≡◌, ◌*◌, ◌≤◌, IfOk, IsTrue,
 ghost use Rattle.trace_gen.specs.Assembly.{minus};
 ghost use Rattle.trace_gen.specs.Programs.{repeated, lock_setup, lock_round, mixed, mix_round, program, takes};
 
-use crate::assembly::{X0, X5, X6, X7, X8, X9, X10, X11, X12, X13, branch, immediate, load, store};
+use crate::assembly::{X0, X5, X6, X7, X8, X9, X10, X11, X12, X13, instruction};
 use crate::shape::Shape;
 use rand_core::utils::NextWord;
 use rand_pcg::Lcg64Xsh32;
@@ -32,11 +32,11 @@ fn repeated(alloc: Global, rounds: u16, setup: &[Op], round: &[Op]) -> Result<Ve
     ensures { IfOk result (λ ops. ops.items ≡ repeated rounds setup.now round.now) }
 {
     let mut ops = Vec::new(alloc);
-    ops.push(immediate(Alu::Add, X5, X0, i32::from(rounds)))?;
+    ops.push(instruction!(addi X5, X0, i32::from(rounds)))?;
     ops.extend_from_slice(setup)?;
     ops.extend_from_slice(round)?;
-    ops.push(immediate(Alu::Add, X5, X5, -1))?;
-    ops.push(branch(Cond::Ne, X5, X0, back_over(round.len() + 1)))?;
+    ops.push(instruction!(addi X5, X5, -1))?;
+    ops.push(instruction!(bne X5, X0, back_over(round.len() + 1)))?;
     ops.push(Op::Ecall)?;
     Ok(ops)
 }
@@ -55,10 +55,10 @@ fn lock_setup() -> [Op; 4]
     ensures { result ≡ lock_setup }
 {
     [
-        immediate(Alu::Sll, X6, X10, 4),
-        immediate(Alu::Xor, X7, X10, 1),
-        immediate(Alu::Sll, X8, X7, 4),
-        immediate(Alu::Add, X9, X0, 1),
+        instruction!(slli X6, X10, 4),
+        instruction!(xori X7, X10, 1),
+        instruction!(slli X8, X7, 4),
+        instruction!(addi X9, X0, 1),
     ]
 }
 
@@ -68,16 +68,16 @@ fn lock_round() -> [Op; 10]
     ensures { result ≡ lock_round }
 {
     [
-        store(Width::Word, X9, 256, X6),
-        store(Width::Word, X7, 288, X0),
-        load(Width::Word, X11, 256, X8),
-        branch(Cond::Eq, X11, X0, 12),
-        load(Width::Word, X12, 288, X0),
-        branch(Cond::Eq, X12, X7, -12),
-        load(Width::Word, X13, 304, X0),
-        immediate(Alu::Add, X13, X13, 1),
-        store(Width::Word, X13, 304, X0),
-        store(Width::Word, X0, 256, X6),
+        instruction!(sw X9, 256, X6),
+        instruction!(sw X7, 288, X0),
+        instruction!(lw X11, 256, X8),
+        instruction!(beq X11, X0, 12),
+        instruction!(lw X12, 288, X0),
+        instruction!(beq X12, X7, -12),
+        instruction!(lw X13, 304, X0),
+        instruction!(addi X13, X13, 1),
+        instruction!(sw X13, 304, X0),
+        instruction!(sw X0, 256, X6),
     ]
 }
 
@@ -102,14 +102,9 @@ fn mixed(word: u32) -> Op
     let step = word / 16 % 64;
     let address = 1280 + 4 * step;
     match word % 4 {
-        0 => load(Width::Word, register, address as i32, X0),
-        1 => store(Width::Word, register, address as i32, X0),
-        2 => immediate(Alu::Add, register, register, (1 + step) as i32),
-        _ => store(
-            Width::Byte,
-            register,
-            (address + word / 1024 % 4) as i32,
-            X0,
-        ),
+        0 => instruction!(lw register, address as i32, X0),
+        1 => instruction!(sw register, address as i32, X0),
+        2 => instruction!(addi register, register, (1 + step) as i32),
+        _ => instruction!(sb register, (address + word / 1024 % 4) as i32, X0),
     }
 }
