@@ -5,6 +5,7 @@ ghost use Rattle.gdb_packets.specs.Readers.{event_of};
 ghost use Rattle.rtr_io.specs.Faults.{HasRisen, IsUnlessFault};
 ghost use Rattle.gdb_server.specs.Hearing.{Follows, Hears, HearsNothing, SaysAnswer, is_packet};
 ghost use Rattle.gdb_server.specs.Wires.{frames, last_frame};
+ghost use Rattle.gdb_server.specs.declared.hearing.TalkFault.TheVariants as faults;
 
 use crate::partner::{Answer, Next, Partner};
 use gdb_packets::{Line, Told};
@@ -24,9 +25,7 @@ pub enum TalkFault {
 }
 
 impl From<AllocError> for TalkFault {
-    ghost use Rattle.gdb_server.specs.declared.hearing.TalkFault.TheVariants.{OutOfMemory};
-
-    ghost from_gives = { λ _ e. e ≡ OutOfMemory };
+    ghost from_gives = { λ _ e. e ≡ faults.OutOfMemory };
 
     fn from(_error: AllocError) -> TalkFault {
         TalkFault::OutOfMemory
@@ -34,8 +33,6 @@ impl From<AllocError> for TalkFault {
 }
 
 impl From<WriteFault> for TalkFault {
-    ghost use Rattle.gdb_server.specs.declared.hearing.TalkFault.TheVariants as faults;
-
     ghost from_gives = { λ _ e. e ≡ faults.WriteFault };
 
     fn from(_fault: WriteFault) -> TalkFault {
