@@ -4,4 +4,5 @@ pub mod ReaderLemmas
 pub mod TextLemmas
 pub mod NumberLemmas
 pub mod ActionLemmas
+pub mod AskLemmas
 pub mod ThreadLemmas

@@ -1,6 +1,6 @@
 -- What packets mean. Each has a meaning: one that begins as a packet with arguments and goes on otherwise is malformed,
 -- and every other is unknown.
-use Rattle.std.specs.Prelude.{ℕ, ◌-◌, ◌==◌, Bool, true, false, List, [], ◌∷◌, Option, Some, None, Result, Ok, Err}
+use Rattle.std.specs.Prelude.{◌≡◌, ℕ, ◌-◌, ◌==◌, Bool, true, false, List, [], ◌∷◌, Option, Some, None, Result, Ok, Err}
 use Rattle.std.specs.Prelude.{codes, is_some, unwrap_or, if◌then◌else◌}
 use Rattle.std.specs.Option.{option_and_then, option_map, option_or}
 use Rattle.std.specs.Str.{bytes_eq}
@@ -39,6 +39,15 @@ span_of text = option_and_then spanned (cut_at 44 text)
 -- what is made of an argument, or that there is none
 abbrev pub made : {A : Type 0} → (A → Plain) → Option A → Plain
 made make argument = unwrap_or (option_map make argument) plain.Malformed
+
+-- what a reader may read behind some bytes and a maker may make of it, where a text begins with them
+abbrev pub Asks : {A : Type 0} → (List ℕ → Option A → Type 0) → (A → Plain → Type 0) → Option (List ℕ) → Option Plain →
+    Type 0
+Asks {A} Reads Makes text asked =
+    (reads : List ℕ → Option A) (makes : A → Plain) →
+    ((rest : List ℕ) (argument : Option A) → Reads rest argument → argument ≡ reads rest) →
+    ((argument : A) (plain : Plain) → Makes argument plain → plain ≡ makes argument) →
+    asked ≡ option_map (λ rest. made makes (reads rest)) text
 
 -- what a word is in a table, exactly
 abbrev pub in_table : List (List ℕ × Plain) → List ℕ → Option Plain

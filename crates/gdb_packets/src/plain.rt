@@ -1,9 +1,11 @@
 //! What packets mean that have no list in them.
 ghost use Rattle.std.specs.Prelude.{◌≡◌, None, Some, if◌then◌else◌, is_some};
+ghost use Rattle.std.specs.Fn.{FnOnceReturnsAt};
 ghost use Rattle.std.specs.Str.{bytes_eq};
-ghost use Rattle.gdb_packets.specs.Asks.{data_asks, head_asks, other_span, part_ask, plain_of};
+ghost use Rattle.gdb_packets.specs.Asks.{Asks, data_asks, head_asks, other_span, part_ask, plain_of};
 ghost use Rattle.gdb_packets.specs.Asks.{point, point_ask, point_asks, point_kind, point_span, span_of};
 ghost use Rattle.gdb_packets.specs.Asks.{thread_asks, thread_of, word_asks, write_asks};
+ghost use Rattle.gdb_packets.specs.Texts.{behind};
 
 use crate::asks::{Plain, PointKind, Span, Thread, Watch};
 use crate::numbers::number_of;
@@ -69,50 +71,55 @@ fn write_asks(payload: &[u8]) -> Option<Plain>
     }
 }
 
+/// What the payload asks, where it begins with these bytes and an argument stands behind them.
+fn ask<A, R: FnOnce(&[u8]) -> Option<A>, M: FnOnce(A) -> Plain>(
+    payload: &[u8],
+    head: &str,
+    read: R,
+    make: M,
+) -> Option<Plain>
+    requires read { R.IsAlwaysCallable read }
+    requires make { M.IsAlwaysCallable make }
+    ensures { Asks (FnOnceReturnsAt R.FnOnce read) (M.post make) (behind payload.now head.now) result }
+{
+    let text = behind(payload, head)?;
+    Some(read(text).map_or(Plain::Malformed, make))
+}
+
 /// The packets that name a thread.
 fn thread_asks(payload: &[u8]) -> Option<Plain>
     ensures { result ≡ thread_asks payload.now }
 {
-    if let Some(text) = behind(payload, "Hg") {
-        Some(thread_of(text).map_or(Plain::Malformed, Plain::LookAt))
-    } else if let Some(text) = behind(payload, "Hc") {
-        Some(thread_of(text).map_or(Plain::Malformed, Plain::MoveWith))
-    } else if let Some(text) = behind(payload, "T") {
-        Some(thread_of(text).map_or(Plain::Malformed, Plain::IsThere))
-    } else if let Some(text) = behind(payload, "qThreadExtraInfo,") {
-        Some(thread_of(text).map_or(Plain::Malformed, Plain::ThreadText))
-    } else {
-        None
-    }
+    ask(payload, "Hg", thread_of, Plain::LookAt)
+        .or(ask(payload, "Hc", thread_of, Plain::MoveWith))
+        .or(ask(payload, "T", thread_of, Plain::IsThere))
+        .or(ask(payload, "qThreadExtraInfo,", thread_of, Plain::ThreadText))
 }
 
 /// The packets that want a register, memory or a part of a document.
 fn data_asks(payload: &[u8]) -> Option<Plain>
     ensures { result ≡ data_asks payload.now }
 {
-    if let Some(text) = behind(payload, "p") {
-        Some(number_of(text).map_or(Plain::Malformed, Plain::Register))
-    } else if let Some(text) = behind(payload, "m") {
-        Some(span_of(text).map_or(Plain::Malformed, Plain::Memory))
-    } else if let Some(text) = behind(payload, "qXfer:") {
-        Some(part_ask(text))
-    } else {
-        None
-    }
+    ask(payload, "p", number_of, Plain::Register)
+        .or(ask(payload, "m", span_of, Plain::Memory))
+        .or(behind(payload, "qXfer:").map(part_ask))
 }
 
 /// The document, and which part of it.
 fn part_ask(text: &[u8]) -> Plain
     ensures { result ≡ part_ask text.now }
 {
-    if let Some(span) = behind(text, "features:read:target.xml:") {
-        span_of(span).map_or(Plain::Malformed, Plain::TargetPart)
-    } else if let Some(span) = behind(text, "threads:read::") {
-        span_of(span).map_or(Plain::Malformed, Plain::ThreadsPart)
-    } else if is_part(text) {
-        Plain::OtherPart
-    } else {
-        Plain::Malformed
+    let known = ask(
+        text,
+        "features:read:target.xml:",
+        span_of,
+        Plain::TargetPart,
+    )
+    .or(ask(text, "threads:read::", span_of, Plain::ThreadsPart));
+    match known {
+        Some(part) => part,
+        None if is_part(text) => Plain::OtherPart,
+        None => Plain::Malformed,
     }
 }
 
