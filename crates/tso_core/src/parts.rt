@@ -16,20 +16,11 @@ use std::marker::Model;
 /// Contracts see the state, and which of the home's blocks have room for a request.
 ///
 /// It has no invariant, so that each call owes only what it does.
+#[derive(Drop)]
 pub struct Parts<R, K> {
     pub(crate) program: Program,
     pub(crate) cores: Vec<Station>,
     pub(crate) memory: MemorySystem<R, K>,
-}
-
-impl<R: Drop, K: Drop> Drop for Parts<R, K> {
-    fn drop(self) {
-        let Parts {
-            program: _program,
-            cores: _cores,
-            memory: _memory,
-        } = self;
-    }
 }
 
 impl<R, K> Model for Parts<R, K> {
