@@ -1,3 +1,5 @@
+pub mod Choosing
+pub mod CoreStates
 pub mod States
 pub mod Moves
 pub mod Events

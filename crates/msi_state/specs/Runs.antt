@@ -1,7 +1,6 @@
 -- The runs of the plain machine: its state after so many choices, when a run ends, what retires in it
 -- and what its accesses are.
-use Rattle.std.specs.Prelude.{◌≡◌, ◌<◌, ℕ, ◌%◌, ◌==◌, ◌&&◌, true, false, Option, Some, None, List, [], ◌∷◌, ◌++◌}
-use Rattle.std.specs.Prelude.{length, map, slice_index_or, zero, suc, if◌then◌else◌}
+use Rattle.std.specs.Prelude.{ℕ, ◌==◌, ◌&&◌, Option, List, [], ◌∷◌, ◌++◌, map, zero, suc, if◌then◌else◌}
 use Rattle.std.specs.List.{range_with_len}
 use Rattle.access_times.specs.Riding.{none_riding, none_carrying}
 use Rattle.image_mem.specs.Contents.{Contents}
@@ -12,7 +11,9 @@ use Rattle.rtr_types.specs.declared.params.Params.{Params}
 use Rattle.rv_core.specs.declared.outcome.LoadNote.{LoadNote}
 use Rattle.rv_core.specs.declared.outcome.Outcome.{Outcome}
 use Rattle.msi_state.specs.declared.moves.Move.{Move}
+pub use Rattle.msi_state.specs.Choosing.{chosen_of}
 use Rattle.msi_state.specs.States.{PlainState, state_start, all_done}
+use Rattle.msi_state.specs.Choosing.{IsFirst, by_move, state_after}
 use Rattle.msi_state.specs.Events.{Event, Nothing, Retires, Accesses}
 use Rattle.msi_state.specs.Steps.{moves, step, event}
 use Rattle.msi_state.specs.FinalMemory.{final_memory}
@@ -27,21 +28,16 @@ plain_step s m = step none_riding none_carrying tt s m
 abbrev pub plain_event : PlainState → Move → Event
 plain_event s m = event none_riding none_carrying s m
 
--- of e enabled moves a choice takes the one numbered `choice mod e`; where none is enabled it takes none
-abbrev pub chosen_of : List Move → (choice : ℕ) → Option Move
-chosen_of [] choice = None
-chosen_of (m ∷ ms) choice = Some (slice_index_or (m ∷ ms) (choice % length (m ∷ ms)) m)
-
+-- the move that a choice takes
 abbrev pub chosen : PlainState → (choice : ℕ) → Option Move
 chosen s choice = chosen_of (plain_moves s) choice
 
+-- the state after it, and what it tells the clerk
 abbrev pub stepped_by : PlainState → Option Move → PlainState
-stepped_by s None = s
-stepped_by s (Some m) = plain_step s m
+stepped_by s taken = by_move s (plain_step s) taken
 
 abbrev pub event_by : PlainState → Option Move → Event
-event_by s None = Nothing
-event_by s (Some m) = plain_event s m
+event_by s taken = by_move Nothing (plain_event s) taken
 
 -- the machine of an image and parameters before its first move
 abbrev pub opening_state : Contents → Params → PlainState
@@ -49,10 +45,7 @@ opening_state image params = state_start none_riding none_carrying image params.
 
 -- the state after t choices, of which `choices u` is the one numbered u, from 0
 abbrev pub run : Contents → Params → (choices : ℕ → ℕ) → (t : ℕ) → PlainState
-run image params choices zero = opening_state image params
-run image params choices (suc t) =
-    let before = run image params choices t in
-    stepped_by before (chosen before (choices t))
+run image params choices t = state_after plain_moves plain_step (opening_state image params) choices t
 
 -- what the choice numbered t told the clerk
 abbrev pub event_at : Contents → Params → (choices : ℕ → ℕ) → (t : ℕ) → Event
@@ -61,9 +54,8 @@ event_at image params choices t =
     event_by before (chosen before (choices t))
 
 -- a run ends at the first moment at which each core's program is done
-pub record IsRunEnd (image : Contents) (params : Params) (choices : ℕ → ℕ) (t : ℕ) : Type 0 where
-  pub done : all_done (run image params choices t) ≡ true
-  pub first : (u : ℕ) → u < t → all_done (run image params choices u) ≡ false
+abbrev pub IsRunEnd : Contents → Params → (choices : ℕ → ℕ) → (t : ℕ) → Type 0
+IsRunEnd image params choices t = IsFirst (λ u. all_done (run image params choices u)) t
 
 -- the instructions that retired in a list of events, in order
 abbrev pub retired_in : Event → List Instr

@@ -1,7 +1,6 @@
 -- The runs of the plain machine: its state after so many choices, when a run ends, which accesses are ordered in it and
 -- which loads are logged, in which order instructions are told, and what it leaves.
-use Rattle.std.specs.Prelude.{◌≡◌, ◌<◌, ℕ, ◌%◌, ◌==◌, ◌&&◌, true, false, Option, Some, None, List, [], ◌∷◌, ◌++◌}
-use Rattle.std.specs.Prelude.{length, map, slice_index_or, zero, suc, if◌then◌else◌}
+use Rattle.std.specs.Prelude.{ℕ, ◌==◌, ◌&&◌, Option, List, [], ◌∷◌, ◌++◌, map, zero, suc, if◌then◌else◌}
 use Rattle.std.specs.List.{range_with_len, sum_by}
 use Rattle.access_times.specs.Riding.{none_riding, none_carrying}
 use Rattle.image_mem.specs.Contents.{Contents}
@@ -11,6 +10,8 @@ use Rattle.rtr_types.specs.declared.access.Access.{Access}
 use Rattle.rtr_types.specs.declared.params.Params.{Params}
 use Rattle.rv_core.specs.declared.outcome.LoadNote.{LoadNote}
 use Rattle.rv_core.specs.declared.outcome.Outcome.{Outcome}
+use Rattle.msi_state.specs.Choosing.{IsFirst, by_move, state_after}
+pub use Rattle.msi_state.specs.Choosing.{chosen_of}
 use Rattle.tso_state.specs.declared.moves.Move.{Move}
 use Rattle.tso_state.specs.declared.pending.Pending.{Pending}
 use Rattle.tso_state.specs.declared.pending.Pending.TheVariants.{Load as PendingLoad, Store as PendingStore}
@@ -32,26 +33,19 @@ plain_event s m = event none_riding none_carrying s m
 abbrev pub plain_told : PlainState → Move → List Told
 plain_told s m = told none_riding none_carrying s m
 
--- of e enabled moves a choice takes the one numbered `choice mod e`; where none is enabled it takes none
-abbrev pub chosen_of : List Move → (choice : ℕ) → Option Move
-chosen_of [] choice = None
-chosen_of (m ∷ ms) choice = Some (slice_index_or (m ∷ ms) (choice % length (m ∷ ms)) m)
-
+-- the move that a choice takes
 abbrev pub chosen : PlainState → (choice : ℕ) → Option Move
 chosen s choice = chosen_of (plain_moves s) choice
 
 -- the state after it, what happens in it, and what is told in it
 abbrev pub stepped_by : PlainState → Option Move → PlainState
-stepped_by s None = s
-stepped_by s (Some m) = plain_step s m
+stepped_by s taken = by_move s (plain_step s) taken
 
 abbrev pub event_by : PlainState → Option Move → Event
-event_by s None = Nothing
-event_by s (Some m) = plain_event s m
+event_by s taken = by_move Nothing (plain_event s) taken
 
 abbrev pub told_by : PlainState → Option Move → List Told
-told_by s None = []
-told_by s (Some m) = plain_told s m
+told_by s taken = by_move [] (plain_told s) taken
 
 -- the machine of an image and parameters before its first move
 abbrev pub opening_state : Contents → Params → PlainState
@@ -59,10 +53,7 @@ opening_state image params = state_start none_riding none_carrying image params.
 
 -- the state after t choices, of which `choices u` is the one numbered u, from 0
 abbrev pub run : Contents → Params → (choices : ℕ → ℕ) → (t : ℕ) → PlainState
-run image params choices zero = opening_state image params
-run image params choices (suc t) =
-    let before = run image params choices t in
-    stepped_by before (chosen before (choices t))
+run image params choices t = state_after plain_moves plain_step (opening_state image params) choices t
 
 -- what a core did by the choice numbered t, and what was told
 abbrev pub event_at : Contents → Params → (choices : ℕ → ℕ) → (t : ℕ) → Event
@@ -76,9 +67,8 @@ told_at image params choices t =
     told_by before (chosen before (choices t))
 
 -- a run ends at the first moment at which each core's program is done and no access is pending
-pub record IsRunEnd (image : Contents) (params : Params) (choices : ℕ → ℕ) (t : ℕ) : Type 0 where
-  pub done : all_done (run image params choices t) ≡ true
-  pub first : (u : ℕ) → u < t → all_done (run image params choices u) ≡ false
+abbrev pub IsRunEnd : Contents → Params → (choices : ℕ → ℕ) → (t : ℕ) → Type 0
+IsRunEnd image params choices t = IsFirst (λ u. all_done (run image params choices u)) t
 
 -- ---- what happens in a run
 
