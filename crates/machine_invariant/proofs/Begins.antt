@@ -1,15 +1,12 @@
 -- The start keeps what each state of a run keeps, and so each state of a run does.
-use Rattle.std.proofs.Common.{◌≡◌, ◌∙◌, refl, sym, subst, ℕ, ◌*◌, ◌<◌, ◌≤◌, ◌^◌, true, List, [], ◌∷◌}
-use Rattle.std.proofs.Common.{length, get_or}
-use Rattle.std.proofs.Common.{Option, Some, None, zero, suc, arith, zero-add}
+use Rattle.std.proofs.Common.{◌≡◌, ◌∙◌, refl, sym, subst, ℕ, ◌*◌, ◌<◌, ◌≤◌, ◌^◌, true, length, get_or, Some, arith}
+use Rattle.std.proofs.Common.{zero-add}
 use Rattle.std.proofs.lemmas.List.{length-replicate, get_or-replicate}
-use Rattle.std.proofs.lemmas.List.Elements.{filter_passes}
 use Rattle.std.proofs.lemmas.List.FromFn.{length-map-range_with_len, get_or-map-range_with_len}
 use Rattle.access_times.specs.Riding.{Riding, Carrying, none_riding, none_carrying}
 use Rattle.image_mem.specs.Contents.{Contents}
 use Rattle.rtr_types.specs.declared.TheConstants.{CORES_MAX}
 use Rattle.rtr_types.specs.declared.params.Params.{Params}
-use Rattle.rv_core.specs.declared.core_state.Core.{Core}
 use Rattle.rv_core.specs.States.{starting}
 use Rattle.rv_core.specs.Steps.{need, access_of as need_access}
 use Rattle.rv_core.proofs.LawLemmas.{start_law}
@@ -18,17 +15,45 @@ use Rattle.msi_directory.proofs.Openings.{openings_counted}
 use Rattle.msi_memory.specs.declared.port.Port.{Port}
 use Rattle.msi_memory.specs.Memories.{port_at, port_start, no_port}
 use Rattle.msi_state.specs.declared.moves.Move.{Move}
-use Rattle.msi_state.specs.States.{State, PlainState, core_at, state_start}
+use Rattle.msi_state.specs.CoreStates.{CoresState, cores_start}
+use Rattle.msi_state.specs.States.{PlainState, core_at, state_start}
 use Rattle.msi_state.specs.Moves.{candidates}
-use Rattle.msi_state.specs.Steps.{enabled, step}
-use Rattle.msi_state.specs.Runs.{plain_moves, chosen, chosen_of, stepped_by, run}
-use Rattle.machine_invariant.specs.Holds.{CoreHolds, MachineHolds}
-use Rattle.machine_invariant.specs.Walks.{walked}
-use Rattle.msi_laws.specs.Walks.{MoveTaken}
-use Rattle.msi_laws.proofs.Moves.{taken_is, walked_keeps}
-use Rattle.msi_laws.proofs.Starts.{memory_starts}
+use Rattle.msi_state.specs.Steps.{enabled}
+use Rattle.msi_state.specs.Runs.{plain_moves, plain_step, opening_state, chosen, run}
+use Rattle.msi_laws.proofs.Starts.{memory_starts, port_start_at as ports_start_at}
 use Rattle.msi_laws.proofs.Awaits.{still_awaits}
+use Rattle.machine_invariant.specs.Holds.{CoreHolds, CoresHold, MachineHolds}
+use Rattle.machine_invariant.proofs.Choosing.{chosen_passes, each_after}
 use Rattle.machine_invariant.proofs.Kept.{holds_kept}
+pub use Rattle.machine_invariant.proofs.Choosing.{chosen_at}
+
+-- cores over a memory system keep at the start what each state of a run keeps, where each core is well at its port
+module _ {C R K : Type 0} (riding : Riding R) (carrying : Carrying K) (no_core : C)
+    (IsWell : Contents → (c : ℕ) → C → Port R K → Type 0) (starts : ℕ → C) where
+  pub cores_hold_start : (image : Contents) (cores : ℕ) → cores ≤ CORES_MAX →
+      ((c : ℕ) → IsWell image c (starts c) (port_start riding carrying)) →
+      CoresHold riding carrying no_core IsWell (cores_start starts riding carrying image cores)
+  cores_hold_start image cores few well =
+      record {
+        memory = memory_starts riding carrying image cores few;
+        ports_there = length-replicate cores (port_start riding carrying) ∙ sym long;
+        blocks_there = openings_counted riding.fresh image (block_count image.words);
+        cores = λ c within. core_well c (subst (λ (n : ℕ). c < n) long within);
+      }
+    where
+      start : CoresState C R K
+      start = cores_start starts riding carrying image cores
+
+      long : length start.cores ≡ cores
+      long = length-map-range_with_len starts 0 cores
+
+      core_well : (c : ℕ) → c < cores →
+          IsWell image c (get_or start.cores c no_core) (port_at carrying start.memory.ports c)
+      core_well c within =
+          subst (λ (core : C). IsWell image c core (port_at carrying start.memory.ports c))
+          (sym (get_or-map-range_with_len starts 0 cores c c no_core within (zero-add c)))
+          (subst (λ (p : Port R K). IsWell image c (starts c) p)
+          (sym (ports_start_at riding carrying cores c within)) (well c))
 
 module _ {R K : Type 0} where
   -- the cores and the ports at the start
@@ -56,59 +81,19 @@ module _ {R K : Type 0} where
       cores ≤ CORES_MAX → limit < 2 ^ 32 →
       MachineHolds riding carrying (state_start riding carrying image cores limit)
   holds_start riding carrying image cores limit few small =
-      record {
-        memory = memory_starts riding carrying image cores few;
-        ports_there = length-replicate cores (port_start riding carrying) ∙ sym long;
-        blocks_there = openings_counted riding.fresh image (block_count image.words);
-        cores = λ c within. core_well c (subst (λ (n : ℕ). c < n) long within);
-      }
-    where
-      start : State R K
-      start = state_start riding carrying image cores limit
-
-      long : length start.cores ≡ cores
-      long = length-map-range_with_len (λ (id : ℕ). starting id limit) 0 cores
-
-      core_well : (c : ℕ) → c < cores → CoreHolds image riding c (core_at start.cores c)
-          (port_at carrying start.memory.ports c)
-      core_well c within =
-          subst (λ (core : Core). CoreHolds image riding c core (port_at carrying start.memory.ports c))
-          (sym (core_start_at riding carrying image cores limit c within))
-          (subst (λ (p : Port R K). CoreHolds image riding c (starting c limit) p)
-          (sym (port_start_at riding carrying image cores limit c within))
-          (start_well image riding carrying limit c small))
-
-  pub holds_walked : (riding : Riding R) (carrying : Carrying K) (s : State R K) (taken : List (MoveTaken Move R)) →
-      MachineHolds riding carrying s → MachineHolds riding carrying (walked riding carrying s taken)
-  holds_walked riding carrying =
-      walked_keeps (enabled riding carrying) (step riding carrying) (λ (s : State R K). MachineHolds riding carrying s)
-      (λ s m rider is h. holds_kept riding carrying s m rider is h)
-
--- what a choice takes is one of the moves
-pub chosen_at : (ms : List Move) (P : Move → Type 0) (choice : ℕ) (m : Move) → ((i : ℕ) (d : Move) → i < length ms →
-    P (get_or ms i d)) →
-    chosen_of ms choice ≡ Some m → P m
-chosen_at [] P choice m each is = absurd (cc)
-chosen_at (first ∷ later) P choice m each is = taken_is first later P choice m each is
+      cores_hold_start riding carrying (starting 0 0) (λ image c core p. CoreHolds image riding c core p)
+      (λ id. starting id limit) image cores few (λ c. start_well image riding carrying limit c small)
 
 -- what a choice takes is enabled
 pub chosen_enabled : (s : PlainState) (choice : ℕ) (m : Move) → chosen s choice ≡ Some m →
     enabled none_riding none_carrying s m ≡ true
 chosen_enabled s choice m is =
-    chosen_at (plain_moves s) (λ (x : Move). enabled none_riding none_carrying s x ≡ true) choice m
-    (filter_passes (enabled none_riding none_carrying s) (candidates (length s.cores) (4 * length s.cores))) is
-
-holds_stepped : (s : PlainState) (taken : Option Move) →
-    ((m : Move) → taken ≡ Some m → enabled none_riding none_carrying s m ≡ true) →
-    MachineHolds none_riding none_carrying s → MachineHolds none_riding none_carrying (stepped_by s taken)
-holds_stepped s None enabled_by h = h
-holds_stepped s (Some m) enabled_by h = holds_kept none_riding none_carrying s m tt (enabled_by m refl) h
+    chosen_passes (enabled none_riding none_carrying s) (candidates (length s.cores) (4 * length s.cores)) choice m is
 
 pub holds_run : (image : Contents) (params : Params) (choices : ℕ → ℕ) (t : ℕ) → params.cores ≤ CORES_MAX →
-    params.limit < 2 ^ 32 →
-    MachineHolds none_riding none_carrying (run image params choices t)
-holds_run image params choices zero few small = holds_start none_riding none_carrying image params.cores params.limit
-    few small
-holds_run image params choices (suc t) few small =
-    holds_stepped (run image params choices t) (chosen (run image params choices t) (choices t))
-    (λ m is. chosen_enabled (run image params choices t) (choices t) m is) (holds_run image params choices t few small)
+    params.limit < 2 ^ 32 → MachineHolds none_riding none_carrying (run image params choices t)
+holds_run image params choices t few small =
+    each_after plain_moves plain_step (λ s. MachineHolds none_riding none_carrying s)
+    (λ s choice m is h. holds_kept none_riding none_carrying s m tt (chosen_enabled s choice m is) h)
+    (opening_state image params) choices t
+    (holds_start none_riding none_carrying image params.cores params.limit few small)

@@ -3,5 +3,7 @@ pub mod Stepping
 pub mod Happening
 pub mod Awaits
 pub mod Kept
+pub mod Choosing
 pub mod Begins
+pub mod Promised
 pub mod Ended

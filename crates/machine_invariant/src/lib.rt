@@ -5,7 +5,4 @@
 
 mod laws;
 
-pub use laws::{
-    a_start_has_the_invariant, every_state_from_a_start_has_it, every_state_of_a_run_has_it,
-    every_step_keeps_it, what_a_move_does_can_be_done,
-};
+pub use laws::{every_state_of_a_run_has_it, every_step_keeps_it};

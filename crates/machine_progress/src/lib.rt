@@ -4,4 +4,4 @@
 
 mod laws;
 
-pub use laws::{moves_are_ready, never_stuck, nothing_is_left_at_the_end};
+pub use laws::moves_go_on_to_the_end;

@@ -10,17 +10,15 @@ use Rattle.rv_core.specs.declared.core_state.Need.{Need}
 use Rattle.rv_core.specs.declared.core_state.Need.TheVariants.{Local, Load, Store, Amo, Done}
 use Rattle.rv_core.specs.Steps.{need, access_of as need_access}
 use Rattle.msi_cache.specs.Lines.{waits}
-use Rattle.msi_directory.specs.Blocks.{block_count}
 use Rattle.msi_memory.specs.declared.port.Port.{Port}
-use Rattle.msi_memory.specs.Memories.{port_at}
-use Rattle.msi_laws.specs.Holds.{MemoryHolds}
 use Rattle.msi_laws.specs.Waits.{Awaited}
+use Rattle.machine_invariant.specs.Holds.{CoresHold}
 use Rattle.tso_state.specs.declared.pending.Pending.{Pending}
 use Rattle.tso_state.specs.declared.pending.Asker.{Asker}
 use Rattle.tso_state.specs.declared.pending.Asker.TheVariants.{Nobody, Next, Head}
 use Rattle.tso_state.specs.declared.pending.TheConstants.{PENDING_MAX, STORES_MAX}
 use Rattle.tso_state.specs.Pending.{count_of, word_of, stores_in}
-use Rattle.tso_state.specs.States.{State, BufferedCore, core_at}
+use Rattle.tso_state.specs.States.{State, BufferedCore, buffered_start}
 use Rattle.tso_state.specs.Steps.{head_access, has_room}
 
 -- ---- who asks
@@ -85,11 +83,7 @@ pub record BufferedHolds {R K : Type 0} (image : Contents) (riding : Riding R) (
   pub waiting : waits p.cache ≡ is_asking t.asker
 
 -- what each state of a run keeps
-pub record TsoHolds {R K : Type 0} (riding : Riding R) (carrying : Carrying K) (s : State R K) : Type 0 where
-  pub memory : MemoryHolds riding carrying s.memory
-  -- each core has a port
-  pub ports_there : length s.memory.ports ≡ length s.cores
-  -- the home has the blocks of the image's memory
-  pub blocks_there : length s.memory.home ≡ block_count s.image.words
-  pub cores : (c : ℕ) → c < length s.cores
-      → BufferedHolds s.image riding c (core_at s.cores c) (port_at carrying s.memory.ports c)
+module _ {R K : Type 0} where
+  abbrev pub TsoHolds : Riding R → Carrying K → State R K → Type 0
+  TsoHolds riding carrying s =
+      CoresHold riding carrying (buffered_start 0 0) (λ image c t p. BufferedHolds image riding c t p) s

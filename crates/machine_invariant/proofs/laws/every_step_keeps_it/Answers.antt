@@ -1,5 +1,7 @@
-use Rattle.machine_invariant.proofs.Kept.{holds_kept}
+use Rattle.machine_invariant.proofs.Begins.{holds_start}
+use Rattle.machine_invariant.proofs.Kept.{acts_can, holds_kept}
+use Rattle.machine_invariant.proofs.Promised.{is_invariant}
 use Rattle.machine_invariant.proofs.laws.every_step_keeps_it.Goals as goal
 
 pub returns : goal.returns
-returns g c = λ s move rider is h. holds_kept g.R.Rider.riding g.K.Carry.carrying s move rider is h
+returns g c = is_invariant holds_start acts_can holds_kept

@@ -1,0 +1,8 @@
+use Rattle.machine_invariant.proofs.Promised.{moves_on}
+use Rattle.tso_invariant.proofs.Ending.{links_left, moves_left}
+use Rattle.tso_invariant.proofs.Rested.{rooms_there, rows_there}
+use Rattle.tso_invariant.proofs.Stuck.{some_move}
+use Rattle.tso_invariant.proofs.laws.moves_go_on_to_the_end.Goals as goal
+
+pub returns : goal.returns
+returns g c = moves_on rows_there rooms_there some_move links_left moves_left
