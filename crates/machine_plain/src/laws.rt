@@ -1,8 +1,7 @@
 //! What is left of a machine where riders and carries are forgotten.
-ghost use Rattle.std.specs.Prelude.{◌≡◌, ℕ};
+ghost use Rattle.std.specs.Prelude.{◌≡◌};
 ghost use Rattle.access_times.specs.Riding.{Carrying, Riding, none_carrying, none_riding};
-ghost use Rattle.image_mem.specs.Contents.{Contents};
-ghost use Rattle.machine_plain.specs.Plain.{plain};
+ghost use Rattle.machine_plain.specs.Plain.{PlainShows, plain};
 ghost use Rattle.msi_state.specs.FinalMemory.{final_words};
 ghost use Rattle.msi_state.specs.States.{State, all_done, state_start};
 ghost use Rattle.msi_state.specs.Steps.{event, moves, step};
@@ -18,19 +17,9 @@ pub fn riders_change_nothing<R, K>()
 {}
 
 /// Whatever rides: the moves that can be made are those of the plain part, in the same order, so a
-/// choice takes the same one.
-pub fn the_same_moves_are_there<R, K>()
-    ensures { (riding : Riding R) (carrying : Carrying K) (s : State R K)
-        → moves riding carrying s ≡ moves none_riding none_carrying (plain s) }
-{}
-
-/// Whatever rides: the plain part of a machine's start is the start where nothing rides, a machine is at
+/// choice takes the same one. The plain part of a machine's start is the start where nothing rides, a machine is at
 /// its end exactly where its plain part is, and it has the same memory.
 pub fn the_plain_part_shows_the_same<R, K>()
-    ensures start { (riding : Riding R) (carrying : Carrying K) (image : Contents) (cores limit : ℕ)
-        → plain (state_start riding carrying image cores limit)
-        ≡ state_start none_riding none_carrying image cores limit }
-    ensures done { (s : State R K) → all_done s ≡ all_done (plain s) }
-    ensures words { (riding : Riding R) (carrying : Carrying K) (s : State R K) (block : ℕ)
-        → final_words riding carrying s block ≡ final_words none_riding none_carrying (plain s) block }
+    ensures { PlainShows R K moves (moves none_riding none_carrying) state_start
+        (state_start none_riding none_carrying) all_done all_done final_words (final_words none_riding none_carrying) }
 {}

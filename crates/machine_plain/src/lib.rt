@@ -4,4 +4,4 @@
 
 mod laws;
 
-pub use laws::{riders_change_nothing, the_plain_part_shows_the_same, the_same_moves_are_there};
+pub use laws::{riders_change_nothing, the_plain_part_shows_the_same};
