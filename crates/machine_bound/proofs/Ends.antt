@@ -1,6 +1,6 @@
 -- A run ends, and the instructions that retired in it have paid for its steps.
-use Rattle.std.proofs.Common.{◌≡◌, ◌∙◌, ap, refl, sym, ℕ, ◌+◌, ◌*◌, ◌<◌, ◌≤◌, ◌^◌, Bool, true, false, List, [], ◌∷◌}
-use Rattle.std.proofs.Common.{length, Option, Some, None, zero}
+use Rattle.std.proofs.Common.{◌≡◌, ◌∙◌, ap, refl, sym, ℕ, ◌+◌, ◌*◌, ◌<◌, ◌≤◌, ◌^◌, true, List, [], ◌∷◌}
+use Rattle.std.proofs.Common.{length, zero}
 use Rattle.std.proofs.Common.{suc, arith}
 use Rattle.std.specs.Prelude.{map, replicate}
 use Rattle.std.specs.List.{sum_by, list_all, range_with_len, zip}
@@ -21,19 +21,20 @@ use Rattle.rv_core.specs.Steps.{need, is_done}
 use Rattle.rv_core.proofs.LawLemmas.{start_law}
 use Rattle.msi_memory.specs.declared.port.Port.{Port}
 use Rattle.msi_memory.specs.Memories.{port_start}
-use Rattle.msi_state.specs.declared.moves.Move.{Move}
 use Rattle.msi_state.specs.States.{PlainState, all_done}
-use Rattle.msi_state.specs.Runs.{plain_moves, chosen, chosen_of, stepped_by, opening_state, run, IsRunEnd}
+use Rattle.msi_state.specs.Runs.{plain_moves, plain_step, opening_state, run, IsRunEnd}
 use Rattle.machine_bound.specs.Bound.{owed, earned, capacity, total_owed, total_earned, total_retired, left}
 use Rattle.machine_invariant.specs.Holds.{MachineHolds}
 use Rattle.machine_invariant.proofs.Begins.{chosen_enabled, holds_run}
+use Rattle.machine_invariant.proofs.Choosing.{each_after}
 use Rattle.machine_invariant.proofs.Stepping.{step_cores}
 use Rattle.machine_progress.proofs.Stuck.{some_move}
 use Rattle.machine_bound.specs.Ends.{most_steps, end_of}
 use Rattle.machine_bound.proofs.PortEarns.{done_base}
 use Rattle.machine_bound.proofs.Payments.{earns}
 use Rattle.machine_bound.proofs.Capacity.{capacity_kept, total_earned_le}
-use Rattle.machine_bound.proofs.Firsts.{FailsBefore, fails_before, first_passes, first_within, one_first}
+use Rattle.machine_bound.proofs.Firsts.{FailsBefore, first_end_is}
+use Rattle.machine_bound.proofs.Paying.{paid_until}
 
 -- ---- the sums at the start and at the end
 
@@ -87,74 +88,39 @@ pub record InRange (params : Params) : Type 0 where
   pub cores : params.cores ≤ CORES_MAX
   pub limit : params.limit < 2 ^ 32
 
--- where some move is enabled, a choice takes one
-chosen_none : (ms : List Move) (choice : ℕ) {X : Type 0} → 0 < length ms → chosen_of ms choice ≡ None → X
-chosen_none [] choice some e = absurd (omega arith)
-chosen_none (m ∷ ms) choice some e = absurd (cc)
-
--- each core's program is done after t choices
-abbrev pub is_over : Contents → Params → (choices : ℕ → ℕ) → (t : ℕ) → Bool
-is_over image params choices t = all_done (run image params choices t)
-
--- the run is not yet at its end at any moment before this one
-abbrev pub NotBefore : Contents → Params → (choices : ℕ → ℕ) → (t : ℕ) → Type 0
-NotBefore image params choices t = FailsBefore (is_over image params choices) t
-
 pub run_holds : (image : Contents) (params : Params) (choices : ℕ → ℕ) (t : ℕ) → InRange params →
     MachineHolds none_riding none_carrying (run image params choices t)
 run_holds image params choices t fits = holds_run image params choices t fits.cores fits.limit
 
 -- the steps so far are paid for
 steps_paid : (image : Contents) (params : Params) (choices : ℕ → ℕ) (t : ℕ) → InRange params →
-    NotBefore image params choices t →
+    FailsBefore (λ u. all_done (run image params choices u)) t →
     t + total_owed (run image params choices t) ≤ total_earned none_riding (run image params choices t)
-steps_paid image params choices zero fits more =
+steps_paid image params choices t fits more =
     let none : total_owed (opening_state image params) ≡ 0 = owed_start none_riding none_carrying params.cores in
-    omega arith
-steps_paid image params choices (suc t) fits more =
-    stepped (chosen s (choices t)) refl (more t (omega arith)) (steps_paid image params choices t fits
-    (λ u lt. more u (omega arith)))
-  where
-    s : PlainState
-    s = run image params choices t
-
-    h : MachineHolds none_riding none_carrying s
-    h = run_holds image params choices t fits
-
-    stepped : (o : Option Move) → chosen s (choices t) ≡ o → all_done s ≡ false →
-        t + total_owed s ≤ total_earned none_riding s →
-        suc t + total_owed (stepped_by s o) ≤ total_earned none_riding (stepped_by s o)
-    stepped None e more paid = chosen_none (plain_moves s) (choices t) (some_move none_riding none_carrying s h more) e
-    stepped (Some m) e more paid = let pays = earns none_riding none_carrying s m tt (chosen_enabled s (choices t) m e)
-        h in omega arith
+    paid_until plain_moves plain_step all_done (λ (s : PlainState). MachineHolds none_riding none_carrying s) total_owed
+    (total_earned none_riding) (λ s h going. some_move none_riding none_carrying s h going)
+    (λ s choice m is h. earns none_riding none_carrying s m tt (chosen_enabled s choice m is) h)
+    (opening_state image params) choices (λ u. run_holds image params choices u fits) (omega arith) t more
 
 -- no step changes the number of cores, nor what all instructions can pay for
 pub run_cores : (image : Contents) (params : Params) (choices : ℕ → ℕ) (t : ℕ) →
     length (run image params choices t).cores ≡ params.cores
-run_cores image params choices zero = length-map-range_with_len (λ (id : ℕ). starting id params.limit) 0 params.cores
-run_cores image params choices (suc t) = stepped (chosen (run image params choices t) (choices t))
-    (run_cores image params choices t)
-  where
-    stepped : (o : Option Move) → length (run image params choices t).cores ≡ params.cores →
-        length (stepped_by (run image params choices t) o).cores
-        ≡ params.cores
-    stepped None e = e
-    stepped (Some m) e = step_cores none_riding none_carrying tt (run image params choices t) m ∙ e
+run_cores image params choices t =
+    each_after plain_moves plain_step (λ (s : PlainState). length s.cores ≡ params.cores)
+    (λ s choice m is e. step_cores none_riding none_carrying tt s m ∙ e) (opening_state image params) choices t
+    (length-map-range_with_len (λ (id : ℕ). starting id params.limit) 0 params.cores)
 
 run_capacity : (image : Contents) (params : Params) (choices : ℕ → ℕ) (t : ℕ) →
     sum_by (capacity params.cores) (run image params choices t).cores ≡ most_steps params
-run_capacity image params choices zero =
+run_capacity image params choices t =
     let many : length (range_with_len 0 params.cores) ≡ params.cores = length-range_with_len 0 params.cores in
-    capacity_start params.limit params.cores (range_with_len 0 params.cores)
-    ∙ ap (λ (n : ℕ). (2 * params.cores + 4) * (n * params.limit)) many
-run_capacity image params choices (suc t) = stepped (chosen (run image params choices t) (choices t))
-    (run_capacity image params choices t)
-  where
-    stepped : (o : Option Move) → sum_by (capacity params.cores) (run image params choices t).cores ≡ most_steps
-        params →
-        sum_by (capacity params.cores) (stepped_by (run image params choices t) o).cores ≡ most_steps params
-    stepped None e = e
-    stepped (Some m) e = capacity_kept none_riding none_carrying (run image params choices t) m tt params.cores ∙ e
+    each_after plain_moves plain_step
+    (λ (s : PlainState). sum_by (capacity params.cores) s.cores ≡ most_steps params)
+    (λ s choice m is e. capacity_kept none_riding none_carrying s m tt params.cores ∙ e)
+    (opening_state image params) choices t
+    (capacity_start params.limit params.cores (range_with_len 0 params.cores)
+    ∙ ap (λ (n : ℕ). (2 * params.cores + 4) * (n * params.limit)) many)
 
 -- what all instructions can pay for, of the state's own number of cores
 capacity_is : (image : Contents) (params : Params) (choices : ℕ → ℕ) (t : ℕ) →
@@ -164,8 +130,8 @@ capacity_is image params choices t =
     ∙ run_capacity image params choices t
 
 -- the steps so far and those that are left are at most what all instructions can pay for
-left_within : (image : Contents) (params : Params) (choices : ℕ → ℕ) (t : ℕ) → InRange params →
-    NotBefore image params choices t →
+pub left_within : (image : Contents) (params : Params) (choices : ℕ → ℕ) (t : ℕ) → InRange params →
+    FailsBefore (λ u. all_done (run image params choices u)) t →
     t + left none_riding (run image params choices t) ≤ most_steps params
 left_within image params choices t fits more =
     let s : PlainState = run image params choices t in
@@ -182,35 +148,11 @@ all_earned s long done = done_earned s.image none_riding (length s.cores) s.core
 
 -- ---- the end
 
-end_first : (image : Contents) (params : Params) (choices : ℕ → ℕ) →
-    NotBefore image params choices (end_of image params choices)
-unfolding end_of
-end_first image params choices = fails_before (most_steps params) (is_over image params choices)
-
-pub end_within : (image : Contents) (params : Params) (choices : ℕ → ℕ) →
-    end_of image params choices ≤ most_steps params
-unfolding end_of
-end_within image params choices = first_within (most_steps params) (is_over image params choices)
-
-end_done : (image : Contents) (params : Params) (choices : ℕ → ℕ) → InRange params →
-    all_done (run image params choices (end_of image params choices)) ≡ true
-unfolding end_of
-end_done image params choices fits =
-    first_passes (most_steps params) (is_over image params choices)
-    (λ t more. (let le = left_within image params choices t fits more in omega arith))
-
 pub run_ends : (image : Contents) (params : Params) (choices : ℕ → ℕ) → InRange params →
     IsRunEnd image params choices (end_of image params choices)
 run_ends image params choices fits =
-    record { done = end_done image params choices fits; first = end_first image params choices }
-
--- a run has one end
-pub one_end : (image : Contents) (params : Params) (choices : ℕ → ℕ) (t : ℕ) → InRange params →
-    IsRunEnd image params choices t →
-    t ≡ end_of image params choices
-one_end image params choices t fits end =
-    one_first (is_over image params choices) t (end_of image params choices) end.done end.first
-    (end_done image params choices fits) (end_first image params choices)
+    first_end_is run all_done most_steps image params choices
+    (λ t more. (let le = left_within image params choices t fits more in omega arith))
 
 pub end_in_time : (image : Contents) (params : Params) (choices : ℕ → ℕ) → InRange params →
     end_of image params choices ≤ (2 * params.cores + 4) * total_retired (run image params choices
@@ -219,17 +161,11 @@ end_in_time image params choices fits =
     let e : ℕ = end_of image params choices in
     let s : PlainState = run image params choices e in
     let paid : e + total_owed s ≤ total_earned none_riding s =
-    steps_paid image params choices e fits (end_first image params choices) in
+    steps_paid image params choices e fits (run_ends image params choices fits).first in
     let all : total_earned none_riding s ≡ (2 * params.cores + 4) * total_retired s =
-    all_earned s (run_holds image params choices e fits).ports_there (end_done image params choices fits)
+    all_earned s (run_holds image params choices e fits).ports_there (run_ends image params choices fits).done
     ∙ ap (λ (cores : ℕ). (2 * cores + 4) * total_retired s) (run_cores image params choices e) in
     omega arith
-
-pub left_until_end : (image : Contents) (params : Params) (choices : ℕ → ℕ) (t : ℕ) → InRange params →
-    t ≤ end_of image params choices →
-    t + left none_riding (run image params choices t) ≤ most_steps params
-left_until_end image params choices t fits le =
-    left_within image params choices t fits (λ u lt. end_first image params choices u (omega arith))
 
 -- so many steps for each instruction fit a word
 pub few_steps : (more : ℕ) (params : Params) → Fits params → more ≤ 5 →

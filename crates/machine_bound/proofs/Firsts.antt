@@ -2,17 +2,20 @@
 use Rattle.std.proofs.Common.{◌≡◌, refl, ℕ, ◌+◌, ◌<◌, ◌≤◌, Bool, true, false, zero, suc, arith, inl, inr}
 use Rattle.std.specs.Prelude.{if◌then◌else◌}
 use Rattle.std.proofs.lemmas.Bool.{cases_eq, cases_lt}
-use Rattle.machine_bound.specs.Ends.{first_among}
+use Rattle.image_mem.specs.Contents.{Contents}
+use Rattle.rtr_types.specs.declared.params.Params.{Params}
+use Rattle.msi_state.specs.Choosing.{IsFirst}
+use Rattle.machine_bound.specs.Ends.{first_among, first_end}
 
 -- ---- the first number that passes a test
 
-record IsFirst (n : ℕ) (test : ℕ → Bool) (t u : ℕ) : Type 0 where
+record FirstAmong (n : ℕ) (test : ℕ → Bool) (t u : ℕ) : Type 0 where
   from : t ≤ u
   within : u ≤ t + n
   before : (v : ℕ) → t ≤ v → v < u → test v ≡ false
   found : u < t + n → test u ≡ true
 
-first_is : (n : ℕ) (test : ℕ → Bool) (t : ℕ) → IsFirst n test t (first_among n test t)
+first_is : (n : ℕ) (test : ℕ → Bool) (t : ℕ) → FirstAmong n test t (first_among n test t)
 first_is zero test t = record {
   from = omega arith;
   within = omega arith;
@@ -21,8 +24,8 @@ first_is zero test t = record {
 }
 first_is (suc n) test t = by_test (test t) refl (first_is n test (t + 1))
   where
-    by_test : (b : Bool) → test t ≡ b → IsFirst n test (t + 1) (first_among n test (t + 1)) →
-        IsFirst (suc n) test t (if b then t else first_among n test (t + 1))
+    by_test : (b : Bool) → test t ≡ b → FirstAmong n test (t + 1) (first_among n test (t + 1)) →
+        FirstAmong (suc n) test t (if b then t else first_among n test (t + 1))
     by_test true e rest = record {
       from = omega arith;
       within = omega arith;
@@ -73,9 +76,25 @@ not_after test t u before passes =
     elim (cases_lt u t) [ inr le ↦ le | inl lt ↦ absurd (let fails = before u lt in cc) ]
 
 -- two moments at which it first passes are one
-pub one_first : (test : ℕ → Bool) (t u : ℕ) → test t ≡ true → FailsBefore test t → test u ≡ true →
-    FailsBefore test u → t ≡ u
-one_first test t u passes before passes_too before_too =
-    let le = not_after test t u before passes_too in
-    let ge = not_after test u t before_too passes in
+pub one_first : (test : ℕ → Bool) (t u : ℕ) → IsFirst test t → IsFirst test u → t ≡ u
+one_first test t u here there =
+    let le = not_after test t u here.first there.done in
+    let ge = not_after test u t there.first here.done in
     omega arith
+
+-- ---- the end of a run
+
+module _ {S : Type 0} (run : Contents → Params → (choices : ℕ → ℕ) → (t : ℕ) → S) (all_done : S → Bool)
+    (most_steps : Params → ℕ) (image : Contents) (params : Params) (choices : ℕ → ℕ) where
+  pub first_end_within : first_end run all_done most_steps image params choices ≤ most_steps params
+  unfolding first_end
+  first_end_within = first_within (most_steps params) (λ t. all_done (run image params choices t))
+
+  -- a run that goes on for no more steps ends
+  pub first_end_is :
+      ((t : ℕ) → FailsBefore (λ u. all_done (run image params choices u)) t → t ≤ most_steps params) →
+      IsFirst (λ u. all_done (run image params choices u)) (first_end run all_done most_steps image params choices)
+  unfolding first_end
+  first_end_is few =
+      let over : ℕ → Bool = λ (t : ℕ). all_done (run image params choices t) in
+      record { done = first_passes (most_steps params) over few; first = fails_before (most_steps params) over }

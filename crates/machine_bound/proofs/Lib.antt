@@ -5,5 +5,6 @@ pub mod Requests
 pub mod Payments
 pub mod Capacity
 pub mod Firsts
+pub mod Paying
 pub mod Ends
 pub mod Promised

@@ -16,9 +16,15 @@ abbrev pub first_among : (n : ℕ) → (test : ℕ → Bool) → (t : ℕ) → �
 first_among zero test t = t
 first_among (suc n) test t = if test t then t else first_among n test (t + 1)
 
+-- the first moment at which a machine's run has ended, of those that it can have before most_steps
+unfoldable pub first_end : {S : Type 0} → (run : Contents → Params → (choices : ℕ → ℕ) → (t : ℕ) → S)
+    → (all_done : S → Bool) → (most_steps : Params → ℕ) → Contents → Params → (choices : ℕ → ℕ) → ℕ
+first_end run all_done most_steps image params choices =
+    first_among (most_steps params) (λ t. all_done (run image params choices t)) 0
+
 -- the first moment at which each core's program is done
-unfoldable pub end_of : Contents → Params → (choices : ℕ → ℕ) → ℕ
-end_of image params choices = first_among (most_steps params) (λ t. all_done (run image params choices t)) 0
+abbrev pub end_of : Contents → Params → (choices : ℕ → ℕ) → ℕ
+end_of image params choices = first_end run all_done most_steps image params choices
 
 -- What is promised of the ends of a machine's runs: by its state after so many choices, by when a run ends, and by how
 -- many instructions a state has had, each of which pays for 2 P + `more` steps, P the number of cores.

@@ -22,7 +22,8 @@ use Rattle.rv_core.specs.States.{starting}
 use Rattle.rv_core.specs.declared.outcome.Outcome.{Outcome}
 use Rattle.msi_state.specs.FinalMemory.{final_memory}
 use Rattle.machine_bound.specs.Ends.{end_of}
-use Rattle.machine_bound.proofs.Ends.{one_end}
+use Rattle.machine_bound.proofs.Ends.{run_ends}
+use Rattle.machine_bound.proofs.Firsts.{one_first}
 use Rattle.machine_plain.proofs.Shows.{plain_done}
 use Rattle.machine_invariant.specs.Holds.{MachineHolds}
 use Rattle.machine_invariant.proofs.Begins.{holds_run}
@@ -147,8 +148,10 @@ pub at_end : {R K : Type 0} (image : Contents) (params : Params) (schedule : Cho
     Fits params → all_done s ≡ true → RunsAt image params schedule t (plain s) rest →
     t ≡ end_of image params (choice_at schedule)
 at_end {R} {K} image params schedule t s rest fits done stands =
-    one_end image params (choice_at schedule) t (record { cores = fits.cores; limit = omega (arith, fits.limit) })
+    let choices : ℕ → ℕ = choice_at schedule in
+    one_first (λ u. all_done (run image params choices u)) t (end_of image params choices)
     (runs_end image params schedule t (plain s) rest (sym (plain_done s) ∙ done) stands)
+    (run_ends image params choices (record { cores = fits.cores; limit = omega (arith, fits.limit) }))
 
 -- the cores of a run's outcome, read off where it ended
 pub cores_are : {R K : Type 0} (image : Contents) (params : Params) (schedule : Choices) (t : ℕ) (s : State R K)

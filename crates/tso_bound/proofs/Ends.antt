@@ -1,8 +1,8 @@
 -- A run ends, and the instructions that executed in it have paid for its steps. What a run has earned rises with each
 -- step, and at the end no message and no access is pending, so nothing is owed: what is left over of 2 P + 5 steps an
 -- instruction was never made.
-use Rattle.std.proofs.Common.{◌≡◌, ◌∙◌, ap, refl, sym, ℕ, ◌+◌, ◌*◌, ◌<◌, ◌≤◌, ◌^◌, Bool, true, false, List, [], ◌∷◌}
-use Rattle.std.proofs.Common.{length, Option, Some, None, zero}
+use Rattle.std.proofs.Common.{◌≡◌, ◌∙◌, ap, refl, sym, ℕ, ◌+◌, ◌*◌, ◌<◌, ◌≤◌, ◌^◌, true, List, [], ◌∷◌}
+use Rattle.std.proofs.Common.{length, zero}
 use Rattle.std.proofs.Common.{suc, arith, inl, inr, ◌⊎◌}
 use Rattle.std.specs.Prelude.{map, replicate}
 use Rattle.std.specs.List.{sum_by, range_with_len}
@@ -22,10 +22,10 @@ use Rattle.msi_memory.specs.declared.port.Port.{Port}
 use Rattle.msi_memory.specs.Memories.{no_port, port_at, port_start}
 pub use Rattle.machine_bound.proofs.Ends.{InRange}
 use Rattle.machine_bound.proofs.Ends.{few_steps, owed_start}
-use Rattle.tso_state.specs.declared.moves.Move.{Move}
 use Rattle.tso_state.specs.States.{PlainState, BufferedCore, all_done, buffered_start}
-use Rattle.tso_state.specs.Runs.{plain_moves, chosen, chosen_of, executed, stepped_by, opening_state, run, IsRunEnd}
+use Rattle.tso_state.specs.Runs.{plain_moves, plain_step, executed, opening_state, run, IsRunEnd}
 use Rattle.tso_invariant.specs.Holds.{TsoHolds}
+use Rattle.machine_invariant.proofs.Choosing.{each_after}
 use Rattle.tso_invariant.proofs.Begins.{chosen_enabled, holds_run}
 pub use Rattle.tso_invariant.proofs.Begins.{run_cores}
 use Rattle.tso_invariant.proofs.Ending.{ended_still}
@@ -34,7 +34,8 @@ use Rattle.tso_bound.specs.Bound.{capacity, core_cost, empty_worth, left, lines_
 use Rattle.tso_bound.specs.Bound.{total_earned, total_owed}
 use Rattle.tso_bound.specs.Ends.{most_steps, end_of}
 use Rattle.tso_bound.proofs.Capacity.{capacity_kept, total_earned_le}
-use Rattle.machine_bound.proofs.Firsts.{FailsBefore, fails_before, first_passes, first_within, one_first}
+use Rattle.machine_bound.proofs.Firsts.{FailsBefore, first_end_is}
+use Rattle.machine_bound.proofs.Paying.{paid_until}
 use Rattle.tso_bound.proofs.Ports.{still_port}
 use Rattle.tso_bound.proofs.Steps.{earns}
 use Rattle.tso_bound.proofs.Sums.{sum_at_most}
@@ -113,69 +114,38 @@ paid_all n (t ∷ cores) =
 
 -- ---- along a run
 
--- where some move is enabled, a choice takes one
-chosen_none : (ms : List Move) (choice : ℕ) {X : Type 0} → 0 < length ms → chosen_of ms choice ≡ None → X
-chosen_none [] choice some e = absurd (omega arith)
-chosen_none (m ∷ ms) choice some e = absurd (cc)
-
--- each core has ended after t choices
-abbrev pub is_over : Contents → Params → (choices : ℕ → ℕ) → (t : ℕ) → Bool
-is_over image params choices t = all_done (run image params choices t)
-
--- the run is not yet at its end at any moment before this one
-abbrev pub NotBefore : Contents → Params → (choices : ℕ → ℕ) → (t : ℕ) → Type 0
-NotBefore image params choices t = FailsBefore (is_over image params choices) t
-
 pub run_holds : (image : Contents) (params : Params) (choices : ℕ → ℕ) (t : ℕ) → InRange params →
     TsoHolds none_riding none_carrying (run image params choices t)
 run_holds image params choices t fits = holds_run image params choices t fits.cores fits.limit
 
 -- the steps so far are paid for
 steps_paid : (image : Contents) (params : Params) (choices : ℕ → ℕ) (t : ℕ) → InRange params →
-    NotBefore image params choices t →
-    t + total_owed (run image params choices t) + params.cores * empty_worth ≤ total_earned (run image params choices t)
-steps_paid image params choices zero fits more =
+    FailsBefore (λ u. all_done (run image params choices u)) t →
+    t + (total_owed (run image params choices t) + params.cores * empty_worth)
+    ≤ total_earned (run image params choices t)
+steps_paid image params choices t fits more =
     let n : ℕ = length (opening_state image params).cores in
     let none = owed_start none_riding none_carrying params.cores in
     let worth = worth_start none_riding none_carrying n params.cores in
     let cost = cost_start params.limit n (range_with_len 0 params.cores) in
     let nothing = paid_start params.limit n (range_with_len 0 params.cores) in
-    omega arith
-steps_paid image params choices (suc t) fits more =
-    stepped (chosen s (choices t)) refl (more t (omega arith))
-    (steps_paid image params choices t fits (λ u lt. more u (omega arith)))
-  where
-    s : PlainState
-    s = run image params choices t
-
-    h : TsoHolds none_riding none_carrying s
-    h = run_holds image params choices t fits
-
-    stepped : (o : Option Move) → chosen s (choices t) ≡ o → all_done s ≡ false →
-        t + total_owed s + params.cores * empty_worth ≤ total_earned s →
-        suc t + total_owed (stepped_by s o) + params.cores * empty_worth ≤ total_earned (stepped_by s o)
-    stepped None e more so_far = chosen_none (plain_moves s) (choices t)
-        (some_move none_riding none_carrying s h more) e
-    stepped (Some m) e more so_far = let pays =
-        earns none_riding none_carrying s m tt (chosen_enabled s (choices t) m e) h in omega arith
+    paid_until plain_moves plain_step all_done (λ (s : PlainState). TsoHolds none_riding none_carrying s)
+    (λ (s : PlainState). total_owed s + params.cores * empty_worth) total_earned
+    (λ s h going. some_move none_riding none_carrying s h going)
+    (λ s choice m is h. (let pays = earns none_riding none_carrying s m tt (chosen_enabled s choice m is) h in
+    omega arith)) (opening_state image params) choices (λ u. run_holds image params choices u fits) (omega arith) t more
 
 -- no step changes the number of cores, nor what all instructions can pay for
 run_capacity : (image : Contents) (params : Params) (choices : ℕ → ℕ) (t : ℕ) →
     sum_by (capacity params.cores) (run image params choices t).cores ≡ most_steps params + params.cores * empty_worth
-run_capacity image params choices zero =
+run_capacity image params choices t =
     let many : length (range_with_len 0 params.cores) ≡ params.cores = length-range_with_len 0 params.cores in
-    capacity_start params.limit params.cores (range_with_len 0 params.cores)
-    ∙ ap (λ (n : ℕ). (2 * params.cores + 5) * (n * params.limit) + n * empty_worth) many
-run_capacity image params choices (suc t) = stepped (chosen (run image params choices t) (choices t))
-    (run_capacity image params choices t)
-  where
-    stepped : (o : Option Move) →
-        sum_by (capacity params.cores)
-        (run image params choices t).cores ≡ most_steps params + params.cores * empty_worth →
-        sum_by (capacity params.cores) (stepped_by (run image params choices t) o).cores ≡ most_steps
-        params + params.cores * empty_worth
-    stepped None e = e
-    stepped (Some m) e = capacity_kept none_riding none_carrying (run image params choices t) m tt params.cores ∙ e
+    each_after plain_moves plain_step
+    (λ (s : PlainState). sum_by (capacity params.cores) s.cores ≡ most_steps params + params.cores * empty_worth)
+    (λ s choice m is e. capacity_kept none_riding none_carrying s m tt params.cores ∙ e)
+    (opening_state image params) choices t
+    (capacity_start params.limit params.cores (range_with_len 0 params.cores)
+    ∙ ap (λ (n : ℕ). (2 * params.cores + 5) * (n * params.limit) + n * empty_worth) many)
 
 -- what all instructions can pay for, of the state's own number of cores
 capacity_is : (image : Contents) (params : Params) (choices : ℕ → ℕ) (t : ℕ) →
@@ -186,12 +156,12 @@ capacity_is image params choices t =
     ∙ run_capacity image params choices t
 
 -- the steps so far and those that are left are at most what all instructions can pay for
-left_within : (image : Contents) (params : Params) (choices : ℕ → ℕ) (t : ℕ) → InRange params →
-    NotBefore image params choices t →
+pub left_within : (image : Contents) (params : Params) (choices : ℕ → ℕ) (t : ℕ) → InRange params →
+    FailsBefore (λ u. all_done (run image params choices u)) t →
     t + left (run image params choices t) ≤ most_steps params
 left_within image params choices t fits more =
     let s : PlainState = run image params choices t in
-    let so_far : t + total_owed s + params.cores * empty_worth ≤ total_earned s =
+    let so_far : t + (total_owed s + params.cores * empty_worth) ≤ total_earned s =
     steps_paid image params choices t fits more in
     let at_most : total_earned s ≤ sum_by (capacity (length s.cores)) s.cores + total_owed s =
     total_earned_le none_riding none_carrying s (run_holds image params choices t fits) in
@@ -224,35 +194,15 @@ ended_worth s h done =
 
 -- ---- the end
 
-end_first : (image : Contents) (params : Params) (choices : ℕ → ℕ) →
-    NotBefore image params choices (end_of image params choices)
-unfolding end_of
-end_first image params choices = fails_before (most_steps params) (is_over image params choices)
-
-pub end_within : (image : Contents) (params : Params) (choices : ℕ → ℕ) →
-    end_of image params choices ≤ most_steps params
-unfolding end_of
-end_within image params choices = first_within (most_steps params) (is_over image params choices)
-
-pub end_done : (image : Contents) (params : Params) (choices : ℕ → ℕ) → InRange params →
-    all_done (run image params choices (end_of image params choices)) ≡ true
-unfolding end_of
-end_done image params choices fits =
-    first_passes (most_steps params) (is_over image params choices)
-    (λ t more. (let le = left_within image params choices t fits more in omega arith))
-
 pub run_ends : (image : Contents) (params : Params) (choices : ℕ → ℕ) → InRange params →
     IsRunEnd image params choices (end_of image params choices)
 run_ends image params choices fits =
-    record { done = end_done image params choices fits; first = end_first image params choices }
+    first_end_is run all_done most_steps image params choices
+    (λ t more. (let le = left_within image params choices t fits more in omega arith))
 
--- a run has one end
-pub one_end : (image : Contents) (params : Params) (choices : ℕ → ℕ) (t : ℕ) → InRange params →
-    IsRunEnd image params choices t →
-    t ≡ end_of image params choices
-one_end image params choices t fits end =
-    one_first (is_over image params choices) t (end_of image params choices) end.done end.first
-    (end_done image params choices fits) (end_first image params choices)
+pub end_done : (image : Contents) (params : Params) (choices : ℕ → ℕ) → InRange params →
+    all_done (run image params choices (end_of image params choices)) ≡ true
+end_done image params choices fits = (run_ends image params choices fits).done
 
 pub end_in_time : (image : Contents) (params : Params) (choices : ℕ → ℕ) → InRange params →
     end_of image params choices ≤ (2 * params.cores + 5) * executed
@@ -260,8 +210,8 @@ pub end_in_time : (image : Contents) (params : Params) (choices : ℕ → ℕ) �
 end_in_time image params choices fits =
     let e : ℕ = end_of image params choices in
     let s : PlainState = run image params choices e in
-    let so_far : e + total_owed s + params.cores * empty_worth ≤ total_earned s =
-    steps_paid image params choices e fits (end_first image params choices) in
+    let so_far : e + (total_owed s + params.cores * empty_worth) ≤ total_earned s =
+    steps_paid image params choices e fits (run_ends image params choices fits).first in
     let worth : memory_worth (length s.cores) s.memory ≤ length s.cores * empty_worth =
     ended_worth s (run_holds image params choices e fits) (end_done image params choices fits) in
     let many : length s.cores * empty_worth ≡ params.cores * empty_worth = ap (λ (n : ℕ). n * empty_worth)
@@ -269,12 +219,6 @@ end_in_time image params choices fits =
     let all : sum_by (paid (length s.cores)) s.cores ≡ (2 * params.cores + 5) * executed s =
     paid_all (length s.cores) s.cores ∙ ap (λ (n : ℕ). (2 * n + 5) * executed s) (run_cores image params choices e) in
     omega arith
-
-pub left_until_end : (image : Contents) (params : Params) (choices : ℕ → ℕ) (t : ℕ) → InRange params →
-    t ≤ end_of image params choices →
-    t + left (run image params choices t) ≤ most_steps params
-left_until_end image params choices t fits le =
-    left_within image params choices t fits (λ u lt. end_first image params choices u (omega arith))
 
 pub most_steps_few : (params : Params) → Fits params → most_steps params < 2 ^ 32
 most_steps_few params fits = few_steps 5 params fits (omega arith)

@@ -14,7 +14,8 @@ use Rattle.rv_core.specs.declared.outcome.Outcome.{Outcome}
 use Rattle.schedule_pick.specs.Choices.{Choices, choice_at, choices_after}
 use Rattle.schedule_pick.proofs.ChoiceLemmas.{following_law}
 use Rattle.tso_bound.specs.Ends.{end_of}
-use Rattle.tso_bound.proofs.Ends.{end_done, one_end}
+use Rattle.machine_bound.proofs.Firsts.{one_first}
+use Rattle.tso_bound.proofs.Ends.{end_done, run_ends}
 use Rattle.tso_invariant.proofs.Begins.{run_cores}
 use Rattle.tso_invariant.proofs.Begins.{holds_run}
 use Rattle.tso_state.specs.declared.moves.Move.{Move}
@@ -118,8 +119,10 @@ pub runs_end : (image : Contents) (params : Params) (schedule : Choices) (t : �
     Fits params → all_done s ≡ true → RunsAt image params schedule t s rest →
     t ≡ end_of image params (choice_at schedule)
 runs_end image params schedule t s rest fits done stands =
-    one_end image params (choice_at schedule) t (record { cores = fits.cores; limit = omega (arith, fits.limit) })
+    let choices : ℕ → ℕ = choice_at schedule in
+    one_first (λ u. all_done (run image params choices u)) t (end_of image params choices)
     (record { done = sym (ap all_done stands.state) ∙ done; first = stands.going })
+    (run_ends image params choices (record { cores = fits.cores; limit = omega (arith, fits.limit) }))
 
 -- each core's number is its place
 pub numbered : (image : Contents) (params : Params) (schedule : Choices) (t : ℕ) (s : PlainState) (rest : Choices) →
