@@ -1,5 +1,5 @@
 -- What a run of the machine comes to.
-use Rattle.std.specs.Prelude.{◌≡◌, ℕ, ◌+◌, ◌<◌, ◌≤◌, false, All, List, length, map}
+use Rattle.std.specs.Prelude.{◌≡◌, ℕ, ◌<◌, ◌≤◌, All, List, length, map}
 use Rattle.rtr_types.specs.Parameters.{Fits}
 use Rattle.std.specs.List.{range_with_len}
 use Rattle.image_mem.specs.Contents.{Contents}
@@ -7,6 +7,7 @@ use Rattle.rtr_types.specs.declared.params.Params.{Params}
 use Rattle.rv_core.specs.declared.outcome.LoadNote.{LoadNote}
 use Rattle.rv_core.specs.declared.outcome.Outcome.{Outcome}
 use Rattle.schedule_pick.specs.Choices.{Choices, choice_at}
+use Rattle.schedule_pick.specs.Standing.{StandsIn}
 use Rattle.machine_bound.specs.Ends.{end_of}
 use Rattle.msi_state.specs.States.{PlainState, all_done}
 use Rattle.msi_state.specs.Runs.{accesses, loads_of, outcome_at, run}
@@ -31,12 +32,9 @@ RunFitsLaw =
     → RunFits image params (outcome_of image params schedule)
 
 -- a machine in this state, with these choices left, stands t choices into the run, which hasn't ended before
-pub record RunsAt (image : Contents) (params : Params) (schedule : Choices) (t : ℕ) (s : PlainState) (rest : Choices)
-    : Type 0 where
-  pub state : s ≡ run image params (choice_at schedule) t
-  pub cores : length s.cores ≡ params.cores
-  pub rest_is : (u : ℕ) → choice_at rest u ≡ choice_at schedule (t + u)
-  pub going : (u : ℕ) → u < t → all_done (run image params (choice_at schedule) u) ≡ false
+abbrev pub RunsAt : Contents → Params → Choices → (t : ℕ) → PlainState → (rest : Choices) → Type 0
+RunsAt image params schedule t s rest =
+    StandsIn (run image params) all_done (λ (now : PlainState). length now.cores) params.cores schedule t s rest
 
 -- and these loads were told
 pub record StandsAt (image : Contents) (params : Params) (schedule : Choices) (t : ℕ) (s : PlainState)

@@ -1,5 +1,5 @@
 -- What a run of cores with store buffers comes to under a schedule, and where it stands before.
-use Rattle.std.specs.Prelude.{◌≡◌, ℕ, ◌+◌, ◌<◌, false, List, length, map}
+use Rattle.std.specs.Prelude.{◌≡◌, ℕ, List, length, map}
 use Rattle.std.specs.List.{range_with_len}
 use Rattle.image_mem.specs.Contents.{Contents}
 use Rattle.rtr_types.specs.Parameters.{Fits}
@@ -7,6 +7,7 @@ use Rattle.rtr_types.specs.declared.params.Params.{Params}
 use Rattle.rv_core.specs.declared.outcome.LoadNote.{LoadNote}
 use Rattle.rv_core.specs.declared.outcome.Outcome.{Outcome}
 use Rattle.schedule_pick.specs.Choices.{Choices, choice_at}
+use Rattle.schedule_pick.specs.Standing.{StandsIn}
 use Rattle.tso_bound.specs.Ends.{end_of}
 use Rattle.tso_state.specs.Runs.{all_told, outcome_at, run}
 use Rattle.tso_state.specs.States.{PlainState, all_done}
@@ -18,12 +19,9 @@ tso_outcome_of image params schedule =
     outcome_at image params (choice_at schedule) (end_of image params (choice_at schedule))
 
 -- a machine in this state, with these choices left, stands t choices into the run, which hasn't ended before
-pub record RunsAt (image : Contents) (params : Params) (schedule : Choices) (t : ℕ) (s : PlainState) (rest : Choices)
-    : Type 0 where
-  pub state : s ≡ run image params (choice_at schedule) t
-  pub cores : length s.cores ≡ params.cores
-  pub rest_is : (u : ℕ) → choice_at rest u ≡ choice_at schedule (t + u)
-  pub going : (u : ℕ) → u < t → all_done (run image params (choice_at schedule) u) ≡ false
+abbrev pub RunsAt : Contents → Params → Choices → (t : ℕ) → PlainState → (rest : Choices) → Type 0
+RunsAt image params schedule t s rest =
+    StandsIn (run image params) all_done (λ (now : PlainState). length now.cores) params.cores schedule t s rest
 
 -- what each core's loads and atomic memory operations read that were told after t choices
 abbrev pub told_loads : Contents → Params → (choices : ℕ → ℕ) → (t : ℕ) → List (List LoadNote)
