@@ -1,16 +1,7 @@
 -- Each value is computed.
 use Rattle.std.proofs.Common.{refl}
-use Rattle.image_mem.specs.Contents.{fetched, opening_word}
-use Rattle.image_mem.specs.Lanes.{merged}
-use Rattle.rtr_types.specs.CoreSets.{has, with_core, without_core}
-use Rattle.rv_core.specs.Atomics.{exchanged}
-use Rattle.rv_core.specs.States.{starting, register, written, next_pc, result_of, halt_after, retired, word_after}
-use Rattle.rv_core.specs.Operations.{computed, is_taken, moved, without_low_bit, loaded}
-use Rattle.rv_core.specs.Steps.{instruction_at, need_to_jump, need_to_access, need_of, need_at_pc, need, after, wrote}
-use Rattle.rv_decode.specs.Fields.{field, signed}
-use Rattle.rv_decode.specs.Table.{jump_and_link_register, branch, load, store, constant_shift, alu_immediate}
-use Rattle.rv_decode.specs.Table.{alu_register, atomic, fence, system, decoded}
 use Rattle.rv_core.specs.StoreMask.{store_mask}
+use Rattle.msi_examples.proofs.Executing.{executing}
 use Rattle.tso_examples.specs.Examples.{BothLogged, BytesBuffered, MixedEnds, OneLogged, OwnStoreSeen, SumsInTurn}
 
 -- all examples
@@ -23,11 +14,7 @@ pub record AllSo : Type 0 where
   pub mixed_ends : MixedEnds
 
 pub all_so : AllSo
-unfolding need need_at_pc need_of need_to_jump need_to_access fetched opening_word merged has with_core without_core
-    decoded jump_and_link_register branch load
-    store constant_shift alu_immediate alu_register atomic fence system field signed starting register written is_taken
-    moved without_low_bit computed loaded
-    next_pc result_of halt_after retired word_after instruction_at after wrote exchanged store_mask
+unfolding executing store_mask
 all_so =
     record {
       both_logged = record { ends = refl; not_before = refl; leaves = refl; finds = refl; logs = refl; orders = refl };
