@@ -91,6 +91,7 @@ impl Direction {
         ensures limit { IsLimit self audited.now.recording result }
         ensures closed { IsClosed audited.now.which audited.now.recording result }
     {
+        // The recording is valid, so each count lies within its total.
         let _ = audited.recording();
         match self {
             Direction::Forward => whole(audited),

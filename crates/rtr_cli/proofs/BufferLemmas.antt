@@ -1,6 +1,5 @@
--- What a replay of a recording of cores with store buffers comes to: it is an outcome over the recording's image,
--- and nothing
--- but want of memory refuses the recording of a run.
+-- What a replay of a recording of cores with store buffers comes to: it is an outcome over the recording's image, and
+-- nothing but want of memory refuses the recording of a run.
 use Rattle.std.proofs.Common.{◌≡◌, ◌∙◌, refl, sym, subst}
 use Rattle.replay_core.specs.declared.answers.ReplayFault.{ReplayFault}
 use Rattle.replay_core.specs.declared.answers.ReplayFault.TheVariants as replays

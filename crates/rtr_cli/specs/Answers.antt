@@ -45,10 +45,8 @@ GivesNothing command exit left left' got got' =
 
 -- what a command's exit says of the bytes that the input had left and of those that the output got. The input of a
 -- command that takes none is as it was.
--- At Done the output got exactly what the command makes of the input, and at WriteFault a part of it; at both that
--- is as
--- promised. At ReadFault no more was taken than the command takes, and at OutOfMemory at most one byte
--- more.
+-- At Done the output got exactly what the command makes of the input, and at WriteFault a part of it; at both that is
+-- as promised. At ReadFault no more was taken than the command takes, and at OutOfMemory at most one byte more.
 abbrev pub Answers : Command → Exit → (left left' got got' : Option (List ℕ)) → Type 0
 Answers command exits.Done left left' got got' =
     (input : List ℕ) × (out : List ℕ) × IsTaken (most_of command) left left' input

@@ -180,8 +180,7 @@ abbrev pub thin_checked_lines : Thinned → List ℕ
 thin_checked_lines t = needed_lines (length (vectors_of t.recording))
 
 -- what the low order of a recording of cores with store buffers comes to, where each logged load takes its word, and
--- the
--- text of it
+-- the text of it
 abbrev pub tso_outcome : TsoRecording → Outcome
 tso_outcome r = valued_played (tso_given r) (tso_plan r) (low_order (tso_plan r))
 
@@ -281,8 +280,7 @@ TsoStops r (faults.Undetermined first second) = ⊥
 TsoStops r faults.OutOfMemory = Unit {0}
 
 -- the command audits, or replays, the recording that the input spells by a log, and this is the answer. Where the
--- command names an
--- instruction, the recording has it
+-- command names an instruction, the recording has it
 abbrev pub AuditFails : Command → (input : List ℕ) → AuditFault → Type 0
 AuditFails (Record run) input fault = ⊥
 AuditFails (Run run loads) input fault = ⊥
@@ -471,13 +469,11 @@ abbrev pub IsReplayed : Which → Recording → Type 0
 IsReplayed which r = IsDeterminate which r × EveryOrderAgrees which r
 
 -- a recording of cores with store buffers is replayed: its low order is whole and plays. Where the log orders each two
--- accesses of the low order that conflict, every order that obeys it plays, gives each load the same word, and can
--- go on
--- until it is whole, where it ends as the low order does. And where the recording is one of a run (the instructions
+-- accesses of the low order that conflict, every order that obeys it plays, gives each load the same word, and can go
+-- on until it is whole, where it ends as the low order does. And where the recording is one of a run (the instructions
 -- that were told play with the recorded words, and the log is the least set of their accesses), every such order
--- replays
--- that run: it gives each load the run's word, and is whole or can go on; a whole one ends in the run's memory and
--- cores
+-- replays that run: it gives each load the run's word, and is whole or can go on; a whole one ends in the run's memory
+-- and cores
 pub record IsTsoReplayed (r : TsoRecording) : Type 0 where
   pub whole : IsWhole (tso_plan r) (low_order (tso_plan r))
   pub plays : ValuedPlays (tso_given r) (tso_plan r) (start (tso_plan r)) (low_order (tso_plan r))
@@ -487,13 +483,12 @@ pub record IsTsoReplayed (r : TsoRecording) : Type 0 where
 
 -- of the recording of a run of the image of these bytes by cores with store buffers. The run ended, each core's program
 -- being done and no access pending. The recording is valid and its reduced log is the least set of the accesses that
--- the
--- run ordered; its logged loads are those that left their core's queue where the core's port couldn't read the word, or
--- where the word differed from what the load got, and no others; its spelling is read back as it. Every order that
--- obeys the log replays the run with the logged words: it
--- gives each load and atomic memory operation the word that it got in the run, and is whole or can go on; a whole one
--- ends in the run's memory and cores. So `tsoreplay` of the spelling prints what `tsorun` prints of the same image and
--- options, and gives nothing for no other reason than want of memory
+-- the run ordered; its logged loads are those that left their core's queue where the core's port couldn't read the
+-- word, or where the word differed from what the load got, and no others; its spelling is read back as it. Every order
+-- that obeys the log replays the run with the logged words: it gives each load and atomic memory operation the word
+-- that it got in the run, and is whole or can go on; a whole one ends in the run's memory and cores. So `tsoreplay` of
+-- the spelling prints what `tsorun` prints of the same image and options, and gives nothing for no other reason than
+-- want of memory
 pub record KeepsTsoRun (params : Params) (choices : List ℕ) (seed : ℕ) (bytes : List ℕ) : Type 0 where
   pub ended : IsTsoRunEnd (image_of params bytes) params (choice_at (choices_of choices seed))
       (tso_end_of (image_of params bytes) params (choice_at (choices_of choices seed)))

@@ -64,8 +64,7 @@ pub record IsOfCertify (c : Certificate) : Type 0 where
   pub certifies : Certifies recording c
 
 -- the recording is one of a run of cores with store buffers: the instructions that were told play with the recorded
--- words,
--- and the log is the least set of their accesses
+-- words, and the log is the least set of their accesses
 pub record IsOfBuffers (r : TsoRecording) : Type 0 where
   pub valid : IsTso r
   pub list : List Telling
@@ -132,10 +131,9 @@ pub record RecordingIsAccepted (out : List ℕ) : Type 0 where
   pub migrated : Accepts Migrate out
   pub certified : Accepts Certify out
 
--- so what `record` writes is accepted by each command that reads recordings, and so is what `migrate` makes of it;
--- what `certify` writes of a recording that is determinate is accepted by `check`; and what `tsorecord` writes of an
--- image
--- of bytes is accepted by `tsoreplay`
+-- so what `record` writes is accepted by each command that reads recordings, and so is what `migrate` makes of one that
+-- `certify` accepts; what `certify` writes of a recording that is determinate is accepted by `check`, and what
+-- `thin --certify` writes by `checkthin`; and what `tsorecord` writes of an image of bytes is accepted by `tsoreplay`
 pub record WrittenIsAccepted : Type 0 where
   pub recorded : (run : RunWords) (input out : List ℕ) → Fits run.params → length input ≤ run_bytes_max run
       → Makes (Record run) input out → RecordingIsAccepted out

@@ -47,8 +47,7 @@ abbrev pub joint_lines : (loads : Bool) → TableEnd → Recording → List ℕ
 joint_lines loads closed r = state_lines closed.outcome (recorded_image r) loads
 
 -- the table was closed behind a replay of this recording, of whose play it has the outcome and each core's accesses;
--- and the
--- output got the text of what it comes to
+-- and the output got the text of what it comes to
 abbrev pub ClosesWith : Asked → TableEnd → (got got' : Option (List ℕ)) → Recording → Type 0
 ClosesWith asked closed got got' r =
     Appends got got' (joint_lines asked.loads closed r) × IsEnd (plan_of asked.which r) closed

@@ -40,8 +40,10 @@ pub fn versions_are_told_apart()
     ensures { VersionsAreApart }
 {}
 
-/// What a command accepts it refuses for want of memory alone, and what `record`, `migrate`, `certify` and `thin` write
-/// is accepted by the commands that read it.
+/// What a command accepts it refuses for want of memory alone. What `record` writes, and what `migrate` makes of it, is
+/// accepted by each command that reads a recording (by `at` where it has the instruction, by `thin` where it has few
+/// vectors), what `certify` writes by `check`, what `thin --certify` writes by `checkthin`, and what `tsorecord` writes
+/// by `tsoreplay`.
 pub fn completeness_laws()
     ensures accepted { AcceptedIsNotRefused }
     ensures written { WrittenIsAccepted }

@@ -50,7 +50,7 @@ fn shape_name(shape: Shape) -> &'static str
     }
 }
 
-// The instructions that all cores retired. 128 bits hold the sum whatever the totals are.
+/// The instructions that all cores retired. 128 bits hold the sum whatever the totals are.
 fn sum_of(totals: &[u32]) -> u128
     ensures { result ≡ sum_by (λ t. t) totals.now }
 {
@@ -61,7 +61,7 @@ fn sum_of(totals: &[u32]) -> u128
     sum
 }
 
-// The vectors of all pairs. 128 bits hold their number whatever the lists are.
+/// The vectors of all pairs. 128 bits hold their number whatever the lists are.
 fn vector_count(regulated: &[Items<StrideVector>]) -> u128
     requires { length regulated.now < 2 ^ 16 }
     ensures { result ≡ sum_by length regulated.now }

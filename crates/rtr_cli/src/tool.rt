@@ -29,7 +29,10 @@ use tool_words::{Command, meaning, what_words_mean_fits};
 /// At `Done` of `record`, for every image, number of cores, limit and schedule: the recording's reduced log is
 /// the least set of conflict edges that with program order implies the order of every two accesses that
 /// conflict in the run, the regulated log implies it, and every order that obeys either log gives each load
-/// the run's value and the run's final memory, and is never stuck (`KeepsRun` among what is promised).
+/// the run's value and the run's final memory, and is never stuck (`KeepsRun` among what is promised). At `Done`
+/// of `tsorecord` the same is promised of the accesses that the run of cores with store buffers ordered, by its
+/// reduced log (`KeepsTsoRun`). At `Done` of `tsoreplay` the low order of that log is whole and plays with the logged
+/// words; whether the log orders all conflicts isn't asked (`IsTsoReplayed`).
 ///
 /// `Usage` comes exactly where the words mean nothing, and then neither input nor output is touched.
 /// `gen` and `soak` take no input, and leave it as it was. `TooLarge` comes exactly where the input has more bytes
@@ -38,12 +41,13 @@ use tool_words::{Command, meaning, what_words_mean_fits};
 /// first fault; `record` and `run` do with such a file what they do without the flag with its flat image. `Bad` comes
 /// exactly where the input was read to its end and has no reading, with the first part that has none. `NoInstr` comes
 /// in `at` alone, exactly where the recording doesn't have the instruction that the words name, whatever an audit
-/// would answer. `Stuck`, `Short` and `Undetermined` come in `replay`, `certify`, `check`, `at`, `thin` and
-/// `checkthin` alone, exactly where the input spells a recording, or a certificate or a thin file of one, which has the
-/// instruction in `at`, and by the chosen log its low order ends before it is whole, falls short, or has two accesses
-/// unordered that conflict; `certify` and `check` go by the reduced log, and `thin` and `checkthin` by the regulated
-/// one. `CheckFailed` comes in `certify` and `check` alone, where that isn't so: in `certify` exactly where the reduced
-/// log isn't least, and in `check` exactly where the certificate doesn't show it, with the first thing that fails.
+/// would answer. `Stuck` and `Short` come in `replay`, `certify`, `check`, `at`, `thin`, `checkthin` and `tsoreplay`
+/// alone, and `Undetermined` in these but `tsoreplay`, exactly where the input spells a recording, or a certificate or
+/// a thin file of one, which has the instruction in `at`, and by the chosen log its low order ends before it is whole,
+/// falls short, or has two accesses unordered that conflict; `certify`, `check` and `tsoreplay` go by the reduced log,
+/// `tsoreplay` with the logged words, and `thin` and `checkthin` by the regulated one. `CheckFailed` comes in
+/// `certify` and `check` alone, where that isn't so: in `certify` exactly where the reduced log isn't least, and in
+/// `check` exactly where the certificate doesn't show it, with the first thing that fails.
 /// Likewise `TooMany` comes in `thin` alone, exactly where there are more vectors or more edges of them than are tried,
 /// and `NotShown` in `checkthin` alone, exactly where a vector isn't shown to be needed, with the first such.
 /// `ReadFault` and `WriteFault` come only where the count of faults of the input or the output rose in this

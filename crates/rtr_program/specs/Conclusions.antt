@@ -22,10 +22,8 @@ AnswersMeaning None exit left left' got got' = (exit ≡ exits.Usage) × Keeps l
 AnswersMeaning (Some command) exit left left' got got' = Answers command exit left left' got got'
 
 -- the exit of words with this meaning, by what became of input and output and of their counts of faults. A fault is
--- told
--- only where the count of its stream rose; and of what the command accepts it makes its whole output, unless memory
--- runs
--- out or a stream fails
+-- told only where the count of its stream rose; and of what the command accepts it makes its whole output, unless
+-- memory runs out or a stream fails
 pub record IsAnswerOf (meant : Option Command) (exit : Exit) (left left' got got' : Option (List ℕ))
     (read read' written written' : ℕ) : Type 0 where
   pub answers : AnswersMeaning meant exit left left' got got'
