@@ -1,7 +1,6 @@
 pub mod AtHand
 pub mod Beginning
 pub mod Choosing
-pub mod Counting
 pub mod Elsewhere
 pub mod Moves
 pub mod Renewed

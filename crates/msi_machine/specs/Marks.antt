@@ -6,9 +6,10 @@ use Rattle.rtr_types.specs.declared.TheConstants.{CORES_MAX}
 use Rattle.rtr_types.specs.declared.instr.Instr.{Instr}
 use Rattle.move_marks.specs.declared.marks.MarkedMove.{MarkedMove}
 use Rattle.move_marks.specs.declared.marks.MoveKind.{MoveKind}
-use Rattle.move_marks.specs.declared.marks.MoveKind.TheVariants.{Own, Request, Response, FromHome}
+use Rattle.move_marks.specs.declared.marks.MoveKind.TheVariants.{Own}
 use Rattle.move_marks.specs.Kinds.{marked as marked_in, set_of}
 use Rattle.move_marks.specs.Ports.{PortsMarked, PortsMarkedBut}
+use Rattle.machine_ports.specs.Marks.{move_by}
 use Rattle.msi_state.specs.declared.moves.Move.{Move}
 use Rattle.msi_state.specs.declared.moves.Move.TheVariants.{Core as CoreMove, Request as RequestMove}
 use Rattle.msi_state.specs.declared.moves.Move.TheVariants.{Response as ResponseMove, FromHome as MessageMove}
@@ -18,10 +19,7 @@ use Rattle.msi_machine.specs.declared.marks.Marks.{Marks}
 
 -- the move of a kind at a core
 abbrev pub made_of : MoveKind → ℕ → Move
-made_of Own c = CoreMove c
-made_of Request c = RequestMove c
-made_of Response c = ResponseMove c
-made_of FromHome c = MessageMove c
+made_of = move_by (λ c. CoreMove c) (λ c. RequestMove c) (λ c. ResponseMove c) (λ c. MessageMove c)
 
 abbrev pub move_of : MarkedMove → Move
 move_of x = made_of x.kind x.core

@@ -1,8 +1,6 @@
-pub mod AtHand
 pub mod AtPort
 pub mod Beginning
 pub mod Choosing
-pub mod Counting
 pub mod Doing
 pub mod Elsewhere
 pub mod Ended

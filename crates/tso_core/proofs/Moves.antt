@@ -150,23 +150,17 @@ module _ {R K : Type 0} where
       (order_moves riding carrying rider s t c port is) refl
 
   -- ---- a move changes no requests but those of its own core
-  requests_stay : (riding : Riding R) (carrying : Carrying K) (rider : R) (s : State R K) (m : Move) (d : ℕ) →
-      core_of m < length s.memory.ports →
-      d ≢ core_of m → requests_at (step riding carrying rider s m).memory.ports d ≡ requests_at s.memory.ports d
-  requests_stay riding carrying rider s (CoreMove c) d within other =
-      requests_other carrying s.memory (step riding carrying rider s (CoreMove c)).memory c
-      (core_moves riding carrying rider s (step riding carrying rider s (CoreMove c)) c within refl).memory d other
-  requests_stay riding carrying rider s (OrderMove c) d within other =
-      requests_other carrying s.memory (step riding carrying rider s (OrderMove c)).memory c
-      (order_moves riding carrying rider s (step riding carrying rider s (OrderMove c)) c within refl).memory d other
-  requests_stay riding carrying rider s (MessageMove c) d within other =
-      requests_other carrying s.memory (step riding carrying rider s (MessageMove c)).memory c
-      (message_moves riding carrying rider s (step riding carrying rider s (MessageMove c)) c within refl).memory d
-      other
-  requests_stay riding carrying rider s (RequestMove c) d within other =
-      (request_stays riding carrying s.memory c).requests d other
-  requests_stay riding carrying rider s (ResponseMove c) d within other =
-      (response_stays riding carrying s.memory c).requests d other
+  module _ (riding : Riding R) (carrying : Carrying K) (rider : R) (s : State R K) where
+    requests_stay : (m : Move) (d : ℕ) → core_of m < length s.memory.ports → d ≢ core_of m →
+        requests_at (step riding carrying rider s m).memory.ports d ≡ requests_at s.memory.ports d
+    requests_stay (CoreMove c) d within other =
+        requests_other carrying s.memory _ c (core_moves riding carrying rider s _ c within refl).memory d other
+    requests_stay (OrderMove c) d within other =
+        requests_other carrying s.memory _ c (order_moves riding carrying rider s _ c within refl).memory d other
+    requests_stay (MessageMove c) d within other =
+        requests_other carrying s.memory _ c (message_moves riding carrying rider s _ c within refl).memory d other
+    requests_stay (RequestMove c) d within other = (request_stays riding carrying s.memory c).requests d other
+    requests_stay (ResponseMove c) d within other = (response_stays riding carrying s.memory c).requests d other
 
   -- so where each head's block had room, only the mover's may have none
   pub others_roomy : (riding : Riding R) (carrying : Carrying K) (rider : R) (old new : Machinery R K) (m : Move) →

@@ -2,7 +2,6 @@ pub mod Machineries
 pub mod Numbers
 pub mod Queues
 pub mod Moving
-pub mod Writers
 pub mod Steppings
 pub mod TimedSteps
 pub mod Marks

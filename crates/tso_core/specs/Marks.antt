@@ -4,10 +4,11 @@ use Rattle.access_times.specs.Riding.{Riding, Carrying}
 use Rattle.rtr_types.specs.CoreSets.{has}
 use Rattle.move_marks.specs.declared.marks.MarkedMove.{MarkedMove}
 use Rattle.move_marks.specs.declared.marks.MoveKind.{MoveKind}
-use Rattle.move_marks.specs.declared.marks.MoveKind.TheVariants.{Own, Request, Response, FromHome}
+use Rattle.move_marks.specs.declared.marks.MoveKind.TheVariants.{Own}
 use Rattle.move_marks.specs.Kinds.{marked_at_ports, set_of}
 use Rattle.move_marks.specs.Members.{members}
 use Rattle.move_marks.specs.Ports.{PortsMarked, PortsMarkedBut}
+use Rattle.machine_ports.specs.Marks.{move_by}
 use Rattle.tso_state.specs.declared.moves.Move.{Move}
 use Rattle.tso_state.specs.declared.moves.Move.TheVariants.{Core as CoreMove, Order as OrderMove}
 use Rattle.tso_state.specs.declared.moves.Move.TheVariants.{Request as RequestMove, Response as ResponseMove}
@@ -18,10 +19,7 @@ use Rattle.tso_core.specs.declared.marks.Marks.{Marks}
 
 -- the move of a kind at a core
 abbrev pub made_of : MoveKind → ℕ → Move
-made_of Own c = CoreMove c
-made_of Request c = RequestMove c
-made_of Response c = ResponseMove c
-made_of FromHome c = MessageMove c
+made_of = move_by (λ c. CoreMove c) (λ c. RequestMove c) (λ c. ResponseMove c) (λ c. MessageMove c)
 
 abbrev pub move_of : MarkedMove → Move
 move_of x = made_of x.kind x.core

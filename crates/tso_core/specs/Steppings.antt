@@ -14,7 +14,7 @@ use Rattle.tso_plain.specs.Plain.{plain}
 use Rattle.tso_core.specs.Machineries.{Machinery}
 use Rattle.tso_core.specs.Numbers.{IsNumbered}
 use Rattle.tso_core.specs.Moving.{StepsTo}
-use Rattle.tso_core.specs.Writers.{OneWriterEach}
+use Rattle.machine_ports.specs.Writers.{OneWriterEach}
 
 -- The move is the one that a step takes by this choice: of the moves that can be made, of which there is
 -- always one, that which the choice numbers, counted around. The plain machine takes the same. Its message

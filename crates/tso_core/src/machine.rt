@@ -20,7 +20,7 @@ ghost use Rattle.tso_core.specs.Machineries.{heads_roomy};
 ghost use Rattle.tso_core.specs.Marks.{AllMarked, marked};
 ghost use Rattle.tso_core.specs.Steppings.{HasMoved, IsTaken, KeepsPromises};
 ghost use Rattle.tso_core.specs.Moving.{AcceptsOf, TellsOf};
-ghost use Rattle.tso_core.specs.Writers.{OneWriterEach};
+ghost use Rattle.machine_ports.specs.Writers.{OneWriterEach};
 
 use crate::marks::Marks;
 use crate::parts::Parts;

@@ -215,7 +215,7 @@ impl<R: Rider, K: Carry> Parts<R, K> {
     }
 
     /// An access of core `c` that its port allows is made and told.
-    fn tell_access<C: TsoClerk<R, K>>(&mut self, c: u8, access: Access, clerk: &mut C)
+    pub(crate) fn tell_access<C: TsoClerk<R, K>>(&mut self, c: u8, access: Access, clerk: &mut C)
         requires port { c < length self.old.state.memory.ports }
         requires allowed { IsTrue (allows R.riding (port_at K.carrying self.old.state.memory.ports c)
             (access.word / BLOCK_WORDS) access.kind) }

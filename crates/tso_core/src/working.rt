@@ -204,7 +204,6 @@ impl<R: Rider, K: Carry> Parts<R, K> {
             .core
             .finish_op(self.program.image(), standing.op, before);
         *standing = Standing::of(&self.program, station.core());
-        self.memory.retire(c, at);
         let access = Access {
             at,
             word,
@@ -212,7 +211,7 @@ impl<R: Rider, K: Carry> Parts<R, K> {
             before,
             after,
         };
-        self.memory.touch(c, access, clerk);
+        self.tell_access(c, access, clerk);
     }
 
     /// The next instruction of core `c` executes, which waited for its access. The port allows this now.

@@ -8,14 +8,10 @@ use Rattle.msi_machine.proofs.Renewed.{all_moves}
 use Rattle.msi_machine.proofs.machine.Machine.all_marks.Goals as goal
 
 pub with_late-moves-requires-clause-holds : goal.with_late-moves-requires-clause-holds
-with_late-moves-requires-clause-holds g c =
-    let fit = c.self.invariant.holds.memory in
-    rw (← c.parts.view_is) at fit
+with_late-moves-requires-clause-holds g c = rw (← c.parts.view_is) at c.self.invariant.holds.memory
 
 pub with_late-moves-requires-clause-noted : goal.with_late-moves-requires-clause-noted
-with_late-moves-requires-clause-noted g c =
-    let fit = c.self.invariant.ports in
-    rw (← c.parts.view_is) at fit
+with_late-moves-requires-clause-noted g c = rw (← c.parts.view_is) at c.self.invariant.ports
 
 pub returns-clause-all : goal.returns-clause-all
 returns-clause-all g c =

@@ -5,14 +5,10 @@ use Rattle.msi_machine.proofs.Roomed.{room_made}
 use Rattle.msi_machine.proofs.machine.Machine.make_room.Goals as goal
 
 pub make_room-requires-clause-holds : goal.make_room-requires-clause-holds
-make_room-requires-clause-holds g c =
-    let fit = c.self.invariant.holds.memory in
-    rw (← c.parts.view_is) at fit
+make_room-requires-clause-holds g c = rw (← c.parts.view_is) at c.self.invariant.holds.memory
 
 pub make_room-requires-clause-noted : goal.make_room-requires-clause-noted
-make_room-requires-clause-noted g c =
-    let fit = c.self.invariant.ports in
-    rw (← c.parts.view_is) at fit
+make_room-requires-clause-noted g c = rw (← c.parts.view_is) at c.self.invariant.ports
 
 pub invariant_of-self : goal.invariant_of-self
 invariant_of-self g c =

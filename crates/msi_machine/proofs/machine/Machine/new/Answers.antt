@@ -2,8 +2,6 @@
 -- laws of the start.
 use Rattle.std.proofs.Common.{◌≡◌, ◌∙◌, ap, sym, subst, false, length, ℕ, arith, List}
 use Rattle.std.specs.Prelude.{map}
-use Rattle.std.proofs.lemmas.List.{length-map}
-use Rattle.std.proofs.lemmas.List.FromFn.{length-map-range_with_len}
 use Rattle.image_mem.specs.Contents.{Contents}
 use Rattle.rv_core.specs.declared.core_state.Core.{Core}
 use Rattle.rv_core.specs.States.{starting}
@@ -15,6 +13,7 @@ use Rattle.machine_invariant.specs.Holds.{MachineHolds}
 use Rattle.machine_invariant.proofs.Begins.{holds_start}
 use Rattle.machine_plain.specs.Plain.{plain}
 use Rattle.machine_plain.proofs.Shows.{plain_start}
+use Rattle.machine_ports.proofs.Counting.{kept_long}
 use Rattle.msi_state.specs.States.{Machinery, State}
 use Rattle.msi_machine.specs.declared.standing.Standing.{Standing}
 use Rattle.msi_machine.specs.Standings.{may_begin, standing_with}
@@ -25,12 +24,10 @@ use Rattle.msi_machine.proofs.machine.Machine.new.Goals as goal
 pub first_marks-marks-requires : goal.first_marks-marks-requires
 first_marks-marks-requires g c =
     let long : length c.as_slice-2.result.now ≡ c.args.params.cores =
-    ap (λ (xs : List Standing). length xs) (c.as_slice-2.ensures.value ∙ c.in_ok-standings.ensures)
-    ∙ length-map c.as_slice.result.now (λ (core : Core). standing_with c.parts.inside.program core false)
-    ∙ ap (λ (xs : List Core). length xs) c.as_slice.ensures.value
-    ∙ ap (λ (m : Machinery g.row.R.Denot g.row.K.Denot). length m.state.cores) c.parts.view_is
-    ∙ ap (λ (s : State g.row.R.Denot g.row.K.Denot). length s.cores) c.in_ok-parts.ensures.state
-    ∙ length-map-range_with_len (λ (id : ℕ). starting id c.args.params.limit) 0 c.args.params.cores in
+    kept_long (λ (id : ℕ). starting id c.args.params.limit)
+    (λ (core : Core). standing_with c.parts.inside.program core false) c.args.params.cores
+    (c.as_slice.ensures.value ∙ (λ i. (c.parts.view_is i).state.cores) ∙ (λ i. (c.in_ok-parts.ensures.state i).cores))
+    c.in_ok-standings.ensures c.as_slice-2.ensures.value in
     record { few = rw long c.requires.fits.cores }
 
 pub invariant_of-result : goal.invariant_of-result

@@ -2,8 +2,6 @@
 -- laws of the start.
 use Rattle.std.proofs.Common.{◌≡◌, ◌∙◌, ap, sym, subst, length, ℕ, arith, List}
 use Rattle.std.specs.Prelude.{map}
-use Rattle.std.proofs.lemmas.List.{length-map}
-use Rattle.std.proofs.lemmas.List.FromFn.{length-map-range_with_len}
 use Rattle.image_mem.specs.Contents.{Contents}
 use Rattle.machine_data.specs.Coherent.{opening_memory}
 use Rattle.machine_data.proofs.Opening.{start_coherent}
@@ -16,19 +14,18 @@ use Rattle.tso_plain.proofs.Steps.{plain_start}
 use Rattle.tso_core.specs.declared.standing.Standing.{Standing}
 use Rattle.tso_core.specs.Machineries.{Machinery}
 use Rattle.tso_core.specs.Standings.{may_begin, standing_with}
-use Rattle.tso_core.proofs.AtHand.{one_writer}
+use Rattle.machine_ports.proofs.AtHand.{one_writer}
+use Rattle.machine_ports.proofs.Counting.{kept_long}
 use Rattle.tso_core.proofs.Beginning.{notes_begin}
 use Rattle.tso_core.proofs.machine.BufferedMachine.new.Goals as goal
 
 pub first_marks-marks-requires : goal.first_marks-marks-requires
 first_marks-marks-requires g c =
     let long : length c.as_slice-2.result.now ≡ c.args.params.cores =
-    ap (λ (xs : List Standing). length xs) (c.as_slice-2.ensures.value ∙ c.in_ok-standings.ensures)
-    ∙ length-map c.as_slice.result.now (λ (t : BufferedCore). standing_with c.parts.inside.program t.core)
-    ∙ ap (λ (xs : List BufferedCore). length xs) c.as_slice.ensures.value
-    ∙ ap (λ (m : Machinery g.row.R.Denot g.row.K.Denot). length m.state.cores) c.parts.view_is
-    ∙ ap (λ (s : State g.row.R.Denot g.row.K.Denot). length s.cores) c.in_ok-parts.ensures.state
-    ∙ length-map-range_with_len (λ (id : ℕ). buffered_start id c.args.params.limit) 0 c.args.params.cores in
+    kept_long (λ (id : ℕ). buffered_start id c.args.params.limit)
+    (λ (t : BufferedCore). standing_with c.parts.inside.program t.core) c.args.params.cores
+    (c.as_slice.ensures.value ∙ (λ i. (c.parts.view_is i).state.cores) ∙ (λ i. (c.in_ok-parts.ensures.state i).cores))
+    c.in_ok-standings.ensures c.as_slice-2.ensures.value in
     record { few = rw long c.requires.fits.cores }
 
 pub invariant_of-result : goal.invariant_of-result

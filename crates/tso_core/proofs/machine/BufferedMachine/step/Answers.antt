@@ -23,7 +23,7 @@ use Rattle.tso_state.specs.States.{State}
 use Rattle.tso_state.specs.Steps.{enabled, event, moves, step}
 use Rattle.tso_core.specs.declared.standing.Standing.{Standing}
 use Rattle.tso_core.specs.Steppings.{HasMoved, KeepsPromises}
-use Rattle.tso_core.proofs.AtHand.{one_writer}
+use Rattle.machine_ports.proofs.AtHand.{one_writer}
 use Rattle.tso_core.proofs.Ended.{holds_seen}
 use Rattle.tso_core.proofs.Choosing.{found_chosen, found_enabled, plainly_chosen}
 use Rattle.tso_core.proofs.Moves.{notes_kept}

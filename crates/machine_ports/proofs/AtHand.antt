@@ -27,7 +27,7 @@ use Rattle.msi_laws.specs.Moving.{links_empty}
 use Rattle.msi_laws.specs.Sights.{line_state}
 use Rattle.msi_laws.proofs.Final.{all_quiet}
 use Rattle.msi_laws.proofs.KindsShown.{blocks_hold}
-use Rattle.tso_core.specs.Writers.{OneWriterEach}
+use Rattle.machine_ports.specs.Writers.{OneWriterEach}
 
 -- what a line allows hangs on the state that a block has in it, which is I where the line holds another
 seen_in : (allows : LineState → Bool) → allows I ≡ false → (held : Bool) (state : LineState) →
