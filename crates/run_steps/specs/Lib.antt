@@ -1,2 +1,3 @@
 pub mod Clerks
+pub mod Ends
 pub mod Ways

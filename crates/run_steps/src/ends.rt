@@ -1,61 +1,82 @@
 //! What a run has come to where no step is left, whichever the machine is.
-ghost use Rattle.std.specs.Prelude.{◌≡◌, ◌<◌, ◌*◌, ◌%◌, ℕ, IfOk, List, length, map, slice_index_or, true};
-ghost use Rattle.std.specs.List.{range_with_len};
-ghost use Rattle.access_times.specs.Riding.{none_carrying, none_riding};
-ghost use Rattle.msi_memory.specs.Finals.{SameWords, block_words, memory_word};
-ghost use Rattle.msi_memory.specs.Memories.{Memory};
+ghost use Rattle.std.specs.Prelude.{◌≡◌, ◌%◌, IfOk, length, map, true};
 ghost use Rattle.rtr_types.specs.declared.TheConstants.{BLOCK_WORDS};
-ghost use Rattle.rv_core.specs.States.{starting};
-ghost use Rattle.rv_core.specs.declared.core_state.Core.{Core};
+ghost use Rattle.run_steps.specs.Ends.{outcome_with, words_in};
 
-use crate::stepping::Stepping;
-use rtr_types::{BLOCK_WORDS, Items};
-use rv_core::Core;
+use crate::machines::SteppedMachine;
+use rtr_types::{BLOCK_WORDS, Items, Params};
+use rv_core::{Core, LoadNote, Outcome};
 use std::alloc::{AllocError, Global};
 
-/// What is stepped, and shows its cores, and its memory where no step is left.
-pub trait Ending: Stepping {
-    /// Its cores, without their pending accesses.
-    ghost cores: { Self → List Core };
-
-    /// Its memory, without what rides.
-    ghost memory: { Self → Memory (Unit {0}) (Unit {0}) };
-
-    /// A core.
-    fn core(&self, core: u8) -> &Core
-        requires { core < length (cores self.now) }
-        ensures { result.now ≡ slice_index_or (cores self.now) core (starting 0 0) };
-
-    /// The words of a block of the memory where no step is left.
-    fn final_words(&self, block: u32) -> [u32; BLOCK_WORDS]
-        requires done { Self.ended self.now ≡ true }
-        requires within { block * BLOCK_WORDS < (Self.image self.now).words }
-        ensures { SameWords result (block_words none_riding none_carrying (memory self.now) block) };
+/// What the machine has come to at the end, with what each core's loads got. The only refusal is want of memory.
+pub fn outcome_at_end<M: SteppedMachine>(
+    alloc: Global,
+    machine: &M,
+    loads: Items<Items<LoadNote>>,
+    params: Params,
+) -> Result<Outcome, AllocError>
+    requires done { M.ended machine.now ≡ true }
+    requires cores { params.cores ≡ length (M.cores machine.now) }
+    requires words { params.words ≡ (M.image machine.now).words }
+    requires whole { params.words % BLOCK_WORDS ≡ 0 }
+    ensures { IfOk result (λ outcome. outcome
+        ≡ outcome_with (M.cores machine.now) (M.memory machine.now) (M.image machine.now).words loads) }
+{
+    let cores = cores_of(alloc, machine, params.cores)?;
+    let words = words_of(alloc, machine, params.words)?;
+    Ok(Outcome {
+        cores,
+        words,
+        loads,
+    })
 }
 
 /// The cores, of which there are so many. The only refusal is want of memory.
-pub fn cores_of<E: Ending>(alloc: Global, run: &E, cores: u8) -> Result<Items<Core>, AllocError>
-    requires { cores ≡ length (E.cores run.now) }
-    ensures { IfOk result (λ list. list ≡ E.cores run.now) }
+fn cores_of<M: SteppedMachine>(
+    alloc: Global,
+    machine: &M,
+    cores: u8,
+) -> Result<Items<Core>, AllocError>
+    requires { cores ≡ length (M.cores machine.now) }
+    ensures { IfOk result (λ list. list ≡ M.cores machine.now) }
 {
     let mut list = Items::new(alloc);
     for core in 0..cores {
-        list.push(*run.core(core))?;
+        list.push(*machine.core(core))?;
     }
     Ok(list)
 }
 
 /// The words of the memory at the end, of which there are so many. The only refusal is want of memory.
-pub fn words_of<E: Ending>(alloc: Global, run: &E, words: u32) -> Result<Items<u32>, AllocError>
-    requires done { E.ended run.now ≡ true }
-    requires words { words ≡ (E.image run.now).words }
+fn words_of<M: SteppedMachine>(
+    alloc: Global,
+    machine: &M,
+    words: u32,
+) -> Result<Items<u32>, AllocError>
+    requires done { M.ended machine.now ≡ true }
+    requires words { words ≡ (M.image machine.now).words }
     requires whole { words % BLOCK_WORDS ≡ 0 }
-    ensures { IfOk result (λ list. list
-        ≡ map (memory_word none_riding none_carrying (E.memory run.now)) (range_with_len 0 (E.image run.now).words)) }
+    ensures { IfOk result (λ list. list ≡ words_in (M.memory machine.now) (M.image machine.now).words) }
 {
     let mut list = Vec::with_capacity(alloc, words as usize)?;
     for block in 0..words / BLOCK_WORDS as u32 {
-        list.extend_from_slice(&run.final_words(block))?;
+        list.extend_from_slice(&machine.final_words(block))?;
     }
     Ok(Items::from_vec(list))
+}
+
+/// How many instructions each core executed, of so many cores. The only refusal is want of memory.
+pub fn totals_of<M: SteppedMachine>(
+    alloc: Global,
+    machine: &M,
+    cores: u8,
+) -> Result<Items<u32>, AllocError>
+    requires { cores ≡ length (M.cores machine.now) }
+    ensures { IfOk result (λ totals. totals ≡ map (λ k. k.count) (M.cores machine.now)) }
+{
+    let mut totals = Items::new(alloc);
+    for core in 0..cores {
+        totals.push(machine.core(core).count())?;
+    }
+    Ok(totals)
 }

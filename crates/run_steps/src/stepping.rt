@@ -1,57 +1,52 @@
-//! What is stepped until it is done.
-ghost use Rattle.std.specs.Prelude.{◌≡◌, ◌<◌, ℕ, suc, Bool, OnOk, false, true};
+//! What is stepped until no step is left.
+ghost use Rattle.std.specs.Prelude.{◌≡◌, ◌<◌, ℕ, suc, OnOk, false, true};
 ghost use Rattle.image_mem.specs.Contents.{Contents};
-ghost use Rattle.rtr_types.specs.Parameters.{Fits};
 ghost use Rattle.rtr_types.specs.declared.params.Params.{Params};
 ghost use Rattle.schedule_pick.specs.Choices.{Choices};
 ghost use Rattle.run_steps.specs.Ways.{IsUnderWay};
+ghost use Rattle.run_steps.specs.declared.running.Running.{Running};
 
+use crate::machines::SteppedMachine;
+use crate::running::Running;
 use std::alloc::AllocError;
 
-/// A machine with whoever is told of its steps and the choices that are left, on its way through a run.
+/// How runs of one kind are stepped: which machine is, who is told of its steps, and what a turn does.
 pub trait Stepping {
+    /// The machine.
+    type Machine: SteppedMachine;
+
+    /// Who is told of its steps.
+    type Clerk;
+
     /// It stands so many choices into the run of an image with these parameters under a schedule.
-    ghost stands: { Self → Contents → Params → Choices → ℕ → Type 0 };
+    ghost stands: { Running Self.Machine Self.Clerk → Contents → Params → Choices → ℕ → Type 0 };
 
     /// What a turn rests on beside that, as room that was made before.
-    ghost ready: { Self → Type 0 };
-
-    /// The image that is run.
-    ghost image: { Self → Contents };
-
-    /// Whether no step is left.
-    ghost ended: { Self → Bool };
-
-    /// How many steps may be left.
-    ghost left: { Self → ℕ };
-
-    /// Whether no step is left.
-    fn done(&self) -> bool
-        ensures { result ≡ ended self.now };
+    ghost ready: { Running Self.Machine Self.Clerk → Type 0 };
 
     /// One step of the machine, with the room for it. The only refusal is want of memory.
-    fn turn(&mut self) -> Result<(), AllocError>
-        requires going { ended self.old ≡ false }
-        requires under_way { IsUnderWay (stands self.old) }
-        requires ready { ready self.old }
+    fn turn(run: &mut Running<Self::Machine, Self::Clerk>) -> Result<(), AllocError>
+        requires going { Self.Machine.ended run.old.machine ≡ false }
+        requires under_way { IsUnderWay (stands run.old) }
+        requires ready { ready run.old }
         ensures stands { (image : Contents) (params : Params) (schedule : Choices) (t : ℕ) → OnOk result
-            (stands self.old image params schedule t → stands self.new image params schedule (suc t)) }
-        ensures ready { OnOk result (ready self.new) }
-        ensures image { OnOk result (image self.new ≡ image self.old) }
-        ensures nearer { OnOk result (left self.new < left self.old) };
+            (stands run.old image params schedule t → stands run.new image params schedule (suc t)) }
+        ensures ready { OnOk result (ready run.new) }
+        ensures image { OnOk result (Self.Machine.image run.new.machine ≡ Self.Machine.image run.old.machine) }
+        ensures nearer { OnOk result (Self.Machine.left run.new.machine < Self.Machine.left run.old.machine) };
 }
 
 /// Steps until no step is left, through whichever run it is on the way. The only refusal is want of memory.
-pub fn run_to_end<S: Stepping>(run: &mut S) -> Result<(), AllocError>
+pub fn run_to_end<S: Stepping>(run: &mut Running<S::Machine, S::Clerk>) -> Result<(), AllocError>
     requires under_way { IsUnderWay (S.stands run.old) }
     requires ready { S.ready run.old }
     ensures stands { (image : Contents) (params : Params) (schedule : Choices) (t : ℕ) → OnOk result
         (S.stands run.old image params schedule t → (u : ℕ) × S.stands run.new image params schedule u) }
-    ensures image { OnOk result (S.image run.new ≡ S.image run.old) }
-    ensures done { OnOk result (S.ended run.new ≡ true) }
+    ensures image { OnOk result (S.Machine.image run.new.machine ≡ S.Machine.image run.old.machine) }
+    ensures done { OnOk result (S.Machine.ended run.new.machine ≡ true) }
 {
-    while !run.done() {
-        run.turn()?;
+    while !run.machine.done() {
+        S::turn(run)?;
     }
     Ok(())
 }

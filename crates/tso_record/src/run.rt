@@ -1,25 +1,23 @@
 //! The run of an image by cores with store buffers, recorded.
-ghost use Rattle.std.specs.Prelude.{◌≡◌, ◌<◌, ℕ, IfOk, IsTrue, OnOk, length, map, slice_index};
+ghost use Rattle.std.specs.Prelude.{◌≡◌, ◌<◌, ℕ, IfOk, IsTrue, OnOk, slice_index};
 ghost use Rattle.conflict_edge.specs.Least.{IsLeast};
 ghost use Rattle.race_log.specs.Sources.{log_edges};
 ghost use Rattle.rtr_types.specs.Parameters.{Fits};
 ghost use Rattle.rtr_types.specs.declared.pairs.Which.TheVariants.{Reduced};
 ghost use Rattle.tso_recordings.specs.Logged.{AreLogged};
 ghost use Rattle.tso_recordings.specs.Schedules.{tso_accesses_of, tso_order_of, tso_recording_of};
-ghost use Rattle.tso_bound.specs.Bound.{left as steps_left};
 ghost use Rattle.tso_codec.specs.Validity.{IsTso, plain_of};
 ghost use Rattle.tso_core.specs.Machineries.{heads_roomy};
 ghost use Rattle.tso_outcome.specs.Outcomes.{tso_outcome_of};
-ghost use Rattle.tso_record.specs.Standing.{RecordsAt, last_lists};
+ghost use Rattle.tso_record.specs.Standing.{RecordsAt};
 ghost use Rattle.tso_replay.specs.Laws.{ReplaysTold};
-ghost use Rattle.tso_state.specs.States.{all_done};
 
-use crate::run_clerk::{RunClerk, RunLogs};
+use crate::run_clerk::RunClerk;
 use crate::uncarried::Uncarried;
 use access_times::Times;
 use image_mem::Image;
 use rtr_types::{Items, Params};
-use run_steps::{Stepping, run_to_end};
+use run_steps::{Running, Stepping, run_to_end, totals_of};
 use rv_core::Outcome;
 use schedule_pick::Schedule;
 use std::alloc::{AllocError, Global};
@@ -32,15 +30,6 @@ use tso_run::tso_run;
 pub struct TsoRecorded {
     pub recording: TsoRecording,
     pub outcome: Outcome,
-}
-
-/// What a run leaves that its recording is made of: how many instructions each core executed, the reduced log, the
-/// logged loads, and the image.
-#[derive(Drop)]
-struct RunEnd {
-    totals: Items<u32>,
-    logs: RunLogs,
-    image: Image,
 }
 
 /// Runs the image on cores with store buffers to its end, under the schedule, and records the run. The only refusal is
@@ -80,13 +69,15 @@ pub fn tso_record_image(
         choices: schedule,
     };
     make_rooms(&mut running.machine, &mut running.clerk)?;
-    let run_end = record_on(alloc, running, params)?;
+    run_to_end::<Recorder>(&mut running)?;
+    let totals = totals_of(alloc, &running.machine, params.cores)?;
+    let logs = running.clerk.finish();
     Ok(TsoRecording {
         params,
-        image: Items::from_vec(run_end.image.into_bytes()),
-        totals: run_end.totals,
-        reduced: run_end.logs.reduced,
-        values: run_end.logs.values,
+        image: Items::from_vec(running.machine.into_image().into_bytes()),
+        totals,
+        reduced: logs.reduced,
+        values: logs.values,
     })
 }
 
@@ -130,83 +121,25 @@ fn are_bytes(bytes: &[u8])
     let _ = bytes;
 }
 
-/// The machine, the clerk that is told of its steps, and the choices that are left. A turn takes the room that was made
-/// before, and makes that for the next.
-#[derive(Drop)]
-struct Running {
-    machine: BufferedMachine<Times, Uncarried>,
-    clerk: RunClerk,
-    choices: Schedule,
-}
+/// How cores with store buffers are stepped where their run is recorded. A turn takes the room that was made before,
+/// and makes that for the next.
+struct Recorder;
 
-impl Stepping for Running {
+impl Stepping for Recorder {
+    type Machine = BufferedMachine<Times, Uncarried>;
+
+    type Clerk = RunClerk;
+
     ghost stands = { λ r image params schedule t.
         RecordsAt image params schedule t r.machine.state r.clerk r.choices };
 
     ghost ready = { λ r. IsTrue (heads_roomy r.machine) × IsTrue r.clerk.reduction.ready × IsTrue r.clerk.roomy };
 
-    ghost image = { λ r. r.machine.state.image };
-
-    ghost ended = { λ r. all_done r.machine.state };
-
-    ghost left = { λ r. steps_left r.machine.state };
-
-    fn done(&self) -> bool {
-        self.machine.done()
-    }
-
-    fn turn(&mut self) -> Result<(), AllocError> {
-        self.machine
-            .step_timed(self.choices.next(), &mut self.clerk);
-        make_rooms(&mut self.machine, &mut self.clerk)?;
+    fn turn(run: &mut Running<Self::Machine, Self::Clerk>) -> Result<(), AllocError> {
+        run.machine.step_timed(run.choices.next(), &mut run.clerk);
+        make_rooms(&mut run.machine, &mut run.clerk)?;
         Ok(())
     }
-}
-
-/// Runs what stands at its start to the end.
-fn record_on(alloc: Global, running: Running, params: Params) -> Result<RunEnd, AllocError>
-    requires fits { Fits params }
-    requires stands { RecordsAt running.machine.state.image params running.choices 0 running.machine.state
-        running.clerk running.choices }
-    requires ready { IsTrue (heads_roomy running.machine) × IsTrue running.clerk.reduction.ready
-        × IsTrue running.clerk.roomy }
-    ensures totals { IfOk result (λ end.
-        end.totals ≡ (tso_recording_of running.machine.state.image params running.choices).totals) }
-    ensures reduced { IfOk result (λ end.
-        end.logs.reduced ≡ last_lists running.machine.state.image params running.choices) }
-    ensures values { IfOk result (λ end.
-        end.logs.values ≡ (tso_recording_of running.machine.state.image params running.choices).values) }
-    ensures image { IfOk result (λ end. end.image ≡ running.machine.state.image) }
-{
-    let mut running = running;
-    run_to_end(&mut running)?;
-    let totals = totals_of(alloc, &running.machine, params.cores)?;
-    let Running {
-        machine,
-        clerk,
-        choices: _choices,
-    } = running;
-    Ok(RunEnd {
-        totals,
-        logs: clerk.finish(),
-        image: machine.into_image(),
-    })
-}
-
-/// How many instructions each core of the machine executed.
-fn totals_of(
-    alloc: Global,
-    machine: &BufferedMachine<Times, Uncarried>,
-    cores: u8,
-) -> Result<Items<u32>, AllocError>
-    requires { cores ≡ length machine.now.state.cores }
-    ensures { IfOk result (λ totals. totals ≡ map (λ t. t.core.count) machine.now.state.cores) }
-{
-    let mut totals = Items::new(alloc);
-    for core in 0..cores {
-        totals.push(machine.core(core).count())?;
-    }
-    Ok(totals)
 }
 
 /// Makes room for the next step, in the machine and in the clerk.

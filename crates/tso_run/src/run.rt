@@ -1,16 +1,14 @@
 //! The run of an image by cores with store buffers.
-ghost use Rattle.std.specs.Prelude.{◌≡◌, IfOk, map};
+ghost use Rattle.std.specs.Prelude.{◌≡◌, IfOk};
 ghost use Rattle.rtr_types.specs.Parameters.{Fits};
-ghost use Rattle.tso_bound.specs.Bound.{left as steps_left};
 ghost use Rattle.tso_outcome.specs.Outcomes.{StandsAt, tso_outcome_of};
 ghost use Rattle.tso_plain.specs.Plain.{plain};
-ghost use Rattle.tso_state.specs.States.{all_done};
 
 use access_times::{NoCarry, NoRider};
 use image_mem::Image;
-use rtr_types::{BLOCK_WORDS, Params};
-use run_steps::{Ending, LoadClerk, Stepping, cores_of, run_to_end, words_of};
-use rv_core::{Core, Outcome};
+use rtr_types::Params;
+use run_steps::{LoadClerk, Running, Stepping, outcome_at_end, run_to_end};
+use rv_core::Outcome;
 use schedule_pick::Schedule;
 use std::alloc::{AllocError, Global};
 use tso_core::BufferedMachine;
@@ -40,86 +38,37 @@ pub fn tso_run(
 {
     let clerk = LoadClerk::new(alloc, params.cores)?;
     let machine = BufferedMachine::<NoRider, NoCarry>::new(alloc, image, params)?;
-    let running = Running {
+    let mut running = Running {
         machine,
         clerk,
         choices: schedule,
     };
-    run_on(alloc, running, params)
+    run_to_end::<Runner>(&mut running)?;
+    let loads = running.clerk.into_loads();
+    let outcome = outcome_at_end(alloc, &running.machine, loads, params)?;
+    Ok(TsoRan {
+        outcome,
+        image: running.machine.into_image(),
+    })
 }
 
-/// The machine, the clerk that is told of its steps, and the choices that are left.
-#[derive(Drop)]
-struct Running {
-    machine: BufferedMachine<NoRider, NoCarry>,
-    clerk: LoadClerk,
-    choices: Schedule,
-}
+/// How cores with store buffers are stepped where no log is made.
+struct Runner;
 
-impl Stepping for Running {
+impl Stepping for Runner {
+    type Machine = BufferedMachine<NoRider, NoCarry>;
+
+    type Clerk = LoadClerk;
+
     ghost stands = { λ r image params schedule t.
         StandsAt image params schedule t (plain r.machine.state) r.clerk.lists r.choices };
 
     ghost ready = { λ r. Unit {0} };
 
-    ghost image = { λ r. r.machine.state.image };
-
-    ghost ended = { λ r. all_done r.machine.state };
-
-    ghost left = { λ r. steps_left r.machine.state };
-
-    fn done(&self) -> bool {
-        self.machine.done()
-    }
-
-    fn turn(&mut self) -> Result<(), AllocError> {
-        self.machine.make_room()?;
-        self.clerk.make_room()?;
-        self.machine.step(self.choices.next(), &mut self.clerk);
+    fn turn(run: &mut Running<Self::Machine, Self::Clerk>) -> Result<(), AllocError> {
+        run.machine.make_room()?;
+        run.clerk.make_room()?;
+        run.machine.step(run.choices.next(), &mut run.clerk);
         Ok(())
     }
-}
-
-impl Ending for Running {
-    ghost cores = { λ r. map (λ t. t.core) r.machine.state.cores };
-
-    ghost memory = { λ r. (plain r.machine.state).memory };
-
-    fn core(&self, core: u8) -> &Core {
-        self.machine.core(core)
-    }
-
-    fn final_words(&self, block: u32) -> [u32; BLOCK_WORDS] {
-        self.machine.final_words(block)
-    }
-}
-
-/// Runs what stands at its start to the end.
-fn run_on(alloc: Global, running: Running, params: Params) -> Result<TsoRan, AllocError>
-    requires fits { Fits params }
-    requires words { running.machine.state.image.words ≡ params.words }
-    requires stands { StandsAt running.machine.state.image params running.choices 0 (plain running.machine.state)
-        running.clerk.lists running.choices }
-    ensures outcome { IfOk result (λ ran.
-        ran.outcome ≡ tso_outcome_of running.machine.state.image params running.choices) }
-    ensures image { IfOk result (λ ran. ran.image ≡ running.machine.state.image) }
-{
-    let mut running = running;
-    run_to_end(&mut running)?;
-    let cores = cores_of(alloc, &running, params.cores)?;
-    let words = words_of(alloc, &running, params.words)?;
-    let Running {
-        machine,
-        clerk,
-        choices: _choices,
-    } = running;
-    let outcome = Outcome {
-        cores,
-        words,
-        loads: clerk.into_loads(),
-    };
-    Ok(TsoRan {
-        outcome,
-        image: machine.into_image(),
-    })
 }

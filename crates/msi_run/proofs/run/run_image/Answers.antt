@@ -1,22 +1,30 @@
-use Rattle.std.proofs.Common.{ap, sym, subst}
-use Rattle.image_mem.specs.Contents.{Contents}
+use Rattle.std.proofs.Common.{ap, sym, ◌∙◌}
 use Rattle.machine_plain.specs.Plain.{plain}
-use Rattle.run_outcome.specs.Outcomes.{StandsAt}
-use Rattle.run_outcome.proofs.Turns.{stands_start}
+use Rattle.run_outcome.proofs.Turns.{outcome_is, stands_start}
+use Rattle.run_steps.proofs.Starts.{under_way}
+use Rattle.run_steps.specs.Ends.{outcome_with}
 use Rattle.msi_run.proofs.run.run_image.Goals as goal
 
-pub run_on-requires-clause-stands : goal.run_on-requires-clause-stands
-run_on-requires-clause-stands c =
-    let image_is = ap (λ s. s.image) c.in_ok-machine.ensures.start in
-    subst (λ (i : Contents). StandsAt i c.args.params c.args.schedule 0 (plain c.in_ok-machine.machine.state)
-    c.in_ok-clerk.clerk.lists c.args.schedule)
-    (sym image_is)
-    (stands_start c.args.image c.args.params c.args.schedule (plain c.in_ok-machine.machine.state)
-    c.in_ok-clerk.clerk.lists c.in_ok-machine.ensures.plain
-    c.in_ok-clerk.ensures)
+pub run_to_end-requires-clause-under_way : goal.run_to_end-requires-clause-under_way
+run_to_end-requires-clause-under_way c =
+    under_way _ c.args.image c.args.params c.args.schedule c.requires.fits
+    (stands_start _ _ _ _ _ c.in_ok-machine.ensures.plain c.in_ok-clerk.ensures)
+
+pub outcome_at_end-requires-clause-cores : goal.outcome_at_end-requires-clause-cores
+outcome_at_end-requires-clause-cores c =
+    let a = c.args in
+    let start = stands_start a.image a.params a.schedule _ _ c.in_ok-machine.ensures.plain c.in_ok-clerk.ensures in
+    sym (c.in_ok-run_to_end.ensures.stands _ _ _ _ start).1.runs.cores
 
 pub returns-clause-outcome : goal.returns-clause-outcome
-returns-clause-outcome c = rw (ap (λ s. s.image) c.in_ok-machine.ensures.start) at c.run_on.ensures.outcome
+returns-clause-outcome c =
+    let a = c.args in
+    let start = stands_start a.image a.params a.schedule _ _ c.in_ok-machine.ensures.plain c.in_ok-clerk.ensures in
+    let stands = c.in_ok-run_to_end.ensures.stands _ _ _ _ start in
+    let s = c.run_to_end.new.run.machine.state in
+    c.in_ok-outcome.ensures ∙ ap (outcome_with s.cores (plain s).memory s.image.words) c.into_loads-loads.ensures
+    ∙ outcome_is _ _ _ stands.0 s _ _ c.requires.fits c.in_ok-run_to_end.ensures.done stands.1
 
 pub returns-clause-image : goal.returns-clause-image
-returns-clause-image c = rw (ap (λ s. s.image) c.in_ok-machine.ensures.start) at c.run_on.ensures.image
+returns-clause-image c =
+    c.into_image.ensures ∙ c.in_ok-run_to_end.ensures.image ∙ ap (λ s. s.image) c.in_ok-machine.ensures.start

@@ -6,5 +6,5 @@ use Rattle.run_steps.proofs.ends.words_of.Goals as goal
 pub loop-block-preserved : goal.loop-block-preserved
 loop-block-preserved g c =
     c.in_ok-extend_from_slice.ensures.items
-    ∙ words_more none_riding none_carrying (g.E.Ending.memory c.args.run.now) c.loop-block.block _ c.final_words.result
-    c.loop-block.invariant (grind arith) c.final_words.ensures
+    ∙ words_more none_riding none_carrying (g.M.SteppedMachine.memory c.args.machine.now) c.loop-block.block _
+    c.final_words.result c.loop-block.invariant (grind arith) c.final_words.ensures

@@ -11,8 +11,8 @@ invariant-loop-run g l = record {
       → g.S.Stepping.stands l.fn.run image params schedule t
       → (u : ℕ) × g.S.Stepping.stands l.run image params schedule u;
   ready : g.S.Stepping.ready l.run;
-  image : g.S.Stepping.image l.run ≡ g.S.Stepping.image l.fn.run;
+  image : g.S.Machine.SteppedMachine.image l.run.machine ≡ g.S.Machine.SteppedMachine.image l.fn.run.machine;
 }
 
 abbrev pub decreases-loop-run : goal.decreases-loop-run
-decreases-loop-run g l = g.S.Stepping.left l.run
+decreases-loop-run g l = g.S.Machine.SteppedMachine.left l.run.machine

@@ -1,46 +1,66 @@
 -- The run's clerk ends with the log and the values of what it was told, and the laws of recordings say that these are
 -- the run's.
 use Rattle.std.proofs.Common.{◌<◌, ◌*◌, ◌≤◌, ℕ, List, ap, sym, subst, ◌∙◌, arith, length}
+use Rattle.std.proofs.lemmas.List.{length-map}
+use Rattle.std.proofs.lemmas.Simd.{map-map}
 use Rattle.std.specs.Prelude.{slice_index}
 use Rattle.conflict_edge.specs.Least.{IsLeast}
 use Rattle.image_mem.specs.Contents.{Contents}
 use Rattle.race_log.specs.Sources.{log_edges}
 use Rattle.rtr_types.specs.declared.pairs.Which.TheVariants.{Reduced}
+use Rattle.run_steps.proofs.Starts.{under_way}
+use Rattle.rv_core.specs.declared.core_state.Core.{Core}
 use Rattle.tso_recordings.proofs.Logged.{logged_law}
 use Rattle.tso_recordings.proofs.Schedules.{held, replayed}
 use Rattle.tso_recordings.specs.Logged.{AreLogged}
-use Rattle.tso_recordings.specs.Schedules.{tso_accesses_of, tso_order_of, tso_recording_of}
+use Rattle.tso_recordings.specs.Schedules.{tso_accesses_of, tso_order_of}
 use Rattle.tso_codec.specs.declared.recording.TsoRecording.{TsoRecording}
 use Rattle.tso_codec.specs.Validity.{IsTso, plain_of}
 use Rattle.tso_outcome.specs.Outcomes.{tso_outcome_of}
 use Rattle.tso_recordings.specs.Recordings.{CanRun}
+use Rattle.tso_state.specs.States.{BufferedCore}
 use Rattle.tso_replay.specs.Laws.{ReplaysTold}
 use Rattle.tso_words.proofs.Opening.{opens_small}
-use Rattle.tso_record.proofs.Standing.{recording_made, records_same, records_start}
-use Rattle.tso_record.specs.Standing.{RecordsAt, last_lists}
+use Rattle.tso_record.proofs.Standing.{lists_are, recording_made, records_same, records_start, totals_are, values_are}
 use Rattle.tso_record.proofs.run.tso_record_image.Goals as goal
 
-pub record_on-requires-clause-stands : goal.record_on-requires-clause-stands
-record_on-requires-clause-stands c =
+pub run_to_end-requires-clause-under_way : goal.run_to_end-requires-clause-under_way
+run_to_end-requires-clause-under_way c =
+    let clerk = c.in_ok-clerk.ensures in
     let rooms = c.make_rooms.ensures in
-    subst (λ (i : Contents). RecordsAt i c.args.params c.args.schedule 0 c.make_rooms.new.machine.state
-    c.make_rooms.new.clerk c.args.schedule)
-    (sym (ap (λ s. s.image) (rooms.state ∙ c.in_ok-machine.ensures.start)))
-    (records_same c.args.image c.args.params c.args.schedule 0 _ _ _ _ _ rooms.state rooms.reduction rooms.values
-    (records_start c.args.image c.args.params c.args.schedule c.in_ok-machine.machine.state c.in_ok-clerk.clerk
-    c.in_ok-machine.ensures.start c.in_ok-clerk.ensures.reduction c.in_ok-clerk.ensures.values))
+    under_way _ c.args.image c.args.params c.args.schedule c.requires.fits
+    (records_same _ _ _ 0 _ _ c.in_ok-clerk.clerk _ _ rooms.state rooms.reduction rooms.values
+    (records_start _ _ _ _ _ c.in_ok-machine.ensures.start clerk.reduction clerk.values))
 
-pub record_on-requires-clause-ready : goal.record_on-requires-clause-ready
-record_on-requires-clause-ready c =
+pub run_to_end-requires-clause-ready : goal.run_to_end-requires-clause-ready
+run_to_end-requires-clause-ready c =
     let ok = c.in_ok-make_rooms.ensures in
     (ok.heads, ok.ready, ok.roomy)
+
+pub totals_of-requires : goal.totals_of-requires
+totals_of-requires c =
+    let clerk = c.in_ok-clerk.ensures in
+    let rooms = c.make_rooms.ensures in
+    let a = c.args in
+    let start = records_same a.image a.params a.schedule 0 _ _ c.in_ok-clerk.clerk c.make_rooms.new.clerk _ rooms.state
+    rooms.reduction rooms.values
+    (records_start _ _ _ _ _ c.in_ok-machine.ensures.start clerk.reduction clerk.values) in
+    sym (c.in_ok-run_to_end.ensures.stands _ _ _ _ start).1.runs.cores
+    ∙ sym (length-map c.run_to_end.new.run.machine.state.cores (λ (t : BufferedCore). t.core))
 
 pub returns : goal.returns
 returns c =
     let image = c.args.image in
     let params = c.args.params in
     let schedule = c.args.schedule in
-    let image_is = ap (λ s. s.image) (c.make_rooms.ensures.state ∙ c.in_ok-machine.ensures.start) in
+    let clerk = c.in_ok-clerk.ensures in
+    let rooms = c.make_rooms.ensures in
+    let start = records_same image params schedule 0 _ _ c.in_ok-clerk.clerk c.make_rooms.new.clerk _ rooms.state
+    rooms.reduction rooms.values
+    (records_start _ _ _ _ _ c.in_ok-machine.ensures.start clerk.reduction clerk.values) in
+    let ok = c.in_ok-run_to_end.ensures in
+    let image_is = ok.image ∙ ap (λ s. s.image) (rooms.state ∙ c.in_ok-machine.ensures.start) in
+    let ended = (ok.stands _ _ _ _ start).1 in
     let room : length image.bytes ≤ 4 * params.words =
     omega (arith, c.words-words.ensures.value, c.words-words.ensures.room, c.requires.words) in
     let small : (i : ℕ) → slice_index image.bytes i < 256 =
@@ -52,13 +72,14 @@ returns c =
       words = opens_small image small;
     } in
     let it = held image params schedule can in
-    let made = recording_made image params schedule c.from_vec.result c.in_ok-run_end.run_end.totals
-    c.in_ok-run_end.run_end.logs.reduced c.in_ok-run_end.run_end.logs.values
-    (c.from_vec.ensures ∙ c.into_bytes.ensures
-    ∙ ap (λ (i : Contents). i.bytes) (c.in_ok-run_end.ensures.image ∙ image_is))
-    (c.in_ok-run_end.ensures.totals ∙ ap (λ (i : Contents). (tso_recording_of i params schedule).totals) image_is)
-    (c.in_ok-run_end.ensures.reduced ∙ ap (λ (i : Contents). last_lists i params schedule) image_is ∙ it.lists)
-    (c.in_ok-run_end.ensures.values ∙ ap (λ (i : Contents). (tso_recording_of i params schedule).values) image_is) in
+    let cores = c.run_to_end.new.run.machine.state.cores in
+    let made = recording_made image params schedule c.from_vec.result c.in_ok-totals.totals
+    c.finish-logs.result.reduced c.finish-logs.result.values
+    (c.from_vec.ensures ∙ c.into_bytes.ensures ∙ ap (λ (i : Contents). i.bytes) (c.into_image.ensures ∙ image_is))
+    (c.in_ok-totals.ensures ∙ map-map (λ (k : Core). k.count) (λ (t : BufferedCore). t.core) cores
+    ∙ totals_are _ _ _ _ _ _ _ c.requires.fits ok.done ended)
+    (c.finish-logs.ensures.reduced ∙ lists_are _ _ _ _ _ _ _ c.requires.fits ok.done ended ∙ it.lists)
+    (c.finish-logs.ensures.values ∙ values_are _ _ _ _ _ _ _ c.requires.fits ok.done ended) in
     record {
       recording = made;
       valid = subst IsTso (sym made) it.valid;

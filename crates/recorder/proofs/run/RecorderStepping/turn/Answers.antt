@@ -1,11 +1,11 @@
 use Rattle.recorder.proofs.Turning.{accepts_next, readied, records_next, tells_next, turned_by}
-use Rattle.recorder.proofs.run.RunningStepping.turn.Goals as goal
+use Rattle.recorder.proofs.run.RecorderStepping.turn.Goals as goal
 
 pub step_timed-requires-clause-accepts : goal.step_timed-requires-clause-accepts
 step_timed-requires-clause-accepts c =
     let kept = c.ready.ensures in
-    accepts_next c.args.self.now.machine.state c.make_room.new.self.state c.args.self.now.clerk c.ready.new.self
-    c.args.self.now.choices
+    accepts_next c.args.run.now.machine.state c.make_room.new.self.state c.args.run.now.clerk c.ready.new.self
+    c.args.run.now.choices
     (readied c.make_room.ensures.state kept.reduction kept.untold kept.cores kept.follows) c.requires.under_way
     c.in_ok-ready.ensures.ready
 

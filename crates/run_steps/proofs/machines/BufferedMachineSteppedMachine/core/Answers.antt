@@ -2,15 +2,14 @@ use Rattle.std.proofs.Common.{◌<◌, ◌∙◌, arith, length, sym}
 use Rattle.std.proofs.lemmas.List.{get_or-map, length-map}
 use Rattle.rv_core.specs.States.{starting}
 use Rattle.tso_state.specs.States.{BufferedCore, buffered_start}
-use Rattle.tso_run.proofs.run.RunningEnding.core.Goals as goal
+use Rattle.run_steps.proofs.machines.BufferedMachineSteppedMachine.core.Goals as goal
 
 pub core-requires : goal.core-requires
-core-requires c =
-    omega (arith, c.requires, length-map c.args.self.now.machine.state.cores (λ (t : BufferedCore). t.core))
+core-requires g c = omega (arith, c.requires, length-map c.args.self.now.state.cores (λ (t : BufferedCore). t.core))
 
 pub returns : goal.returns
-returns c =
-    let cores = c.args.self.now.machine.state.cores in
+returns g c =
+    let cores = c.args.self.now.state.cores in
     let within : c.args.core < length cores =
     omega (arith, c.requires, length-map cores (λ (t : BufferedCore). t.core)) in
     c.core.ensures.value

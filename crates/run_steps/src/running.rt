@@ -1,0 +1,11 @@
+//! What a run is stepped in.
+
+use schedule_pick::Schedule;
+
+/// A machine on its way through a run, the clerk that is told of its steps, and the choices that are left.
+#[derive(Drop)]
+pub struct Running<M, C> {
+    pub machine: M,
+    pub clerk: C,
+    pub choices: Schedule,
+}
