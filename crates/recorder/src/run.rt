@@ -58,17 +58,12 @@ pub fn record_image(
     prove!(words == params.words);
     let clerk = RunClerk::new(alloc, params.cores)?;
     let machine = Machine::<Times, Known>::new(alloc, image, params)?;
-    let mut running = Running {
-        machine,
-        clerk,
-        choices: schedule,
-    };
-    run_to_end::<Recorder>(&mut running)?;
-    let totals = totals_of(alloc, &running.machine, params.cores)?;
-    let logs = running.clerk.finish();
+    let ended = run_to_end::<Recorder>(machine, clerk, schedule)?;
+    let totals = totals_of(alloc, &ended.machine, params.cores)?;
+    let logs = ended.clerk.finish();
     Ok(Recording {
         params,
-        image: Items::from_vec(running.machine.into_image().into_bytes()),
+        image: Items::from_vec(ended.machine.into_image().into_bytes()),
         totals,
         reduced: logs.reduced,
         regulated: logs.regulated,

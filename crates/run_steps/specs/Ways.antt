@@ -4,6 +4,7 @@ use Rattle.image_mem.specs.Contents.{Contents}
 use Rattle.rtr_types.specs.Parameters.{Fits}
 use Rattle.rtr_types.specs.declared.params.Params.{Params}
 use Rattle.schedule_pick.specs.Choices.{Choices}
+use Rattle.run_steps.specs.declared.running.Running.{Running}
 
 -- it stands at some moment of the run of some image
 pub record IsUnderWay (stands : Contents → Params → Choices → ℕ → Type 0) : Type 0 where
@@ -13,3 +14,7 @@ pub record IsUnderWay (stands : Contents → Params → Choices → ℕ → Type
   pub t : ℕ
   pub fits : Fits params
   pub stands_so : stands image params schedule t
+
+-- a machine, the clerk that is told of its steps, and the choices that are left
+abbrev pub running_with : {M C : Type 0} → M → C → Choices → Running M C
+running_with machine clerk choices = record { machine = machine; clerk = clerk; choices = choices }

@@ -1,22 +1,23 @@
 //! What is stepped until no step is left.
-ghost use Rattle.std.specs.Prelude.{◌≡◌, ◌<◌, ℕ, suc, OnOk, false, true};
+ghost use Rattle.std.specs.Prelude.{◌≡◌, ◌<◌, ℕ, suc, IfOk, OnOk, false, true};
 ghost use Rattle.image_mem.specs.Contents.{Contents};
 ghost use Rattle.rtr_types.specs.declared.params.Params.{Params};
 ghost use Rattle.schedule_pick.specs.Choices.{Choices};
-ghost use Rattle.run_steps.specs.Ways.{IsUnderWay};
+ghost use Rattle.run_steps.specs.Ways.{IsUnderWay, running_with};
 ghost use Rattle.run_steps.specs.declared.running.Running.{Running};
 
 use crate::machines::SteppedMachine;
 use crate::running::Running;
+use schedule_pick::Schedule;
 use std::alloc::AllocError;
 
 /// How runs of one kind are stepped: which machine is, who is told of its steps, and what a turn does.
 pub trait Stepping {
     /// The machine.
-    type Machine: SteppedMachine;
+    type Machine: SteppedMachine + Drop;
 
     /// Who is told of its steps.
-    type Clerk;
+    type Clerk: Drop;
 
     /// It stands so many choices into the run of an image with these parameters under a schedule.
     ghost stands: { Running Self.Machine Self.Clerk → Contents → Params → Choices → ℕ → Type 0 };
@@ -36,17 +37,27 @@ pub trait Stepping {
         ensures nearer { OnOk result (Self.Machine.left run.new.machine < Self.Machine.left run.old.machine) };
 }
 
-/// Steps until no step is left, through whichever run it is on the way. The only refusal is want of memory.
-pub fn run_to_end<S: Stepping>(run: &mut Running<S::Machine, S::Clerk>) -> Result<(), AllocError>
-    requires under_way { IsUnderWay (S.stands run.old) }
-    requires ready { S.ready run.old }
-    ensures stands { (image : Contents) (params : Params) (schedule : Choices) (t : ℕ) → OnOk result
-        (S.stands run.old image params schedule t → (u : ℕ) × S.stands run.new image params schedule u) }
-    ensures image { OnOk result (S.Machine.image run.new.machine ≡ S.Machine.image run.old.machine) }
-    ensures done { OnOk result (S.Machine.ended run.new.machine ≡ true) }
+/// Steps the machine until no step is left, through whichever run it is on the way. The only refusal is want of memory.
+pub fn run_to_end<S: Stepping>(
+    machine: S::Machine,
+    clerk: S::Clerk,
+    choices: Schedule,
+) -> Result<Running<S::Machine, S::Clerk>, AllocError>
+    requires under_way { IsUnderWay (S.stands (running_with machine clerk choices)) }
+    requires ready { S.ready (running_with machine clerk choices) }
+    ensures stands { IfOk result (λ run. (image : Contents) (params : Params) (schedule : Choices) (t : ℕ)
+        → S.stands (running_with machine clerk choices) image params schedule t
+        → (u : ℕ) × S.stands run image params schedule u) }
+    ensures image { IfOk result (λ run. S.Machine.image run.machine ≡ S.Machine.image machine) }
+    ensures done { IfOk result (λ run. S.Machine.ended run.machine ≡ true) }
 {
+    let mut run = Running {
+        machine,
+        clerk,
+        choices,
+    };
     while !run.machine.done() {
-        S::turn(run)?;
+        S::turn(&mut run)?;
     }
-    Ok(())
+    Ok(run)
 }

@@ -61,20 +61,15 @@ pub fn tso_record_image(
     let words = image.words();
     prove!(words == params.words);
     are_bytes(image.bytes());
-    let clerk = RunClerk::new(alloc, params.cores)?;
-    let machine = BufferedMachine::<Times, Uncarried>::new(alloc, image, params)?;
-    let mut running = Running {
-        machine,
-        clerk,
-        choices: schedule,
-    };
-    make_rooms(&mut running.machine, &mut running.clerk)?;
-    run_to_end::<Recorder>(&mut running)?;
-    let totals = totals_of(alloc, &running.machine, params.cores)?;
-    let logs = running.clerk.finish();
+    let mut clerk = RunClerk::new(alloc, params.cores)?;
+    let mut machine = BufferedMachine::<Times, Uncarried>::new(alloc, image, params)?;
+    make_rooms(&mut machine, &mut clerk)?;
+    let ended = run_to_end::<Recorder>(machine, clerk, schedule)?;
+    let totals = totals_of(alloc, &ended.machine, params.cores)?;
+    let logs = ended.clerk.finish();
     Ok(TsoRecording {
         params,
-        image: Items::from_vec(running.machine.into_image().into_bytes()),
+        image: Items::from_vec(ended.machine.into_image().into_bytes()),
         totals,
         reduced: logs.reduced,
         values: logs.values,

@@ -38,17 +38,12 @@ pub fn tso_run(
 {
     let clerk = LoadClerk::new(alloc, params.cores)?;
     let machine = BufferedMachine::<NoRider, NoCarry>::new(alloc, image, params)?;
-    let mut running = Running {
-        machine,
-        clerk,
-        choices: schedule,
-    };
-    run_to_end::<Runner>(&mut running)?;
-    let loads = running.clerk.into_loads();
-    let outcome = outcome_at_end(alloc, &running.machine, loads, params)?;
+    let ended = run_to_end::<Runner>(machine, clerk, schedule)?;
+    let loads = ended.clerk.into_loads();
+    let outcome = outcome_at_end(alloc, &ended.machine, loads, params)?;
     Ok(TsoRan {
         outcome,
-        image: running.machine.into_image(),
+        image: ended.machine.into_image(),
     })
 }
 

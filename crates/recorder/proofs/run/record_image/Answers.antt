@@ -27,7 +27,7 @@ totals_of-requires c =
     let clerk = c.in_ok-clerk.ensures in
     let start = records_start a.image a.params a.schedule _ _ c.requires.fits c.in_ok-machine.ensures.start
     c.in_ok-machine.ensures.plain clerk.reduction clerk.untold clerk.cores clerk.follows in
-    sym (c.in_ok-run_to_end.ensures.stands _ _ _ _ start).1.notes.run.cores
+    sym (c.in_ok-ended.ensures.stands _ _ _ _ start).1.notes.run.cores
 
 pub returns : goal.returns
 returns c =
@@ -35,7 +35,7 @@ returns c =
     let clerk = c.in_ok-clerk.ensures in
     let start = records_start a.image a.params a.schedule _ _ c.requires.fits c.in_ok-machine.ensures.start
     c.in_ok-machine.ensures.plain clerk.reduction clerk.untold clerk.cores clerk.follows in
-    let ok = c.in_ok-run_to_end.ensures in
+    let ok = c.in_ok-ended.ensures in
     let image_is = ok.image ∙ ap (λ s. s.image) c.in_ok-machine.ensures.start in
     let it = recorded c.args.image c.args.params c.args.schedule _ _ _ _ c.requires.fits ok.done image_is
     (ok.stands _ _ _ _ start).1 in

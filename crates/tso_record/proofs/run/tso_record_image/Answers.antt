@@ -45,8 +45,8 @@ totals_of-requires c =
     let start = records_same a.image a.params a.schedule 0 _ _ c.in_ok-clerk.clerk c.make_rooms.new.clerk _ rooms.state
     rooms.reduction rooms.values
     (records_start _ _ _ _ _ c.in_ok-machine.ensures.start clerk.reduction clerk.values) in
-    sym (c.in_ok-run_to_end.ensures.stands _ _ _ _ start).1.runs.cores
-    ∙ sym (length-map c.run_to_end.new.run.machine.state.cores (λ (t : BufferedCore). t.core))
+    sym (c.in_ok-ended.ensures.stands _ _ _ _ start).1.runs.cores
+    ∙ sym (length-map c.in_ok-ended.ended.machine.state.cores (λ (t : BufferedCore). t.core))
 
 pub returns : goal.returns
 returns c =
@@ -58,7 +58,7 @@ returns c =
     let start = records_same image params schedule 0 _ _ c.in_ok-clerk.clerk c.make_rooms.new.clerk _ rooms.state
     rooms.reduction rooms.values
     (records_start _ _ _ _ _ c.in_ok-machine.ensures.start clerk.reduction clerk.values) in
-    let ok = c.in_ok-run_to_end.ensures in
+    let ok = c.in_ok-ended.ensures in
     let image_is = ok.image ∙ ap (λ s. s.image) (rooms.state ∙ c.in_ok-machine.ensures.start) in
     let ended = (ok.stands _ _ _ _ start).1 in
     let room : length image.bytes ≤ 4 * params.words =
@@ -72,7 +72,7 @@ returns c =
       words = opens_small image small;
     } in
     let it = held image params schedule can in
-    let cores = c.run_to_end.new.run.machine.state.cores in
+    let cores = c.in_ok-ended.ended.machine.state.cores in
     let made = recording_made image params schedule c.from_vec.result c.in_ok-totals.totals
     c.finish-logs.result.reduced c.finish-logs.result.values
     (c.from_vec.ensures ∙ c.into_bytes.ensures ∙ ap (λ (i : Contents). i.bytes) (c.into_image.ensures ∙ image_is))
