@@ -13,6 +13,7 @@ mod marks;
 mod moving;
 mod parts;
 mod standing;
+mod stepped;
 mod timed;
 
 pub use machine::{Machine, Stepped};

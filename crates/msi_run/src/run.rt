@@ -16,7 +16,9 @@ use std::alloc::{AllocError, Global};
 /// What a run came to, and the image that it was of.
 #[derive(Drop)]
 pub struct Ran {
+    /// The cores, the final memory and what each core's loads got.
     pub outcome: Outcome,
+    /// The image that was run.
     pub image: Image,
 }
 

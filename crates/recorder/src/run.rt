@@ -27,7 +27,9 @@ use std::alloc::{AllocError, Global};
 /// The recording of a run, and what the run came to.
 #[derive(Drop)]
 pub struct Recorded {
+    /// The recording, with both logs.
     pub recording: Recording,
+    /// The cores, the final memory and what each core's loads got.
     pub outcome: Outcome,
 }
 

@@ -3,7 +3,7 @@ ghost use Rattle.std.specs.Prelude.{◌≡◌, ◌%◌, IfOk, length, map, true}
 ghost use Rattle.rtr_types.specs.declared.TheConstants.{BLOCK_WORDS};
 ghost use Rattle.run_steps.specs.Ends.{outcome_with, words_in};
 
-use crate::machines::SteppedMachine;
+use machine_ports::SteppedMachine;
 use rtr_types::{BLOCK_WORDS, Items, Params};
 use rv_core::{Core, LoadNote, Outcome};
 use std::alloc::{AllocError, Global};

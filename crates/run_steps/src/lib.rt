@@ -4,12 +4,10 @@
 
 mod ends;
 mod load_clerk;
-mod machines;
 mod running;
 mod stepping;
 
 pub use ends::{outcome_at_end, totals_of};
 pub use load_clerk::LoadClerk;
-pub use machines::SteppedMachine;
 pub use running::Running;
 pub use stepping::{Stepping, run_to_end};

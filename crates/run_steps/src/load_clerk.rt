@@ -26,7 +26,7 @@ impl Model for LoadClerk {
 }
 
 impl LoadClerk {
-    /// A clerk for so many cores that was told nothing yet.
+    /// A clerk for so many cores that was told nothing yet. The only refusal is want of memory.
     pub fn new(alloc: Global, cores: u8) -> Result<LoadClerk, AllocError>
         ensures { IfOk result (λ clerk. clerk.lists ≡ replicate cores []) }
     {
@@ -34,7 +34,7 @@ impl LoadClerk {
         Ok(LoadClerk { loads })
     }
 
-    /// Makes room for one more load of each core.
+    /// Makes room for one more load of each core. The only refusal is want of memory.
     pub fn make_room(&mut self) -> Result<(), AllocError>
         ensures lists { self.new.lists ≡ self.old.lists }
         ensures roomy { OnOk result (IsTrue self.new.roomy) }

@@ -6,8 +6,8 @@ ghost use Rattle.schedule_pick.specs.Choices.{Choices};
 ghost use Rattle.run_steps.specs.Ways.{IsUnderWay, running_with};
 ghost use Rattle.run_steps.specs.declared.running.Running.{Running};
 
-use crate::machines::SteppedMachine;
 use crate::running::Running;
+use machine_ports::SteppedMachine;
 use schedule_pick::Schedule;
 use std::alloc::AllocError;
 

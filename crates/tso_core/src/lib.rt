@@ -19,6 +19,7 @@ mod queue;
 mod receiving;
 mod standing;
 mod station;
+mod stepped;
 mod timed;
 mod working;
 

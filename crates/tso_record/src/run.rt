@@ -28,7 +28,9 @@ use tso_run::tso_run;
 /// The recording of a run, and what the run came to.
 #[derive(Drop)]
 pub struct TsoRecorded {
+    /// The recording, with the reduced log and the logged loads.
     pub recording: TsoRecording,
+    /// The cores, the final memory and what each core's loads and atomic memory operations got.
     pub outcome: Outcome,
 }
 

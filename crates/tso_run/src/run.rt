@@ -16,7 +16,9 @@ use tso_core::BufferedMachine;
 /// What a run came to, and the image that it was of.
 #[derive(Drop)]
 pub struct TsoRan {
+    /// The cores, the final memory and what each core's loads and atomic memory operations got.
     pub outcome: Outcome,
+    /// The image that was run.
     pub image: Image,
 }
 

@@ -2,7 +2,7 @@ use Rattle.std.proofs.Common.{◌<◌, ◌∙◌, arith, length, sym}
 use Rattle.std.proofs.lemmas.List.{get_or-map, length-map}
 use Rattle.rv_core.specs.States.{starting}
 use Rattle.tso_state.specs.States.{BufferedCore, buffered_start}
-use Rattle.run_steps.proofs.machines.BufferedMachineSteppedMachine.core.Goals as goal
+use Rattle.tso_core.proofs.stepped.BufferedMachineSteppedMachine.core.Goals as goal
 
 pub core-requires : goal.core-requires
 core-requires g c = omega (arith, c.requires, length-map c.args.self.now.state.cores (λ (t : BufferedCore). t.core))
