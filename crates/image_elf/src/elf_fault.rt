@@ -26,18 +26,18 @@ pub enum ElfFault {
     OutOfMemory,
 }
 
-impl From<AllocError> for ElfFault {
-    ghost from_gives = { λ _ e. e ≡ OutOfMemory };
-
-    fn from(_error: AllocError) -> Self {
-        ElfFault::OutOfMemory
-    }
-}
-
 impl<T: Drop> From<AllocFailed<T>> for ElfFault {
     ghost from_gives = { λ _ e. e ≡ OutOfMemory };
 
     fn from(_error: AllocFailed<T>) -> Self {
+        ElfFault::OutOfMemory
+    }
+}
+
+impl From<AllocError> for ElfFault {
+    ghost from_gives = { λ _ e. e ≡ OutOfMemory };
+
+    fn from(_error: AllocError) -> Self {
         ElfFault::OutOfMemory
     }
 }

@@ -4,19 +4,16 @@ use Rattle.std.proofs.Common.{[], length, get_or, Result}
 use Rattle.std.proofs.Common.{Ok, Err, refl, sym, ap, subst, ◌∙◌, arith}
 use Rattle.std.proofs.lemmas.Bool.{eq-eqb, ne_eqb}
 use Rattle.std.proofs.lemmas.List.{nil_from_length}
-use Rattle.rtr_types.specs.declared.params.Params.{Params}
 use Rattle.stride_vector.specs.declared.StrideVector.{StrideVector}
 use Rattle.log_codec.specs.declared.codec_fault.TheConstants.{HEADER, IMAGE, TOTALS, REDUCED, REGULATED, END}
 use Rattle.race_log.specs.declared.recording.Recording.{Recording}
-use Rattle.log_codec.specs.declared.version.Version.{Version}
-use Rattle.log_codec.specs.BadParts.{BadPart, FrontNames, IsHeader, IsRegulated, IsTotals, NoHeader, NoImage, NoReduced}
+use Rattle.log_codec.specs.BadParts.{BadPart, FrontNames, IsHeader, IsRegulated, NoHeader, NoImage, NoReduced}
 use Rattle.log_codec.specs.BadParts.{NoRegulated, NoTotals, UpToReduced, UpToRegulated, WholeNames, recording_up_to}
 use Rattle.log_codec.specs.Faults.{◌>>=◌}
 use Rattle.log_codec.specs.Laws.{IsBytes}
 use Rattle.log_codec.specs.Reading.{front_at, header_at, regulated_at, whole_at}
 use Rattle.log_codec.specs.Spelling.{header_text}
 use Rattle.race_log.specs.Validity.{AreVectors, bound_at}
-use Rattle.log_codec.specs.Versions.{FitsIn}
 use Rattle.log_codec.proofs.FieldLaws.{header_again, header_takes}
 use Rattle.log_codec.proofs.FourParts as four
 use Rattle.log_codec.proofs.FourParts.{NamesFour, ReadsHeader, never-both, no-reading, rest-bytes}
@@ -52,17 +49,20 @@ reduced-bytes = four.reduced-bytes IsHeader header_at head
 
 -- ---- the regulated log
 
-regulated-read : (v : Version) (p : Params) (before totals after bytes : List ℕ) (regulated : List (List StrideVector))
-    (rest : List ℕ) → FitsIn v p →
-    IsTotals p before totals after → IsRegulated totals bytes regulated rest →
-    regulated_at totals bytes ≡ Ok (regulated, rest)
-regulated-read v p before totals after bytes regulated rest fits t h =
-    let sizes = totals_fit v p totals fits t.each_core in
+regulated-read : (bytes before : List ℕ) (u : UpToReduced IsHeader bytes before) (regulated : List (List StrideVector))
+    (rest : List ℕ) → IsRegulated u.three.totals before regulated rest →
+    regulated_at u.three.totals before ≡ Ok (regulated, rest)
+regulated-read bytes before u regulated rest h =
+    let f = u.three.two.first in
+    let totals = u.three.totals in
+    let t = u.three.third in
+    let sizes = totals_fit f.version f.params totals f.header.limits t.each_core in
     let stand = places-stand (λ place vs. AreVectors (bound_at totals place) vs) 0 regulated []
     (λ i lt. let same : i ≡ 0 + i = omega arith in
     subst (λ (k : ℕ). AreVectors (bound_at totals k) (get_or regulated i [])) same
     (h.vectors i (subst (λ (n : ℕ). i < n) h.pairs lt))) in
-    ap (regulated_at totals) h.spelled ∙ regulated_again p.limit totals regulated rest sizes.small t.most h.pairs stand
+    ap (regulated_at totals) h.spelled
+    ∙ regulated_again f.params.limit totals regulated rest sizes.small t.most h.pairs stand
 
 read-regulated : (totals bytes : List ℕ) (regulated : List (List StrideVector)) (rest : List ℕ) → IsBytes bytes →
     regulated_at totals bytes
@@ -85,13 +85,9 @@ pub after-5 : (bytes rest : List ℕ) (u : UpToRegulated bytes rest) →
       rest,
     )
 after-5 bytes rest u =
-    let r = u.four in
-    let t = r.three in
-    let f = t.two.first in
-    after-4 bytes u.before r
-    ∙ ap (λ x. x >>= λ regulated. Ok (made_of f.params t.two.image t.totals r.reduced regulated.0, regulated.1))
-    (regulated-read f.version f.params t.before t.totals r.before u.before u.regulated rest f.header.limits t.third
-    u.fifth)
+    front-is bytes
+    ∙ four.after-5 IsHeader header_at head (λ p. regulated_at) made_of bytes u.before rest u.four u.regulated
+    (regulated-read bytes u.before u.four u.regulated rest u.fifth)
 
 -- ---- no valid part, then its name
 
@@ -121,13 +117,11 @@ ends-after-4 bytes rest p u e =
       regulated.1,
     )) p e) [
       | inl bad ↦
-          let f = u.three.two.first in
           subst (Ends bytes) (sym (regulated-names u.three.totals rest p bad)) (
             rest,
             u,
             λ regulated after is. never-both p (regulated_at u.three.totals rest) (regulated, after) bad
-                (regulated-read f.version f.params u.three.before u.three.totals u.before rest regulated after
-                f.header.limits u.three.third is),
+                (regulated-read bytes rest u regulated after is),
           )
       | inr more ↦ absurd (let f = more.2 in cc)
     ]

@@ -6,9 +6,8 @@ use Rattle.rtr_types.specs.Pairs.{pair_count}
 use Rattle.rtr_types.specs.Turns.{StandInTurn, count_up}
 use Rattle.race_log.specs.Validity.{bound_at}
 use Rattle.race_log.proofs.Parts.{bound-small}
-use Rattle.log_codec.specs.Faults.{◌>>=◌}
 use Rattle.log_codec.specs.Laws.{IsBytes}
-use Rattle.log_codec.specs.Reading.{number_at}
+use Rattle.log_codec.specs.Reading.{counted_at, number_at}
 use Rattle.log_codec.specs.Spelling.{number}
 use Rattle.log_codec.specs.Turns.{alike, read_in_turn, spelled_in_turn}
 use Rattle.log_codec.proofs.FieldLaws.{number_again, number_takes}
@@ -16,10 +15,6 @@ use Rattle.log_codec.proofs.InTurn.{turns_again, turns_take}
 use Rattle.log_codec.proofs.Steps.{Takes, Takes-then, bind_ok}
 
 -- ---- how many, and these
-
-abbrev counted_at : {S X : Type 0} → (S → List ℕ → Result (X × List ℕ) ℕ) → (S → X → S) → ℕ → S → List ℕ →
-    Result (List X × List ℕ) ℕ
-counted_at item next part s bytes = number_at part bytes >>= λ count. read_in_turn item next count.0 s count.1
 
 abbrev counted_text : {S X : Type 0} → (S → X → List ℕ) → (S → X → S) → S → List X → List ℕ
 counted_text text next s xs = number (length xs) ++ spelled_in_turn text next s xs

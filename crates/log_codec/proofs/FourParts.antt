@@ -95,6 +95,12 @@ pub record NamesFour (Header : HeaderRelation) (bytes : List ℕ) (A : Type 0) (
   pub totals : NoTotals Header bytes → read ≡ Err TOTALS
   pub reduced : NoReduced Header bytes → read ≡ Err REDUCED
 
+-- the reading of a fifth part, and of what is made of all five
+abbrev with_fifth : {V A : Type 0} → (Params → List ℕ → List ℕ → Result (V × List ℕ) ℕ) →
+    (Params → List ℕ → List ℕ → List (List (ℕ × ℕ)) → V → A) → AfterFour (A × List ℕ)
+with_fifth fifth_at made p image totals reduced =
+    fifth_at p totals reduced.1 >>= λ fifth. Ok (made p image totals reduced.0 fifth.0, fifth.1)
+
 module _ (Header : HeaderRelation) (header_at : List ℕ → Result Headed ℕ) (head : ReadsHeader Header header_at) where
   pub limits-fit : (bytes rest : List ℕ) (u : UpToHeader Header bytes rest) → FitsIn u.version u.params
   limits-fit bytes rest u = head.limits bytes u.version u.params u.len rest u.header
@@ -275,3 +281,17 @@ module _ (Header : HeaderRelation) (header_at : List ℕ → Result Headed ℕ) 
         by (Ok h) e =
             let header = head.takes bytes h.0 h.1 h.2 h.3 are e in
             stops-1 last end bytes h.3 are (record { version = h.0; params = h.1; len = h.2; header = header })
+
+  -- ---- a fifth part after them
+
+  pub after-5 : {V A : Type 0} (fifth_at : Params → List ℕ → List ℕ → Result (V × List ℕ) ℕ)
+      (made : Params → List ℕ → List ℕ → List (List (ℕ × ℕ)) → V → A)
+      (bytes before rest : List ℕ) (u : UpToReduced Header bytes before) (v : V) →
+      fifth_at u.three.two.first.params u.three.totals before ≡ Ok (v, rest) →
+      (header_at bytes >>= after_header (with_fifth fifth_at made))
+      ≡ Ok (made u.three.two.first.params u.three.two.image u.three.totals u.reduced v, rest)
+  after-5 fifth_at made bytes before rest u v read =
+      let t = u.three in
+      let p = t.two.first.params in
+      after-4 (with_fifth fifth_at made) bytes before u
+      ∙ ap (λ x. x >>= λ fifth. Ok (made p t.two.image t.totals u.reduced fifth.0, fifth.1)) read

@@ -1,7 +1,6 @@
 -- The limits of the versions, as facts and as tests, and how they nest.
 use Rattle.std.proofs.Common.{◌≡◌, ℕ, ◌*◌, ◌≤◌, true, ◌&&◌, nat_le, refl, arith}
 use Rattle.std.proofs.Math.Nat.{mul-le-mul_left}
-use Rattle.std.proofs.lemmas.Bool.Decides.{nat_tests}
 use Rattle.std.proofs.lemmas.Bool.{and_parts, le-leb, leb-true}
 use Rattle.rtr_types.specs.declared.params.Params.{Params}
 use Rattle.log_codec.specs.declared.version.Version.{Version}

@@ -5,7 +5,7 @@ use Rattle.std.specs.Prelude.{IfOk}
 use Rattle.std.proofs.lemmas.Bool.{eqb-true}
 use Rattle.std.proofs.lemmas.List.{append-nil, nil_from_length}
 use Rattle.log_codec.specs.declared.codec_fault.CodecFault.{CodecFault}
-use Rattle.log_codec.specs.Faults.{Gives, read_all}
+use Rattle.log_codec.specs.Faults.{Gives, Reads, read_all}
 use Rattle.log_codec.specs.Laws.{IsBytes}
 use Rattle.log_codec.proofs.Steps.{bind_ok, bytes-from_index, guard_ok, ok_is, Takes}
 
@@ -64,18 +64,15 @@ spelling_laws front last InForm text takes again = record {
 
 -- ---- what a reader of all bytes answers
 
--- what it read is in form and has these bytes, and what is in form and has them is read, unless memory ran out
-pub record Reads {A : Type 0} (InForm Spells : A → Type 0) (result : Result A CodecFault) : Type 0 where
-  pub found : IfOk result (λ a. InForm a × Spells a)
-  pub only : (a : A) → InForm a → Spells a → Gives (λ x. x) result (Ok a)
-
 pub reads : {A : Type 0} (InForm Spells : A → Type 0) (bytes : List ℕ) (read : Result A ℕ)
     (result : Result A CodecFault) → ((i : ℕ) → get_or bytes i 0 < 256) →
     ((a : A) → IsBytes bytes → read ≡ Ok a → InForm a × Spells a) →
-    ((a : A) → InForm a → Spells a → read ≡ Ok a) → Gives (λ x. x) result read → Reads InForm Spells result
+    ((a : A) → InForm a → Spells a → read ≡ Ok a) → Gives (λ x. x) result read →
+    Reads InForm Spells read result
 reads {A} InForm Spells bytes read result are is_spelled is_read given = record {
   found = found result given;
   only = λ a valid spells. subst (λ (f : Result A ℕ). Gives (λ x. x) result f) (is_read a valid spells) given;
+  exact = given;
 }
   where
     found : (result : Result A CodecFault) → Gives (λ x. x) result read → IfOk result (λ a. InForm a × Spells a)

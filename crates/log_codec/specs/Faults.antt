@@ -1,5 +1,5 @@
 -- Readings that name the part in which they fail.
-use Rattle.std.specs.Prelude.{◌≡◌, ℕ, List, length, Result, Ok, Err, ◌==◌, if◌then◌else◌}
+use Rattle.std.specs.Prelude.{◌≡◌, ℕ, List, length, Result, Ok, Err, IfOk, ◌==◌, if◌then◌else◌}
 use Rattle.log_codec.specs.declared.codec_fault.CodecFault.{CodecFault}
 use Rattle.log_codec.specs.declared.codec_fault.CodecFault.TheVariants as faults
 
@@ -23,3 +23,13 @@ Fails faults.OutOfMemory read = Unit {0}
 abbrev pub Gives : {X Y : Type 0} → (X → Y) → Result X CodecFault → Result Y ℕ → Type 0
 Gives view (Ok x) read = read ≡ Ok (view x)
 Gives view (Err e) read = Fails e read
+
+-- what a reader of all bytes returned, of which this is the reading
+pub record Reads {A : Type 0} (InForm Spells : A → Type 0) (read : Result A ℕ)
+    (result : Result A CodecFault) : Type 0 where
+  -- what is read is in form, and is spelled by the bytes
+  pub found : IfOk result (λ a. InForm a × Spells a)
+  -- what is in form and is spelled by the bytes is read, unless memory runs out
+  pub only : (a : A) → InForm a → Spells a → Gives (λ x. x) result (Ok a)
+  -- which part it is that has no reading
+  pub exact : Gives (λ x. x) result read

@@ -66,6 +66,13 @@ total_at limit bytes = do
   total ← number_at TOTALS bytes
   if nat_le total.0 limit then Ok total else Err TOTALS
 
+-- a list: how many items, and these
+abbrev pub counted_at : {S X : Type 0} → (S → List ℕ → Result (X × List ℕ) ℕ) → (S → X → S) → (part : ℕ) → S →
+    List ℕ → Result (List X × List ℕ) ℕ
+counted_at item next part s bytes = do
+  count ← number_at part bytes
+  read_in_turn item next count.0 s count.1
+
 -- as many totals as there are cores
 abbrev pub totals_at : ℕ → ℕ → List ℕ → Result (List ℕ × List ℕ) ℕ
 totals_at limit cores bytes = read_in_turn (λ (s : Unit {0}). total_at limit) stay cores tt bytes
@@ -78,16 +85,19 @@ edge_at most last bytes = do
   if (nat_lt 0 a.0 && nat_lt 0 b.0) && (nat_le (last.0 + a.0) most.0 && nat_le (last.1 + b.0) most.1) then Ok
       ((last.0 + a.0, last.1 + b.0), a.1) else Err REDUCED
 
--- the edges of a pair: how many, and these
+-- the edges of a pair
 unfoldable pub edges_at : ℕ × ℕ → List ℕ → Result (List (ℕ × ℕ) × List ℕ) ℕ
-edges_at most bytes = do
-  count ← number_at REDUCED bytes
-  read_in_turn (edge_at most) follow count.0 (0, 0) count.1
+edges_at most bytes = counted_at (edge_at most) follow REDUCED (0, 0) bytes
+
+-- the list of each pair, which is read with the pair's totals
+abbrev pub by_pairs_at : {X : Type 0} → (ℕ × ℕ → List ℕ → Result (List X × List ℕ) ℕ) → List ℕ → List ℕ →
+    Result (List (List X) × List ℕ) ℕ
+by_pairs_at list_at totals bytes =
+    read_in_turn (λ place. list_at (bound_at totals place)) count_up (pair_count (length totals)) 0 bytes
 
 -- the edges of each pair
 abbrev pub pairs_at : List ℕ → List ℕ → Result (List (List (ℕ × ℕ)) × List ℕ) ℕ
-pairs_at totals bytes =
-    read_in_turn (λ place. edges_at (bound_at totals place)) count_up (pair_count (length totals)) 0 bytes
+pairs_at totals bytes = by_pairs_at edges_at totals bytes
 
 -- the edge into a core, where it stands after the ones before
 abbrev pub standing_into : List ℕ → ℕ → List Incoming → Incoming → List ℕ → Result (Incoming × List ℕ) ℕ
@@ -102,11 +112,9 @@ incoming_at totals target before bytes = do
   standing_into totals target before
       (record { source = source.0; counts = (last_source source.0 before + a.0, last_target before + b.0) }) a.1
 
--- the edges into a core: how many, and these
+-- the edges into a core
 unfoldable pub into_at : List ℕ → ℕ → List ℕ → Result (List Incoming × List ℕ) ℕ
-into_at totals target bytes = do
-  count ← number_at REDUCED bytes
-  read_in_turn (incoming_at totals target) remember count.0 [] count.1
+into_at totals target bytes = counted_at (incoming_at totals target) remember REDUCED [] bytes
 
 -- the lists of the pairs, with what was read of the edges into a target at their ends
 abbrev pub put_into_lists : (cores : ℕ) → List (List (ℕ × ℕ)) → (target : ℕ) → Result (List Incoming × List ℕ) ℕ →
@@ -150,16 +158,13 @@ vector_at most last bytes = do
   strides ← strides_at n.0 b.1
   standing most last (record { n = n.0; a0 = a.0; b0 = b.0; sa = strides.0; sb = strides.1 }) strides.2
 
--- the vectors of a pair: how many, and these
+-- the vectors of a pair
 unfoldable pub vectors_at : ℕ × ℕ → List ℕ → Result (List StrideVector × List ℕ) ℕ
-vectors_at most bytes = do
-  count ← number_at REGULATED bytes
-  read_in_turn (vector_at most) end_of count.0 (0, 0) count.1
+vectors_at most bytes = counted_at (vector_at most) end_of REGULATED (0, 0) bytes
 
 -- the vectors of each pair
 abbrev pub regulated_at : List ℕ → List ℕ → Result (List (List StrideVector) × List ℕ) ℕ
-regulated_at totals bytes =
-    read_in_turn (λ place. vectors_at (bound_at totals place)) count_up (pair_count (length totals)) 0 bytes
+regulated_at totals bytes = by_pairs_at vectors_at totals bytes
 
 -- the parts but for the end, and the bytes after them
 unfoldable pub front_at : List ℕ → Result (Recording × List ℕ) ℕ

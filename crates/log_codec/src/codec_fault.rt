@@ -5,6 +5,15 @@ ghost use Rattle.log_codec.specs.declared.codec_fault.CodecFault.TheVariants.{Ou
 use rtr_types::Items;
 use std::alloc::{AllocError, AllocFailed};
 
+/// Why there is no recording.
+#[derive(Clone, Copy, Debug, PartialEq, Eq)]
+pub enum CodecFault {
+    /// The bytes spell none. The number names the first part that has no reading.
+    Bad { part: u8 },
+    /// Memory ran out.
+    OutOfMemory,
+}
+
 /// The first part: four bytes that name the format, the parameters and the length of the image.
 pub const HEADER: u8 = 1;
 
@@ -22,15 +31,6 @@ pub const REGULATED: u8 = 5;
 
 /// The sixth part: the end, where no byte stands.
 pub const END: u8 = 6;
-
-/// Why there is no recording.
-#[derive(Clone, Copy, Debug, PartialEq, Eq)]
-pub enum CodecFault {
-    /// The bytes spell none. The number names the first part that has no reading.
-    Bad { part: u8 },
-    /// Memory ran out.
-    OutOfMemory,
-}
 
 /// What was read at the front of bytes, and the bytes after it.
 pub type Reading<'a, T> = Result<(T, &'a [u8]), CodecFault>;

@@ -8,7 +8,7 @@ ghost use Rattle.log_codec.specs.Versions.{FitsIn};
 ghost use Rattle.race_log.specs.declared.recording.Recording.{Recording};
 ghost use Rattle.log_codec.specs.declared.version.Version.{Version};
 
-use crate::codec_fault::{CodecFault, END, PairEdges, Reading};
+use crate::codec_fault::{CodecFault, END, PairEdges, REDUCED, Reading};
 use crate::fields::{header, image, totals};
 use crate::pairs::by_pairs;
 use crate::targets::by_targets;
@@ -19,6 +19,7 @@ use rtr_types::CORES_MAX;
 use std::alloc::Global;
 
 /// The fourth part, in which the versions differ.
+#[tactic(auto, unfolding(crate::specs::Reading::edges_at))]
 fn reduced<'a>(
     alloc: Global,
     version: Version,
@@ -29,7 +30,7 @@ fn reduced<'a>(
     ensures { Gives (λ x. (x.0, x.1.now)) result (reduced_at version totals.now bytes.now) }
 {
     match version {
-        Version::One => by_pairs(alloc, totals, bytes),
+        Version::One => by_pairs(alloc, REDUCED, totals, bytes),
         Version::Two => by_targets(alloc, totals, bytes),
     }
 }

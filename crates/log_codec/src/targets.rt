@@ -4,9 +4,8 @@ ghost use Rattle.std.specs.Prelude.{replicate, IfOk, IfSome};
 ghost use Rattle.rtr_types.specs.Pairs.{IsPair};
 ghost use Rattle.log_codec.specs.Faults.{Gives};
 ghost use Rattle.log_codec.specs.Incoming.{Keeps, TakesInto, incoming, incoming_stands, last_source, last_target};
-ghost use Rattle.log_codec.specs.Incoming.{remember, target_count};
+ghost use Rattle.log_codec.specs.Incoming.{target_count};
 ghost use Rattle.log_codec.specs.Reading.{incoming_at, into_at, put_into_lists, targets_at};
-ghost use Rattle.log_codec.specs.Turns.{read_in_turn};
 ghost use Rattle.log_codec.specs.declared.incoming.Incoming.{Incoming};
 
 use crate::codec_fault::{CodecFault, PairEdges, REDUCED, Reading};
@@ -84,34 +83,7 @@ fn edge<'a>(
     }
 }
 
-/// As many edges into a core as the count says, put into the lists of their pairs.
-fn edges_from<'a>(
-    totals: &[u32],
-    target: u8,
-    count: u32,
-    lists: &mut Vec<Items<(u32, u32)>>,
-    bytes: &'a [u8],
-) -> Result<&'a [u8], CodecFault>
-    requires { TakesInto totals.now target lists.old.items }
-    ensures { Gives (λ rest. (lists.new.items, rest.now)) result
-        (put_into_lists (length totals.now) lists.old.items target
-        (read_in_turn (incoming_at totals.now target) remember count [] bytes.now)) }
-{
-    let cores = totals.len() as u8;
-    let mut last = None;
-    let mut counts = [0; PLACES];
-    let mut rest = bytes;
-    for _ in 0..count {
-        let (next, after) = edge(totals, target, last, &counts, rest)?;
-        lists[pair_at(cores, next.source, target)].push(next.counts)?;
-        counts[next.source as usize] = next.counts.0;
-        last = Some(next);
-        rest = after;
-    }
-    Ok(rest)
-}
-
-/// The edges into a core, put into the lists of their pairs.
+/// The edges into a core, put into the lists of their pairs: how many, and these.
 #[tactic(auto, unfolding(crate::specs::Reading::into_at))]
 fn into<'a>(
     totals: &[u32],
@@ -123,8 +95,18 @@ fn into<'a>(
     ensures { Gives (λ rest. (lists.new.items, rest.now)) result
         (put_into_lists (length totals.now) lists.old.items target (into_at totals.now target bytes.now)) }
 {
-    let (count, rest) = number(REDUCED, bytes)?;
-    edges_from(totals, target, count, lists, rest)
+    let cores = totals.len() as u8;
+    let mut last = None;
+    let mut counts = [0; PLACES];
+    let (count, mut rest) = number(REDUCED, bytes)?;
+    for _ in 0..count {
+        let (next, after) = edge(totals, target, last, &counts, rest)?;
+        lists[pair_at(cores, next.source, target)].push(next.counts)?;
+        counts[next.source as usize] = next.counts.0;
+        last = Some(next);
+        rest = after;
+    }
+    Ok(rest)
 }
 
 /// As many empty lists as there are pairs.

@@ -1,15 +1,14 @@
 //! Reading the strided vectors of the regulated log.
-ghost use Rattle.std.specs.Prelude.{◌≡◌, ◌+◌, ◌*◌, ◌≤◌, length, IsTrue, IfOk};
+ghost use Rattle.std.specs.Prelude.{◌≡◌, ◌+◌, ◌*◌, ◌≤◌, length, IsTrue};
 ghost use Rattle.stride_vector.specs.Vectors.{IsVector};
 ghost use Rattle.log_codec.specs.Faults.{Gives};
-ghost use Rattle.log_codec.specs.Turns.{read_in_turn};
 ghost use Rattle.race_log.specs.Validity.{end_of, strides_stand, vector_stands};
-ghost use Rattle.log_codec.specs.Reading.{strides_at, vector_at, vectors_at, regulated_at};
+ghost use Rattle.log_codec.specs.Reading.{strides_at, vector_at, regulated_at};
 
 use crate::codec_fault::{CodecFault, REGULATED, Reading};
 use crate::fields::number;
-use crate::pairs::bound;
-use rtr_types::{CORES_MAX, Items, pair_count};
+use crate::pairs::{PairEntry, by_pairs};
+use rtr_types::{CORES_MAX, Items};
 use std::alloc::Global;
 use stride_vector::StrideVector;
 
@@ -58,56 +57,33 @@ fn stands(most: (u32, u32), last: (u32, u32), v: &StrideVector) -> bool
         && reached(v.b0, more, v.sb) <= most.1 as u64
 }
 
-/// The next vector after the last position.
-#[tactic(auto, unfolding(crate::specs::Reading::vector_at))]
-fn vector(most: (u32, u32), last: (u32, u32), bytes: &[u8]) -> Reading<StrideVector>
-    ensures read { Gives (λ x. (x.0, x.1.now)) result (vector_at most last bytes.now) }
-    ensures vector { IfOk result (λ x. IsVector x.0) }
-{
-    let (n, rest) = number(REGULATED, bytes)?;
-    let (a0, rest) = number(REGULATED, rest)?;
-    let (b0, rest) = number(REGULATED, rest)?;
-    let (sa, sb, rest) = strides(n, rest)?;
-    let v = StrideVector { n, a0, b0, sa, sb };
-    if !stands(most, last, &v) {
-        return Err(CodecFault::Bad { part: REGULATED });
-    }
-    Ok((v, rest))
-}
+impl PairEntry for StrideVector {
+    ghost entry_at = { vector_at };
 
-/// As many vectors as the count says.
-#[tactic(auto, using(crate::proofs::InTurn::reading))]
-fn vectors_from(
-    alloc: Global,
-    most: (u32, u32),
-    count: u32,
-    bytes: &[u8],
-) -> Reading<Items<StrideVector>>
-    ensures { Gives (λ x. (x.0, x.1.now)) result (read_in_turn (vector_at most) end_of count (0, 0) bytes.now) }
-{
-    let mut found = Items::new(alloc);
-    let mut last = (0, 0);
-    let mut rest = bytes;
-    for _ in 0..count {
-        let (next, after) = vector(most, last, rest)?;
-        found.push(next)?;
-        last = next.last();
-        rest = after;
-    }
-    Ok((found, rest))
-}
+    ghost end_of = { end_of };
 
-/// The vectors of a pair.
-#[tactic(auto, unfolding(crate::specs::Reading::vectors_at))]
-fn vectors(alloc: Global, most: (u32, u32), bytes: &[u8]) -> Reading<Items<StrideVector>>
-    ensures { Gives (λ x. (x.0, x.1.now)) result (vectors_at most bytes.now) }
-{
-    let (count, rest) = number(REGULATED, bytes)?;
-    vectors_from(alloc, most, count, rest)
+    /// The next vector after the last position.
+    #[tactic(auto, unfolding(crate::specs::Reading::vector_at))]
+    fn entry(
+        most: (u32, u32),
+        last: (u32, u32),
+        bytes: &[u8],
+    ) -> Reading<(StrideVector, (u32, u32))> {
+        let (n, rest) = number(REGULATED, bytes)?;
+        let (a0, rest) = number(REGULATED, rest)?;
+        let (b0, rest) = number(REGULATED, rest)?;
+        let (sa, sb, rest) = strides(n, rest)?;
+        let v = StrideVector { n, a0, b0, sa, sb };
+        if !stands(most, last, &v) {
+            return Err(CodecFault::Bad { part: REGULATED });
+        }
+        let end = v.last();
+        Ok(((v, end), rest))
+    }
 }
 
 /// The vectors of all pairs.
-#[tactic(auto, using(crate::proofs::InTurn::reading))]
+#[tactic(auto, unfolding(crate::specs::Reading::vectors_at))]
 pub fn regulated<'a>(
     alloc: Global,
     totals: &[u32],
@@ -116,13 +92,5 @@ pub fn regulated<'a>(
     requires { length totals.now ≤ CORES_MAX }
     ensures { Gives (λ x. (x.0, x.1.now)) result (regulated_at totals.now bytes.now) }
 {
-    let mut found = Items::new(alloc);
-    let mut rest = bytes;
-    for place in 0..pair_count(totals.len() as u8) {
-        let most = bound(totals, place);
-        let (next, after) = vectors(alloc, most, rest)?;
-        found.push(next)?;
-        rest = after;
-    }
-    Ok((found, rest))
+    by_pairs(alloc, REGULATED, totals, bytes)
 }

@@ -98,11 +98,17 @@ after-4 bytes rest u = parts-from bytes ∙ four.after-4 IsTsoHeader header_at h
 
 -- ---- the values
 
-values-read : (p : Params) (before totals mid bytes : List ℕ) (values : List (List (ℕ × ℕ))) (rest : List ℕ) →
-    p.limit < 2 ^ 32 →
-    IsTotals p before totals mid → AreAllValues totals bytes values rest →
-    all_values_at p.cores totals bytes ≡ Ok (values, rest)
-values-read p before totals mid bytes values rest small t h =
+small-limit : (bytes rest : List ℕ) → (u : UpToHeader IsTsoHeader bytes rest) → u.params.limit < 2 ^ 32
+small-limit bytes rest u = let f = u.header.limits in omega (arith, f.limit)
+
+values-read : (bytes before : List ℕ) (u : UpToReduced IsTsoHeader bytes before) (values : List (List (ℕ × ℕ)))
+    (rest : List ℕ) → AreAllValues u.three.totals before values rest →
+    all_values_at u.three.two.first.params.cores u.three.totals before ≡ Ok (values, rest)
+values-read bytes before u values rest h =
+    let p = u.three.two.first.params in
+    let totals = u.three.totals in
+    let t = u.three.third in
+    let small = small-limit bytes u.three.two.before u.three.two.first in
     ap (all_values_at p.cores totals) h.spelled
     ∙ all_values_again p.cores totals values rest (λ c. let le = total-small p.limit totals c t.most in omega arith)
     (h.each_core ∙ t.each_core) h.stand
@@ -115,22 +121,15 @@ read-values p before totals mid bytes values rest are t e =
     let v = all_values_take p.cores totals bytes values rest are e in
     record { each_core = v.1 ∙ sym t.each_core; stand = v.2; spelled = v.0.parts }
 
-small-limit : (bytes rest : List ℕ) → (u : UpToHeader IsTsoHeader bytes rest) → u.params.limit < 2 ^ 32
-small-limit bytes rest u = let f = u.header.limits in omega (arith, f.limit)
-
 abbrev made : (bytes rest : List ℕ) → UpToValues bytes rest → TsoRecording
 made bytes rest u =
     made_of u.four.three.two.first.params u.four.three.two.image u.four.three.totals u.four.reduced u.values
 
 after-5 : (bytes rest : List ℕ) (u : UpToValues bytes rest) → parts_at bytes ≡ Ok (made bytes rest u, rest)
 after-5 bytes rest u =
-    let r = u.four in
-    let t = r.three in
-    let f = t.two.first in
-    after-4 bytes u.before r
-    ∙ ap (λ x. x >>= λ values. Ok (made_of f.params t.two.image t.totals r.reduced values.0, values.1))
-    (values-read f.params t.before t.totals r.before u.before u.values rest (small-limit bytes t.two.before f) t.third
-    u.fifth)
+    parts-from bytes
+    ∙ four.after-5 IsTsoHeader header_at head (λ p totals. all_values_at p.cores totals) made_of bytes u.before rest
+    u.four u.values (values-read bytes u.before u.four u.values rest u.fifth)
 
 -- ---- no valid part, then its name
 
@@ -181,8 +180,7 @@ ends-after-4 bytes rest q are u e =
         rest,
         u,
         λ values after is. never-both q (all_values_at p.cores t.totals rest) (values, after) none
-            (values-read p t.before t.totals u.before rest values after (small-limit bytes t.two.before t.two.first)
-            t.third is),
+            (values-read bytes rest u values after is),
       )
       | inr k ↦
           let here = four.reduced-bytes IsTsoHeader header_at head bytes rest are u in

@@ -31,8 +31,8 @@ impl TsoRecording {
         ensures { result ≡ self.image }
     {
         let TsoRecording {
-            params: _params,
             image,
+            params: _params,
             totals: _totals,
             reduced: _reduced,
             values: _values,

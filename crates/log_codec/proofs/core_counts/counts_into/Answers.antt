@@ -1,9 +1,9 @@
-use Rattle.std.proofs.Common.{◌≡◌, ◌∙◌, ◌++◌, ◌∷◌, [], ap, arith, drop, length, take, List, ℕ}
-use Rattle.std.proofs.lemmas.List.{append-nil, drop-append-le, drop_all, length_push, take-append-le, take_all}
+use Rattle.std.proofs.Common.{◌≡◌, ◌∙◌, ◌++◌, ◌∷◌, [], arith, drop, length}
+use Rattle.std.proofs.lemmas.List.{drop-append-le, drop_all, length_push, take-append-le, take_all}
 use Rattle.std.proofs.lemmas.Result.{err_from_is_err_and}
 use Rattle.rtr_types.specs.Turns.{count_up}
 use Rattle.log_codec.specs.Turns.{read_in_turn}
-use Rattle.log_codec.proofs.InTurn.{begins, goes_on, ends, is_done, with_front}
+use Rattle.log_codec.proofs.InTurn.{begins, goes_on, ends, is_done}
 use Rattle.log_codec.specs.CoreCounts.{count_at}
 use Rattle.log_codec.proofs.core_counts.counts_into.Goals as goal
 

@@ -9,8 +9,8 @@ use Rattle.tso_codec.proofs.reading.tso_read.Goals as goal
 pub returns : goal.returns
 unfolding tso_at
 returns c =
-    let exact = c.read_all.ensures parts_at c.args.bytes.now c.parts.ensures in
     let all = reads IsTso (λ r. c.args.bytes.now ≡ tso_spelling r) c.args.bytes.now _ c.read_all.result
     (λ i. omega (arith, c.type_inv.bytes i))
-    (λ x are read. laws.read c.args.bytes.now x are read) (λ r valid is. ap tso_at is ∙ laws.spelled r valid) exact in
-    record { found = all.found; only = all.only; exact = exact }
+    (λ x are read. laws.read c.args.bytes.now x are read) (λ r valid is. ap tso_at is ∙ laws.spelled r valid)
+    (c.read_all.ensures parts_at c.args.bytes.now c.parts.ensures) in
+    record { found = all.found; only = all.only; exact = all.exact }

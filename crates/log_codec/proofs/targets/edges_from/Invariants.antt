@@ -1,6 +1,0 @@
-use Rattle.log_codec.proofs.Received.{Reads}
-use Rattle.log_codec.proofs.targets.edges_from.Given as goal
-
-abbrev pub invariant-loop : goal.invariant-loop
-invariant-loop l = Reads l.totals l.target l.count l.counter l.fn.lists.items l.lists.items l.last l.counts l.bytes
-    l.rest
