@@ -1,16 +1,13 @@
 -- The ends of a log's edges, and what is kept of an instruction at the last one.
-use Rattle.std.specs.Prelude.{ℕ, zero, suc, List, [], ◌∷◌, ◌++◌, length, slice_index, slice_index_or, Bool, false, ◌&&◌}
-use Rattle.std.specs.Prelude.{◌||◌, nat_eq, if◌then◌else◌, IsTrue}
+use Rattle.std.specs.Prelude.{ℕ, zero, suc, List, [], ◌∷◌, ◌++◌, length, slice_index, slice_index_or, Bool, false}
+use Rattle.std.specs.Prelude.{◌||◌, if◌then◌else◌, IsTrue}
+pub use Rattle.rtr_types.specs.Accesses.{is_same}
 use Rattle.rtr_types.specs.declared.instr.Instr.{Instr}
 use Rattle.rtr_types.specs.declared.instr.Edge.{Edge}
 
 -- an instruction by its core and its count
 abbrev pub instr : (core count : ℕ) → Instr
 instr core count = record { core = core; count = count }
-
--- the same core and the same count
-abbrev pub is_same : Instr → Instr → Bool
-is_same x y = nat_eq x.core y.core && nat_eq x.count y.count
 
 -- an edge begins or ends at x
 abbrev pub is_end : List Edge → Instr → Bool

@@ -26,8 +26,8 @@ pub back_by_intersection : BackByIntersectionLaw
 back_by_intersection which r cut greatest at closed h =
     let u = intersection_greatest r cut greatest closed.is_cut h.closed.is_cut in
     record {
-      closed = intersection_closed which r cut greatest closed h.closed;
       contained = u.first;
+      closed = intersection_closed which r cut greatest closed h.closed;
       without = λ holds. h.without (let y = u.second at.core in omega arith);
       greatest = λ c is within lacks. u.greatest c within (h.greatest c is lacks);
     }

@@ -62,3 +62,9 @@ SameHistoryLaw =
     1 ≤ count →
     count ≤ noted_count h core → count ≤ noted_count g core → «of» < CORES_MAX → «of» ≢ core →
     known_at h core count «of» ≡ known_at g core count «of»
+
+-- what a history holds that notes each retirement with what is known at it
+pub record HistoryLaws : Type 0 where
+  pub start : HistoryStartLaw
+  pub noted : HistoryLaw
+  pub same : SameHistoryLaw

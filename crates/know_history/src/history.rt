@@ -68,6 +68,13 @@ impl History {
         Ok(History { newest, changes })
     }
 
+    /// Whether there is room for one more retirement of each core.
+    pub fn is_ready(&self) -> bool
+        ensures { result ≡ self.now.ready }
+    {
+        self.changes.has_room()
+    }
+
     /// Makes room for one more retirement of each core, so that `note` needs no memory. After want of memory
     /// some cores may have got room; what was noted is as it was.
     pub fn ready(&mut self) -> Result<(), AllocError>
@@ -75,13 +82,6 @@ impl History {
         ensures ready { OnOk result (IsTrue self.new.ready) }
     {
         self.changes.make_room()
-    }
-
-    /// Whether there is room for one more retirement of each core.
-    pub fn is_ready(&self) -> bool
-        ensures { result ≡ self.now.ready }
-    {
-        self.changes.has_room()
     }
 
     /// Notes a core's next retirement: of each core the greater of the count that is known and the one noted

@@ -20,7 +20,8 @@ use Rattle.conflict_edge.proofs.Standing.{one_first, positive, stands_which}
 use Rattle.conflict_edge.proofs.Steps.{stands_at}
 use Rattle.rtr_types.specs.declared.instr.Edge.{Edge}
 use Rattle.clock_entries.specs.Ends.{instr}
-use Rattle.min_certificate.specs.Conflicting.{AreCoresBelow, BothConflict, AreIndexed, IsAccessAt, IsPlaceOf, IsPut}
+use Rattle.least_lists.specs.LeastLists.{AreOf}
+use Rattle.min_certificate.specs.Conflicting.{BothConflict, AreIndexed, IsAccessAt, IsPlaceOf, IsPut}
 use Rattle.min_certificate.specs.Conflicting.{place_in}
 
 -- ---- accesses so far
@@ -252,7 +253,7 @@ module _ (cores : ℕ) (list : List Access) (a : Access) (places : List (List �
 
 -- what a step begins with
 pub record IsStep (cores i : ℕ) (accesses : List Access) : Type 0 where
-  pub cores_below : AreCoresBelow cores accesses
+  pub cores_below : AreOf cores accesses
   pub rise : CountsRise accesses
   pub lt : i < length accesses
 

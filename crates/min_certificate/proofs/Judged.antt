@@ -31,7 +31,8 @@ use Rattle.min_certificate.specs.declared.answers.CheckFault.TheVariants as chec
 use Rattle.min_certificate.specs.Answers.{Certifies, IsFirstAmiss, Checks, CheckFails, PassedIsAcceptedLaw}
 use Rattle.min_certificate.specs.Answers.{LeastIsCertifiedLaw}
 use Rattle.min_certificate.specs.Clocks.{HasClocks}
-use Rattle.min_certificate.specs.Conflicting.{AreCoresBelow, BothConflict}
+use Rattle.least_lists.specs.LeastLists.{AreOf}
+use Rattle.min_certificate.specs.Conflicting.{BothConflict}
 use Rattle.min_certificate.specs.Faults.{fault_of_audit}
 use Rattle.min_certificate.specs.Firsts.{IsFirst, FailsFirst, FirstWithout}
 use Rattle.min_certificate.specs.Laws.{IsConflictIn, AllConflict, IsLeastIn, IsAmissIn, Passes}
@@ -256,9 +257,9 @@ audited_low a which p = let q : Passed Reduced a.recording a.outcome a.accesses 
 pub audit_low : (r : Recording) (a : Findings) → IsAuditOf Reduced r a → IsLow r a.accesses
 audit_low r a h = subst (λ (q : Recording). IsLow q a.accesses) h.recording_is (audited_low a h.which_is h.passed)
 
-pub low_below : (r : Recording) (list : List Access) → Valid r → IsLow r list → AreCoresBelow r.params.cores list
+pub low_below : (r : Recording) (list : List Access) → Valid r → IsLow r list → AreOf r.params.cores list
 low_below r list valid h =
-    subst (λ (l : List Access). AreCoresBelow r.params.cores l) (sym h.list_is) (low_cores r valid)
+    subst (λ (l : List Access). AreOf r.params.cores l) (sym h.list_is) (low_cores r valid)
 
 pub low_rises : (r : Recording) (list : List Access) → IsLow r list → CountsRise list
 low_rises r list h = subst CountsRise (sym h.list_is) (low_rise r)

@@ -16,7 +16,7 @@ use Rattle.replay_audit.proofs.Agreed.{low_ordered, every_order_law, any_whole_l
 use Rattle.replay_audit.proofs.Logs.{acyclic_law}
 use Rattle.replay_audit.proofs.Rise.{accesses_rise, accesses_within}
 use Rattle.certificate_codec.specs.Ends.{reduced_edges}
-use Rattle.min_certificate.specs.Conflicting.{AreCoresBelow}
+use Rattle.least_lists.specs.LeastLists.{AreOf}
 use Rattle.min_certificate.specs.Laws.{EveryOrderIsLeastLaw, AnyOrderIsLeastLaw}
 
 pub low_rise : (r : Recording) → CountsRise (low_accesses Reduced r)
@@ -25,7 +25,7 @@ low_rise r = accesses_rise Reduced r (low_order_of Reduced r) (low_ordered (plan
 pub low_acyclic : (r : Recording) → Valid r → IsDeterminate Reduced r → IsAcyclic (reduced_edges r)
 low_acyclic r valid d = acyclic_law Reduced r (low_order_of Reduced r) valid d.ordered d.whole
 
-pub low_cores : (r : Recording) → Valid r → AreCoresBelow r.params.cores (low_accesses Reduced r)
+pub low_cores : (r : Recording) → Valid r → AreOf r.params.cores (low_accesses Reduced r)
 low_cores r valid a s = let w =
     accesses_within Reduced r (low_order_of Reduced r) (low_ordered (plan_of Reduced r)) a s in let e =
     valid.each_core in

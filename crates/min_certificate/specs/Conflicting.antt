@@ -7,9 +7,6 @@ use Rattle.rtr_types.specs.declared.access.Access.{Access}
 use Rattle.clock_entries.specs.Ends.{instr}
 use Rattle.conflict_edge.specs.Conflicts.{StandsIn, Conflicts}
 
-abbrev pub AreCoresBelow : ℕ → List Access → Type 0
-AreCoresBelow cores list = (a : Access) → StandsIn list a → a.at.core < cores
-
 -- the one access at x, or none where there is none
 abbrev pub IsAccessAt : List Access → Instr → Option Access → Type 0
 IsAccessAt list x None = (a : Access) → StandsIn list a → a.at ≡ x → ⊥

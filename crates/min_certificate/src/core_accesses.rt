@@ -2,7 +2,8 @@
 ghost use Rattle.std.specs.Prelude.{◌≡◌, ◌<◌, ◌≤◌, ◌+◌, ◌-◌, ◌↔◌, ℕ, IfOk, IsTrue, OnOk, [], length, replicate};
 ghost use Rattle.std.specs.Prelude.{slice_get};
 ghost use Rattle.conflict_edge.specs.Conflicts.{CountsRise};
-ghost use Rattle.min_certificate.specs.Conflicting.{AreCoresBelow, AreIndexed, BothConflict, IsAccessAt, IsPut};
+ghost use Rattle.least_lists.specs.LeastLists.{AreOf};
+ghost use Rattle.min_certificate.specs.Conflicting.{AreIndexed, BothConflict, IsAccessAt, IsPut};
 ghost use Rattle.min_certificate.specs.Conflicting.{place_in};
 ghost use Rattle.min_certificate.specs.Firsts.{FirstWithout};
 
@@ -40,7 +41,7 @@ impl<'a> CoreAccesses<'a> {
         accesses: &'a [Access],
         totals: &[u32],
     ) -> Result<CoreAccesses<'a>, AllocError>
-        requires cores { AreCoresBelow cores accesses.now }
+        requires cores { AreOf cores accesses.now }
         requires rise { CountsRise accesses.now }
         ensures { IfOk result (λ index. index ≡ accesses.now) }
     {
@@ -139,7 +140,7 @@ fn places_of(
     accesses: &[Access],
     totals: &[u32],
 ) -> Result<Vec<Items<usize>>, AllocError>
-    requires cores { AreCoresBelow cores accesses.now }
+    requires cores { AreOf cores accesses.now }
     requires rise { CountsRise accesses.now }
     ensures { IfOk result (λ places. AreIndexed accesses.now places.items) }
 {

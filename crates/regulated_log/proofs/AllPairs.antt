@@ -11,6 +11,7 @@ use Rattle.rtr_types.proofs.PairPlaces.{pairs-placed, places-paired}
 use Rattle.rtr_types.specs.declared.instr.Instr.{Instr}
 use Rattle.rtr_types.specs.declared.instr.Edge.{Edge}
 use Rattle.rtr_types.specs.declared.pairs.Which.TheVariants.{Reduced, Regulated}
+use Rattle.replay_core.specs.Play.{instr}
 use Rattle.clock_core.specs.Order.{Among, Before}
 use Rattle.clock_core.proofs.Paths.{joined, one, instr_eq, mapped}
 use Rattle.clock_core.proofs.Listed.{contains_among, among_contains}
@@ -82,9 +83,6 @@ is_edge_between known r x y pair has =
     )
 
 -- ---- each reduced edge is before by the regulated ones
-
-abbrev instr : ℕ → ℕ → Instr
-instr core count = record { core = core; count = count }
 
 -- from an instruction to an edge that leaves no earlier one and enters no later one
 pub by_edge : (edges : List Edge) (x y : Instr) (a b : ℕ) → x.count ≤ a → b ≤ y.count →

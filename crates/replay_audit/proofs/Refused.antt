@@ -4,16 +4,20 @@ use Rattle.std.specs.Prelude.{Option, Some, None}
 use Rattle.rtr_types.specs.declared.instr.Instr.{Instr}
 use Rattle.rtr_types.specs.declared.instr.Edge.{Edge}
 use Rattle.rtr_types.specs.declared.access.Access.{Access}
+use Rattle.rtr_types.specs.declared.pairs.Which.{Which}
 use Rattle.clock_core.specs.Order.{Among}
 use Rattle.conflict_edge.specs.Conflicts.{ConflictPair, StandsIn}
 use Rattle.conflict_edge.specs.Least.{Suffices}
+use Rattle.race_log.specs.declared.recording.Recording.{Recording}
 use Rattle.replay_core.specs.Plans.{plan_of}
 use Rattle.replay_core.specs.Play.{start, accesses_of}
 use Rattle.replay_core.specs.Orders.{low_order}
 use Rattle.replay_core.proofs.Lists.{short_law}
+use Rattle.replay_audit.specs.declared.audit_fault.AuditFault.{AuditFault}
 use Rattle.replay_audit.specs.declared.audit_fault.AuditFault.TheVariants.{Stuck, Short, Undetermined, OutOfMemory}
 use Rattle.replay_audit.specs.Unordered.{IsUnordered}
-use Rattle.replay_audit.specs.Audits.{RefusedLaw}
+use Rattle.replay_audit.specs.Audits.{AuditRefuses, RefusedLaw}
+use Rattle.replay_audit.specs.Determinate.{IsDeterminate}
 use Rattle.replay_audit.proofs.Pairs.{pairs_across}
 
 stands_in_mid : (xs : List Access) (e : Access) (ys : List Access) → StandsIn (xs ++ e ∷ ys) e
@@ -42,3 +46,13 @@ refused_law which r (Short core count) h other d = none_some _ (core, count)
 refused_law which r (Undetermined first second) h other d = unordered_pair _
     (accesses_of (plan_of which r) (low_order (plan_of which r))) first second h.unordered d.suffices
 refused_law which r OutOfMemory h other d = other refl
+
+-- where a recording is determinate an audit is refused for want of memory alone
+pub refused_is_memory : (which : Which) (r : Recording) (fault : AuditFault) → IsDeterminate which r →
+    AuditRefuses which r fault → fault ≡ OutOfMemory
+refused_is_memory which r (Stuck cut) d h = absurd (refused_law which r (Stuck cut) h (λ e. absurd cc) d)
+refused_is_memory which r (Short core count) d h =
+    absurd (refused_law which r (Short core count) h (λ e. absurd cc) d)
+refused_is_memory which r (Undetermined first second) d h =
+    absurd (refused_law which r (Undetermined first second) h (λ e. absurd cc) d)
+refused_is_memory which r OutOfMemory d h = refl

@@ -17,6 +17,12 @@ covered_snoc l a x k h t b s = by (stands_which l (x ∷ []) b s)
     by (inr (inl e)) = subst (λ (z : Access). is_open z a k ≡ false) e t
     by (inr (inr q)) = absurd q
 
+-- with one more at the end, an access stands where it stood
+pub split_more : (list front rest : List Access) (b a : Access) → list ≡ front ++ b ∷ rest →
+    list ++ a ∷ [] ≡ front ++ b ∷ (rest ++ a ∷ [])
+split_more list front rest b a split = ap (λ (z : List Access). z ++ a ∷ []) split
+    ∙ append_assoc front (b ∷ rest) (a ∷ [])
+
 pub latest_skip : (l : List Access) (a x : Access) (k : List ℕ) (found : Option Instr) → IsLatest l a k found →
     is_open x a k ≡ false →
     IsLatest (l ++ x ∷ []) a k found
@@ -25,7 +31,7 @@ latest_skip l a x k (Some y) h t = record {
   older = h.older;
   earlier = h.earlier;
   newer = h.newer ++ x ∷ [];
-  split = ap (λ (z : List Access). z ++ x ∷ []) h.split ∙ append_assoc h.older (h.earlier ∷ h.newer) (x ∷ []);
+  split = split_more l h.older h.newer h.earlier x h.split;
   at = h.at;
   is_left = h.is_left;
   latest = covered_snoc h.newer a x k h.latest t;

@@ -1,7 +1,7 @@
 -- A trail goes on by one instruction.
 use Rattle.std.proofs.Common.{inl, inr, ◌≡◌, ◌≢◌, ◌⊎◌, ℕ, ◌+◌, ◌<◌, ◌≤◌, true, false, Bool, not, ◌&&◌, List, [], ◌∷◌}
 use Rattle.std.proofs.Common.{◌++◌, replicate, reverse, refl, sym, ap}
-use Rattle.std.proofs.Common.{◌∙◌, subst, arith, append_assoc, append-nil}
+use Rattle.std.proofs.Common.{◌∙◌, subst, arith, append-nil}
 use Rattle.std.specs.Prelude.{slice_index, nat_le, Option, Some, None}
 use Rattle.std.proofs.lemmas.Bool.Decides.{nat_tests}
 use Rattle.std.proofs.lemmas.Bool.{not-true, and_parts}
@@ -38,6 +38,7 @@ use Rattle.replay_audit.specs.Unordered.{IsLatestBefore, IsUnordered, is_open, A
 use Rattle.replay_audit.specs.Trails.{Trailed, FoundNext, Watches, with_kept, Trails, IsFinding, IsTrailOf}
 use Rattle.replay_audit.proofs.Pairs.{Apart, both_left, both_right, across, pairs_which}
 use Rattle.replay_audit.proofs.Clocking.{clocked_on, clock_found, clocked_start}
+use Rattle.replay_audit.proofs.Scan.{split_more}
 use Rattle.replay_audit.proofs.Marking.{AreCandidatesCovered, covered_marks, marked_next, marked_start}
 
 -- ---- what a clock says of an earlier access
@@ -143,11 +144,11 @@ finding_more : (edges : List Edge) (list : List Access) (a : Access) (x y : Inst
 finding_more edges list a x y h = record {
   front = h.front;
   later = h.later;
-  rest = h.rest ++ a ∷ [];
-  split = ap (λ (z : List Access). z ++ a ∷ []) h.split ∙ append_assoc h.front (h.later ∷ h.rest) (a ∷ []);
   at = h.at;
   ordered = h.ordered;
   partner = h.partner;
+  rest = h.rest ++ a ∷ [];
+  split = split_more list h.front h.rest h.later a h.split;
 }
 
 -- what the marks are enough for

@@ -103,6 +103,13 @@ AuditRefuses which r (faults.Short core count) = low_short which r ≡ Some (cor
 AuditRefuses which r (faults.Undetermined first second) = LeavesOpen which r first second
 AuditRefuses which r faults.OutOfMemory = Unit {0}
 
+-- what is made of a fault by what it says of the recording. Want of memory says nothing
+abbrev pub fault_by : {E : Type 0} → (says : AuditFault → E) → (nothing : E) → AuditFault → E
+fault_by says nothing (faults.Stuck cut) = says (faults.Stuck cut)
+fault_by says nothing (faults.Short core count) = says (faults.Short core count)
+fault_by says nothing (faults.Undetermined first second) = says (faults.Undetermined first second)
+fault_by says nothing faults.OutOfMemory = nothing
+
 -- what is refused for another reason isn't determinate
 abbrev pub RefusedLaw : Type 0
 RefusedLaw = (which : Which) (r : Recording) (e : AuditFault) → AuditRefuses which r e →

@@ -21,20 +21,11 @@ use std::marker::Model;
 
 /// A recording that is determinate by one of its logs, with the outcome and the accesses of the low order,
 /// and with the clocks of its instructions by the log.
+#[derive(Drop)]
 pub struct Audited {
     recording: Recording,
     which: Which,
     pass: Pass,
-}
-
-impl Drop for Audited {
-    fn drop(self) {
-        let Audited {
-            recording: _recording,
-            which: _which,
-            pass: _pass,
-        } = self;
-    }
 }
 
 impl Model for Audited {

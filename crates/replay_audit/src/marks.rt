@@ -18,6 +18,12 @@ struct Mark {
     readers: u8,
 }
 
+/// A mark for each word.
+#[derive(Drop)]
+pub struct Marks {
+    marks: Vec<Mark>,
+}
+
 impl Mark {
     /// No access yet.
     fn first() -> Mark
@@ -58,12 +64,6 @@ impl Mark {
             self.readers = self.readers.max(access.at.core + 1);
         }
     }
-}
-
-/// A mark for each word.
-#[derive(Drop)]
-pub struct Marks {
-    marks: Vec<Mark>,
 }
 
 impl Model for Marks {

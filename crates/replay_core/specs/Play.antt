@@ -8,6 +8,7 @@ use Rattle.rtr_types.specs.declared.access.Access.{Access}
 use Rattle.rtr_types.specs.declared.access.Kind.{Kind}
 use Rattle.rtr_types.specs.Accesses.{is_read, is_write}
 use Rattle.rtr_types.specs.Turns.{StandInTurn}
+pub use Rattle.clock_entries.specs.Ends.{instr}
 use Rattle.image_mem.specs.Contents.{opening_words}
 use Rattle.rv_core.specs.declared.core_state.Core.{Core}
 use Rattle.rv_core.specs.declared.core_state.Need.{Need}
@@ -81,9 +82,6 @@ core_at s c = slice_index_or s.cores c (starting 0 0)
 
 abbrev pub loads_at : Outcome → ℕ → List LoadNote
 loads_at s c = slice_index_or s.loads c []
-
-abbrev pub instr : (core count : ℕ) → Instr
-instr core count = record { core = core; count = count }
 
 -- what core c needs next
 abbrev pub need_at : Plan → Outcome → ℕ → Need

@@ -1,5 +1,6 @@
 -- How far each core has come, and the sources of what comes next.
 use Rattle.std.specs.Prelude.{◌≡◌, ℕ, ◌+◌, ◌<◌, ◌≤◌, List, Option, Some, None, length, slice_index, slice_index_or}
+use Rattle.std.specs.Prelude.{slice_set}
 use Rattle.rtr_types.specs.declared.instr.Edge.{Edge}
 use Rattle.rtr_types.specs.declared.instr.Instr.{Instr}
 use Rattle.rtr_types.specs.declared.pairs.Which.{Which}
@@ -23,6 +24,17 @@ count_of counts c = slice_index counts c
 -- core c's next instruction
 abbrev pub next_of : List ℕ → ℕ → Instr
 next_of counts c = instr c (count_of counts c + 1)
+
+-- it is core c's next instruction, with its logged sources
+pub record IsNextInstr (t : Tallied) (c : ℕ) (y : Instr) (found : List ℕ) : Type 0 where
+  pub at : y ≡ next_of t.counts c
+  pub sources : AreSources t.plan.edges (next_of t.counts c) found
+
+-- core c is counted one place more
+pub record IsOneMore (s : Tallied) (c : ℕ) (t : Tallied) : Type 0 where
+  pub plan : t.plan ≡ s.plan
+  pub counts : t.counts ≡ slice_set s.counts c (count_of s.counts c + 1)
+  pub one_more : count_of t.counts c ≡ count_of s.counts c + 1
 
 -- the sources that are wanted before core c's next instruction
 abbrev pub wanted_at : List (Option (List ℕ)) → ℕ → List ℕ

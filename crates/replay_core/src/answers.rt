@@ -18,12 +18,12 @@ pub enum Advanced {
 /// Why there is no outcome.
 #[derive(Clone, Copy, Debug, PartialEq, Eq)]
 pub enum ReplayFault {
+    /// Memory ran out.
+    OutOfMemory,
     /// No core is ready, and not all are at their totals. The cut says how far each has come.
     Stuck { cut: Cut },
     /// The core is ready, but its program is done after `count` instructions.
     Short { core: u8, count: u32 },
-    /// Memory ran out.
-    OutOfMemory,
 }
 
 impl From<AllocError> for ReplayFault {

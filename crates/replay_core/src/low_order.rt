@@ -1,12 +1,12 @@
 //! The low order, place by place.
-ghost use Rattle.std.specs.Prelude.{◌≡◌, ◌<◌, ◌≤◌, ◌+◌, ◌-◌, ◌↔◌, ℕ, Some, length, slice_index, slice_set, replicate};
+ghost use Rattle.std.specs.Prelude.{◌≡◌, ◌<◌, ◌≤◌, ◌+◌, ◌-◌, ◌↔◌, ℕ, Some, length, slice_index, replicate};
 ghost use Rattle.std.specs.Prelude.{IfOk, IsTrue};
 ghost use Rattle.rtr_types.specs.declared.TheConstants.{CORES_MAX};
 ghost use Rattle.race_log.specs.Validity.{Valid};
 ghost use Rattle.replay_core.specs.Plans.{plan_of};
 ghost use Rattle.replay_core.specs.Orders.{Full, lowest, lowest_ready};
-ghost use Rattle.replay_core.specs.Sources.{AreSources, sources_in};
-ghost use Rattle.replay_core.specs.Tallies.{AreAwaited, count_of, next_of};
+ghost use Rattle.replay_core.specs.Sources.{sources_in};
+ghost use Rattle.replay_core.specs.Tallies.{AreAwaited, IsNextInstr, IsOneMore, count_of};
 
 use crate::sourced::Sourced;
 use crate::tally::Tally;
@@ -69,9 +69,7 @@ impl<'a> LowOrder<'a> {
     pub fn next(&self, core: u8) -> Sourced<'_>
         requires inside { core < length self.now.plan.totals }
         requires below { count_of self.now.counts core < slice_index self.now.plan.totals core }
-        ensures at { result.at ≡ next_of self.now.counts core }
-        ensures sources { AreSources self.now.plan.edges (next_of self.now.counts core)
-            (sources_in result.sources.now) }
+        ensures { IsNextInstr self.now core result.at (sources_in result.sources.now) }
     {
         self.tally.next(core)
     }
@@ -81,8 +79,7 @@ impl<'a> LowOrder<'a> {
     pub fn advance(&mut self, core: u8)
         requires inside { core < length self.old.plan.totals }
         requires below { count_of self.old.counts core < slice_index self.old.plan.totals core }
-        ensures plan { self.new.plan ≡ self.old.plan }
-        ensures counts { self.new.counts ≡ slice_set self.old.counts core (count_of self.old.counts core + 1) }
+        ensures { IsOneMore self.old core self.new }
     {
         self.tally.advance(core);
         if self.low == Some(core) {

@@ -108,13 +108,6 @@ impl<'a> Replay<'a> {
         self.loads.make_room()
     }
 
-    /// Whether there is room for what one more instruction of each core may read.
-    pub fn has_room(&self) -> bool
-        ensures { result ≡ self.now.roomy }
-    {
-        self.loads.has_room()
-    }
-
     /// One place of the play: the core, which is ready, retires its next instruction, unless its program
     /// is done.
     pub fn advance(&mut self, core: u8) -> Advanced
@@ -239,6 +232,13 @@ impl<'a> Replay<'a> {
             }
         }
         true
+    }
+
+    /// Whether there is room for what one more instruction of each core may read.
+    pub fn has_room(&self) -> bool
+        ensures { result ≡ self.now.roomy }
+    {
+        self.loads.has_room()
     }
 
     /// What the play has come to.

@@ -1,5 +1,5 @@
 //! How far cores have come along an order, and what their next instructions wait for.
-ghost use Rattle.std.specs.Prelude.{◌≡◌, ◌<◌, ◌≤◌, ◌+◌, ◌↔◌, ℕ, length, slice_index, slice_set, replicate, IfOk};
+ghost use Rattle.std.specs.Prelude.{◌≡◌, ◌<◌, ◌≤◌, ◌+◌, ◌↔◌, ℕ, length, slice_index, replicate, IfOk};
 ghost use Rattle.std.specs.Prelude.{IsTrue};
 ghost use Rattle.rtr_types.specs.declared.TheConstants.{CORES_MAX};
 ghost use Rattle.clock_core.specs.Order.{Among};
@@ -8,7 +8,7 @@ ghost use Rattle.replay_core.specs.Plans.{plan_of};
 ghost use Rattle.replay_core.specs.Play.{instr};
 ghost use Rattle.replay_core.specs.Orders.{Full, is_ready, is_sourced};
 ghost use Rattle.replay_core.specs.Sources.{AreSources, sources_in};
-ghost use Rattle.replay_core.specs.Tallies.{AreWanted, count_of, next_of};
+ghost use Rattle.replay_core.specs.Tallies.{AreWanted, IsNextInstr, IsOneMore, count_of, next_of};
 
 use crate::coming::Sources;
 use crate::sourced::Sourced;
@@ -23,24 +23,13 @@ const PLACES: usize = CORES_MAX as usize;
 
 /// How far each core has come along an order that obeys the log, and the logged sources of its next
 /// instruction, which are looked up once.
+#[derive(Drop)]
 pub struct Tally<'a> {
     recording: &'a Recording,
     which: Which,
     counts: Vec<u32>,
     wanted: Vec<Option<Clock>>,
     sources: Sources<'a>,
-}
-
-impl Drop for Tally<'_> {
-    fn drop(self) {
-        let Tally {
-            recording: _recording,
-            which: _which,
-            counts: _counts,
-            wanted: _wanted,
-            sources: _sources,
-        } = self;
-    }
 }
 
 impl<'a> Model for Tally<'a> {
@@ -81,6 +70,21 @@ impl<'a> Tally<'a> {
         self.recording.params.cores
     }
 
+    /// The next instruction of a core below its total, with its logged sources.
+    pub fn next(&self, core: u8) -> Sourced<'_>
+        requires inside { core < length self.now.plan.totals }
+        requires below { count_of self.now.counts core < slice_index self.now.plan.totals core }
+        ensures { IsNextInstr self.now core result.at (sources_in result.sources.now) }
+    {
+        // What always holds of a tally: it has a place for each core of its recording.
+        let _ = &self.recording;
+        let count = self.counts[core as usize] + 1;
+        Sourced {
+            at: Instr { core, count },
+            sources: &self.wanted[core as usize],
+        }
+    }
+
     /// How many instructions of the core were counted.
     pub fn count(&self, core: u8) -> u32
         requires { core < length self.now.plan.totals }
@@ -92,31 +96,12 @@ impl<'a> Tally<'a> {
         self.counts[core as usize]
     }
 
-    /// The next instruction of a core below its total, with its logged sources.
-    pub fn next(&self, core: u8) -> Sourced<'_>
-        requires inside { core < length self.now.plan.totals }
-        requires below { count_of self.now.counts core < slice_index self.now.plan.totals core }
-        ensures at { result.at ≡ next_of self.now.counts core }
-        ensures sources { AreSources self.now.plan.edges (next_of self.now.counts core)
-            (sources_in result.sources.now) }
-    {
-        // What always holds of a tally: it has a place for each core of its recording.
-        let _ = &self.recording;
-        let count = self.counts[core as usize] + 1;
-        Sourced {
-            at: Instr { core, count },
-            sources: &self.wanted[core as usize],
-        }
-    }
-
     /// One place more, of a core below its total.
     #[inline(always)]
     pub fn advance(&mut self, core: u8)
         requires inside { core < length self.old.plan.totals }
         requires below { count_of self.old.counts core < slice_index self.old.plan.totals core }
-        ensures plan { self.new.plan ≡ self.old.plan }
-        ensures counts { self.new.counts ≡ slice_set self.old.counts core (count_of self.old.counts core + 1) }
-        ensures one_more { count_of self.new.counts core ≡ count_of self.old.counts core + 1 }
+        ensures { IsOneMore self.old core self.new }
     {
         let count = self.counts[core as usize] + 1;
         let next = Instr {

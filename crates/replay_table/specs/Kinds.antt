@@ -4,6 +4,7 @@ use Rattle.std.specs.Prelude.{◌≡◌, ℕ, zero, suc, ◌+◌, ◌-◌, ◌�
 use Rattle.std.specs.Prelude.{take, drop, max, slice_index, slice_set, Some, None, if◌then◌else◌}
 use mathlib.Core.Option.{some}
 use lib.ListN.{get_elem?}
+use Rattle.clock_core.specs.Counts.{merged}
 use Rattle.rv_core.specs.declared.core_state.Core.{Core}
 use Rattle.rv_core.specs.States.{starting}
 use Rattle.rv_core.specs.Steps.{need, after, wrote}
@@ -105,16 +106,11 @@ pub record SplitsView (v left right : View) : Type 0 where
   pub right_is : right ≡ first_alone v
 
 -- 8: one view takes in another, which is spent
-abbrev pub greater : List ℕ → List ℕ → List ℕ
-greater [] ys = ys
-greater (x ∷ xs) [] = x ∷ xs
-greater (x ∷ xs) (y ∷ ys) = max x y ∷ greater xs ys
-
 abbrev pub both : View → View → View
 both v w = record {
   owned = v.owned ++ w.owned;
-  seen = greater v.seen w.seen;
-  polls = greater v.polls w.polls;
+  seen = merged v.seen w.seen;
+  polls = merged v.polls w.polls;
   held = None;
   failed = max v.failed w.failed;
 }

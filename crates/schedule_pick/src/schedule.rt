@@ -13,9 +13,9 @@ use std::marker::Model;
 /// XSH RR 64/32 (O'Neill 2014) at stream 0. Bytes that a run doesn't reach are ignored.
 #[derive(Drop)]
 pub struct Schedule {
+    words: Lcg64Xsh32,
     bytes: Vec<u8>,
     next: usize,
-    words: Lcg64Xsh32,
 }
 
 impl Model for Schedule {
@@ -24,7 +24,7 @@ impl Model for Schedule {
 
     ghost Value = { Choices };
 
-    ghost view = { λ s. record { bytes = drop s.next s.bytes.items; words = s.words } };
+    ghost view = { λ s. record { words = s.words; bytes = drop s.next s.bytes.items } };
 
     ghost invariant = { λ s. s.next ≤ length s.bytes.items };
 }

@@ -4,7 +4,7 @@ use Rattle.race_log.specs.declared.recording.Recording.{Recording}
 use Rattle.clock_entries.specs.Ends.{Clocks}
 use Rattle.certificate_codec.specs.declared.certificate.Certificate.{Certificate}
 use Rattle.min_certificate.specs.Clocks.{HasClocks}
-use Rattle.min_certificate.specs.Conflicting.{AreCoresBelow}
+use Rattle.least_lists.specs.LeastLists.{AreOf}
 use Rattle.min_certificate.proofs.Judged.{IsLow, low_below, low_rises, amiss_found}
 use Rattle.min_certificate.proofs.certifying.first_amiss.Goals as goal
 
@@ -13,7 +13,7 @@ new-requires-clause-cores c =
     let r = c.args.ends in
     let low : IsLow r c.args.accesses.now =
     record { determinate = c.requires.determinate; list_is = c.requires.accesses } in
-    subst (λ (q : Recording). AreCoresBelow q.params.cores c.args.accesses.now) (sym c.recording.ensures.recording)
+    subst (λ (q : Recording). AreOf q.params.cores c.args.accesses.now) (sym c.recording.ensures.recording)
     (low_below r c.args.accesses.now c.recording.ensures.valid low)
 
 pub new-requires-clause-rise : goal.new-requires-clause-rise

@@ -15,12 +15,12 @@ loop-core-init c =
       along_start _ _ _ _ _ _ c.requires.valid (record {
         plan_is = b.tally_plan;
         counts_is = b.counts;
-        cores_is = refl;
         numbers = b.numbers;
         clocks = b.clocks;
         marks = b.marks;
         accesses = b.accesses;
         found = b.found;
+        cores_is = refl;
       }) b.replay_plan b.state,
     )
 
