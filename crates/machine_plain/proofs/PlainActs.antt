@@ -17,20 +17,21 @@ use Rattle.msi_cache.specs.declared.messages.FromHome.TheVariants.{Inv}
 use Rattle.msi_cache.specs.declared.messages.Request.{Request}
 use Rattle.msi_cache.specs.declared.messages.Response.{Response}
 use Rattle.msi_directory.proofs.Forgets.{plain_on_request, plain_on_response}
-use Rattle.msi_directory.specs.Blocks.{entry_at, entries_after_request, entries_after_response}
-use Rattle.msi_directory.specs.Entries.{answer_to_request, answer_to_response}
-use Rattle.msi_directory.specs.PlainPart.{plain_entries, plain_home_answer, plain_send}
+use Rattle.msi_directory.specs.Blocks.{entry_at}
+use Rattle.msi_directory.specs.Deeds.{Deed, request_deed, response_deed}
+use Rattle.msi_directory.specs.PlainPart.{IsAlike, plain_entries, plain_home_answer, plain_send}
 use Rattle.msi_directory.specs.Table.{is_free}
 use Rattle.msi_directory.specs.declared.entry.Entry.{Entry}
 use Rattle.msi_directory.specs.declared.entry.HomeAnswer.{HomeAnswer}
+use Rattle.msi_directory.specs.declared.entry.Stage.{Stage}
 use Rattle.msi_memory.specs.declared.port.Mail.{Mail}
 use Rattle.msi_memory.specs.declared.port.Port.{Port}
 use Rattle.msi_memory.specs.Acts.{Act, Want, Touch, Retire, TakeRequest, TakeResponse, TakeMessage, after_act}
 use Rattle.msi_memory.specs.Acts.{after_acts, allows, can, can_all, can_at}
 use Rattle.msi_memory.specs.Acts.{delivered, delivered_in, head_free, port_asking, port_of, port_requested}
 use Rattle.msi_memory.specs.Acts.{port_responded, port_retiring, port_sent}
-use Rattle.msi_memory.specs.Acts.{port_taking, port_touched, ports_sent, ports_told, take_request_in, take_response_in}
-use Rattle.msi_memory.specs.Acts.{with_port}
+use Rattle.msi_memory.specs.Acts.{port_taking, port_touched, ports_sent, ports_told, take_in, take_request_in}
+use Rattle.msi_memory.specs.Acts.{take_response_in, with_port}
 use Rattle.msi_memory.specs.Memories.{Memory, port_at}
 use Rattle.msi_memory.specs.PlainPart.{plain_act, plain_mail, plain_memory, plain_port}
 use Rattle.machine_plain.proofs.Plains.{plain_allows, plain_asking, plain_port_at, plain_port_set, plain_pushed}
@@ -127,58 +128,57 @@ module _ {R K : Type 0} where
       ap (λ (ports : List (Port (Unit {0}) (Unit {0}))). record (plain_memory m) { ports = ports })
       (plain_port_set m.ports c p q same)
 
-  plain_request_in : (riding : Riding R) (carrying : Carrying K) (m : Memory R K) (c : ℕ)
-      (q : List (Mail (Request R) K)) →
-      plain_memory (take_request_in q riding carrying m c)
+-- the home takes the oldest of core c's messages of one kind
+module _ {R K : Type 0} (riding : Riding R) (carrying : Carrying K) (m : Memory R K) (c : ℕ) where
+  -- what it does and how the port is left go alike for the plain ones
+  plain_taken : {T P : Type 0} (plain : T → P) (does : ℕ → T → Deed R) (plain_does : ℕ → P → Deed (Unit {0}))
+      (left : Port R K → List (Mail T K) → Port R K)
+      (plain_left : Port (Unit {0}) (Unit {0}) → List (Mail P (Unit {0})) → Port (Unit {0}) (Unit {0}))
+      (has_row plain_has_row : T → Stage → Bool) →
+      ((item : T) → IsAlike riding m.home (does c item) (plain_does c (plain item)) (has_row item)
+      (plain_has_row item)) →
+      ((item : T) → (does c item).block ≡ (plain_does c (plain item)).block) →
+      ((p : Port R K) (rest : List (Mail T K)) →
+      plain_port (left p rest) ≡ plain_left (plain_port p) (map (plain_mail plain) rest)) →
+      (q : List (Mail T K)) →
+      plain_memory (take_in does left q riding carrying m c)
+      ≡ take_in plain_does plain_left (map (plain_mail plain) q) none_riding none_carrying (plain_memory m) c
+  plain_taken plain does plain_does left plain_left has_row plain_has_row alike about lefts [] = refl
+  plain_taken plain does plain_does left plain_left has_row plain_has_row alike about lefts (mail ∷ rest) =
+      let done : Deed R = does c mail.item in
+      let plain_done : Deed (Unit {0}) = plain_does c (plain mail.item) in
+      let same = alike mail.item in
+      let to : ℕ → HomeAnswer (Unit {0}) =
+      λ (at : ℕ). plain_done.answer (entry_at tt (plain_entries m.home) at) in
+      let by : Port (Unit {0}) (Unit {0}) → Port (Unit {0}) (Unit {0}) =
+      λ (p : Port (Unit {0}) (Unit {0})). plain_left p (map (plain_mail plain) rest) in
+      let entry : Entry R = entry_at riding.fresh m.home done.block in
+      plain_answered carrying (done.answer entry) done.block (carrying.joined m.carry mail.carry)
+      (slice_set m.ports c (left (port_at carrying m.ports c) rest))
+      (slice_set m.home done.block (done.after entry))
+      (to plain_done.block) plain_done.block
+      (slice_set (map plain_port m.ports) c (by (port_at none_carrying (map plain_port m.ports) c)))
+      (slice_set (plain_entries m.home) plain_done.block
+      (plain_done.after (entry_at tt (plain_entries m.home) plain_done.block)))
+      (same.same_answer ∙ ap to (about mail.item)) (about mail.item)
+      (plain_port_set m.ports c (left (port_at carrying m.ports c) rest)
+      (by (port_at none_carrying (map plain_port m.ports) c))
+      (lefts (port_at carrying m.ports c) rest ∙ ap by (sym (plain_port_at carrying m.ports c))))
+      same.same_entries
+
+  plain_request_in : (q : List (Mail (Request R) K)) → plain_memory (take_request_in q riding carrying m c)
       ≡ take_request_in (map (plain_mail plain_request) q) none_riding none_carrying (plain_memory m) c
-  plain_request_in riding carrying m c [] = refl
-  plain_request_in riding carrying m c (mail ∷ rest) =
-      let b : ℕ = request_block mail.item in
-      let same = plain_on_request riding m.home c mail.item in
-      let to : ℕ → HomeAnswer (Unit {0}) =
-      λ (at : ℕ). answer_to_request none_riding.absorbed (entry_at tt (plain_entries m.home) at) c
-      (plain_request mail.item) in
-      let by : Port (Unit {0}) (Unit {0}) → Port (Unit {0}) (Unit {0}) =
-      λ (p : Port (Unit {0}) (Unit {0})). port_requested p (map (plain_mail plain_request) rest) in
-      plain_answered carrying (answer_to_request riding.absorbed (entry_at riding.fresh m.home b) c mail.item) b
-      (carrying.joined m.carry mail.carry)
-      (slice_set m.ports c (port_requested (port_at carrying m.ports c) rest)) (entries_after_request riding m.home c
-      mail.item)
-      (to (request_block (plain_request mail.item))) (request_block (plain_request mail.item))
-      (slice_set (map plain_port m.ports) c (by (port_at none_carrying (map plain_port m.ports) c)))
-      (entries_after_request none_riding (plain_entries m.home) c (plain_request mail.item))
-      (same.same_answer ∙ ap to (plain_request_block mail.item)) (plain_request_block mail.item)
-      (plain_port_set m.ports c (port_requested (port_at carrying m.ports c) rest)
-      (by (port_at none_carrying (map plain_port m.ports) c))
-      (ap by (sym (plain_port_at carrying m.ports c))))
-      same.same_entries
+  plain_request_in q =
+      plain_taken plain_request (request_deed riding) (request_deed none_riding) port_requested port_requested _ _
+      (plain_on_request riding m.home c) plain_request_block (λ p rest. refl) q
 
-  plain_response_in : (riding : Riding R) (carrying : Carrying K) (m : Memory R K) (c : ℕ)
-      (q : List (Mail (Response R) K)) →
-      plain_memory (take_response_in q riding carrying m c)
+  plain_response_in : (q : List (Mail (Response R) K)) → plain_memory (take_response_in q riding carrying m c)
       ≡ take_response_in (map (plain_mail plain_response) q) none_riding none_carrying (plain_memory m) c
-  plain_response_in riding carrying m c [] = refl
-  plain_response_in riding carrying m c (mail ∷ rest) =
-      let b : ℕ = response_block mail.item in
-      let same = plain_on_response riding m.home c mail.item in
-      let to : ℕ → HomeAnswer (Unit {0}) =
-      λ (at : ℕ). answer_to_response none_riding.absorbed (entry_at tt (plain_entries m.home) at) c
-      (plain_response mail.item) in
-      let by : Port (Unit {0}) (Unit {0}) → Port (Unit {0}) (Unit {0}) =
-      λ (p : Port (Unit {0}) (Unit {0})). port_responded p (map (plain_mail plain_response) rest) in
-      plain_answered carrying (answer_to_response riding.absorbed (entry_at riding.fresh m.home b) c mail.item) b
-      (carrying.joined m.carry mail.carry)
-      (slice_set m.ports c (port_responded (port_at carrying m.ports c) rest)) (entries_after_response riding m.home c
-      mail.item)
-      (to (response_block (plain_response mail.item))) (response_block (plain_response mail.item))
-      (slice_set (map plain_port m.ports) c (by (port_at none_carrying (map plain_port m.ports) c)))
-      (entries_after_response none_riding (plain_entries m.home) c (plain_response mail.item))
-      (same.same_answer ∙ ap to (plain_response_block mail.item)) (plain_response_block mail.item)
-      (plain_port_set m.ports c (port_responded (port_at carrying m.ports c) rest)
-      (by (port_at none_carrying (map plain_port m.ports) c))
-      (ap by (sym (plain_port_at carrying m.ports c))))
-      same.same_entries
+  plain_response_in q =
+      plain_taken plain_response (response_deed riding) (response_deed none_riding) port_responded port_responded _ _
+      (plain_on_response riding m.home c) plain_response_block (λ p rest. refl) q
 
+module _ {R K : Type 0} where
   -- an act does to the plain part what it does to it where nothing rides
   pub plain_after_act : (riding : Riding R) (carrying : Carrying K) (m : Memory R K) (act : Act R) →
       plain_memory (after_act riding carrying m act)

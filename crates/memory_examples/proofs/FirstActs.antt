@@ -10,6 +10,7 @@ use Rattle.msi_memory.specs.Acts.{TakeMessage, TakeRequest, allows, retire, take
 use Rattle.msi_memory.specs.Finals.{at_hand}
 use Rattle.msi_memory.specs.Memories.{Memory, memory_start, port_at}
 use Rattle.msi_memory.specs.Rests.{HasRoomFor, HeadsFit, NamesFit, has_row_for}
+use Rattle.msi_memory.specs.Turns.{HomeCanAct}
 
 abbrev one_block : List ℕ → Contents
 one_block bytes = record { bytes = bytes; words = 4 }
@@ -29,12 +30,18 @@ module _ {R K : Type 0} (riding : Riding R) (carrying : Carrying K) (bytes : Lis
   heads_asked (suc zero) d within = refl
   heads_asked (suc (suc k)) d within = absurd (omega (arith, within))
 
-  pub names_asked : NamesFit (asked (one_block bytes))
+  names_asked : NamesFit (asked (one_block bytes))
   names_asked zero d within = refl
   names_asked (suc k) d within = absurd (omega (arith, within))
 
-  pub row_asked : IsTrue (has_row_for riding carrying (asked (one_block bytes)) (TakeRequest 0))
-  row_asked = refl
+  room_asked : HasRoomFor riding carrying (asked (one_block bytes)) (TakeRequest 0)
+  room_asked zero within heard = omega arith
+  room_asked (suc zero) within heard = omega arith
+  room_asked (suc (suc k)) within heard = absurd (omega (arith, within))
+
+  pub can_asked : HomeCanAct riding carrying (asked (one_block bytes)) (TakeRequest 0)
+  can_asked =
+      record { few = omega arith; here = omega arith; names = names_asked; row = refl; room = room_asked }
 
   pub here_served : 0 < length served.ports
   here_served = omega arith

@@ -2,10 +2,10 @@
 use Rattle.std.specs.Prelude.{◌≡◌, ◌≢◌, ◌≤◌, ℕ, Bool, false, List, length}
 use Rattle.access_times.specs.Riding.{Riding, Carrying}
 use Rattle.rtr_types.specs.CoreSets.{has}
-use Rattle.msi_memory.specs.Acts.{TakeMessage, TakeRequest, TakeResponse, can}
-use Rattle.msi_memory.specs.Memories.{Memory}
+use Rattle.msi_memory.specs.Acts.{Act, TakeMessage, TakeRequest, TakeResponse, after_act, can}
+use Rattle.msi_memory.specs.Memories.{Memory, System}
 use Rattle.msi_memory.specs.Rests.{OthersRoomy}
-use Rattle.move_marks.specs.declared.marks.MoveKind.TheVariants.{Request, Response, FromHome}
+use Rattle.move_marks.specs.declared.marks.MoveKind.TheVariants.{Own, Request, Response, FromHome}
 use Rattle.move_marks.specs.declared.marks.MoveMarks.{MoveMarks}
 use Rattle.move_marks.specs.Kinds.{set_of}
 
@@ -15,6 +15,14 @@ module _ {R K : Type 0} where
     pub requests : (d : ℕ) → has (set_of Request marks) d ≡ can riding carrying m (TakeRequest d)
     pub responses : (d : ℕ) → has (set_of Response marks) d ≡ can riding carrying m (TakeResponse d)
     pub messages : (d : ℕ) → has (set_of FromHome marks) d ≡ can riding carrying m (TakeMessage d)
+
+  -- the act was made, and the marks at the ports went with it
+  pub record MarksFollowed (riding : Riding R) (carrying : Carrying K) (old new : System R K) (act : Act R)
+      (were are : MoveMarks) : Type 0 where
+    pub memory : new.memory ≡ after_act riding carrying old.memory act
+    pub rooms : new.rooms ≡ old.rooms
+    pub marked : PortsMarked riding carrying new.memory are
+    pub own : (c : ℕ) → has (set_of Own are) c ≡ has (set_of Own were) c
 
   -- so they are but perhaps for one core's oldest request, about whose block the home wasn't asked yet
   pub record PortsMarkedBut (riding : Riding R) (carrying : Carrying K) (m : Memory R K) (marks : MoveMarks) (late : ℕ)

@@ -133,11 +133,11 @@ impl MoveMarks {
         ensures within { result.core < CORES_MAX }
     {
         let requests = self.count_of(MoveKind::Request);
+        let responses = self.count_of(MoveKind::Response);
         if number < requests {
             return self.pick_of(MoveKind::Request, number);
         }
         let left = number - requests;
-        let responses = self.count_of(MoveKind::Response);
         if left < responses {
             return self.pick_of(MoveKind::Response, left);
         }

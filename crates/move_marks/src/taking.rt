@@ -1,12 +1,9 @@
 //! The home's turns, with which the marks at the ports go.
-ghost use Rattle.std.specs.Prelude.{◌≡◌, ℕ, IsTrue, length};
-ghost use Rattle.rtr_types.specs.CoreSets.{has};
+ghost use Rattle.std.specs.Prelude.{◌≡◌, IsTrue, length};
 ghost use Rattle.msi_laws.specs.Holds.{MemoryHolds};
-ghost use Rattle.msi_memory.specs.Acts.{TakeRequest, TakeResponse, can, take_request, take_response};
+ghost use Rattle.msi_memory.specs.Acts.{TakeRequest, TakeResponse, can};
 ghost use Rattle.msi_memory.specs.Rests.{are_heads_roomy};
-ghost use Rattle.move_marks.specs.Kinds.{set_of};
-ghost use Rattle.move_marks.specs.Ports.{PortsMarked};
-ghost use Rattle.move_marks.specs.declared.marks.MoveKind.TheVariants.{Own};
+ghost use Rattle.move_marks.specs.Ports.{MarksFollowed, PortsMarked};
 
 use crate::marking::mark_turn;
 use crate::marks::{MoveKind, MoveMarks};
@@ -21,21 +18,18 @@ pub fn take_request<R: Rider, K: Carry>(
     cores: u32,
     marks: &mut MoveMarks,
 )
+    requires roomy { IsTrue (are_heads_roomy memory.old.memory.ports memory.old.rooms) }
     requires holds { MemoryHolds R.riding K.carrying memory.old.memory }
     requires can { IsTrue (can R.riding K.carrying memory.old.memory (TakeRequest core)) }
-    requires roomy { IsTrue (are_heads_roomy memory.old.memory.ports memory.old.rooms) }
     requires cores { cores ≡ length memory.old.memory.ports }
     requires marked { PortsMarked R.riding K.carrying memory.old.memory marks.old }
-    ensures memory { memory.new.memory ≡ take_request R.riding K.carrying memory.old.memory core }
-    ensures rooms { memory.new.rooms ≡ memory.old.rooms }
-    ensures marked { PortsMarked R.riding K.carrying memory.new.memory marks.new }
-    ensures own { (c : ℕ) → has (set_of Own marks.new) c ≡ has (set_of Own marks.old) c }
+    ensures { MarksFollowed R.riding K.carrying memory.old memory.new (TakeRequest core) marks.old marks.new }
 {
+    // its link has room for one request, so none is left
+    marks.set(MoveKind::Request, core, false);
     // a request is taken only where its block is free, and a response only where it isn't
     let turn = memory.take_request(core);
     mark_turn(memory, cores, turn, true, marks);
-    // its link has room for one request, so none is left
-    marks.set(MoveKind::Request, core, false);
 }
 
 /// The home takes the core's oldest response, and the marks at so many ports become those of what can be done there
@@ -50,10 +44,7 @@ pub fn take_response<R: Rider, K: Carry>(
     requires can { IsTrue (can R.riding K.carrying memory.old.memory (TakeResponse core)) }
     requires cores { cores ≡ length memory.old.memory.ports }
     requires marked { PortsMarked R.riding K.carrying memory.old.memory marks.old }
-    ensures memory { memory.new.memory ≡ take_response R.riding K.carrying memory.old.memory core }
-    ensures rooms { memory.new.rooms ≡ memory.old.rooms }
-    ensures marked { PortsMarked R.riding K.carrying memory.new.memory marks.new }
-    ensures own { (c : ℕ) → has (set_of Own marks.new) c ≡ has (set_of Own marks.old) c }
+    ensures { MarksFollowed R.riding K.carrying memory.old memory.new (TakeResponse core) marks.old marks.new }
 {
     let turn = memory.take_response(core);
     marks.set(MoveKind::Response, core, memory.has_response(core));

@@ -15,4 +15,4 @@ pub use held::Held;
 pub use line::{Line, State};
 pub use messages::{FromHome, Request, Response};
 pub use rtr_types::LINES;
-pub use slots::{FromHomeSlot, RequestSlot, ResponseSlot};
+pub use slots::{Bare, FromHomeSlot, RequestSlot, ResponseSlot, Slot};

@@ -29,18 +29,6 @@ pub enum Request<R> {
 }
 
 impl<R> Request<R> {
-    /// The block that the request is about.
-    pub fn block(&self) -> u32
-        ensures { result ≡ request_block self.now }
-    {
-        match self {
-            Request::GetS { block }
-            | Request::GetM { block }
-            | Request::PutS { block, .. }
-            | Request::PutM { block, .. } => *block,
-        }
-    }
-
     /// The request with its rider lent.
     pub fn lent(&self) -> Request<&R>
         ensures { request_seen result ≡ self.now }
@@ -61,6 +49,18 @@ impl<R> Request<R> {
                 words: *words,
                 rider,
             },
+        }
+    }
+
+    /// The block that the request is about.
+    pub fn block(&self) -> u32
+        ensures { result ≡ request_block self.now }
+    {
+        match self {
+            Request::GetS { block }
+            | Request::GetM { block }
+            | Request::PutS { block, .. }
+            | Request::PutM { block, .. } => *block,
         }
     }
 }
@@ -182,6 +182,25 @@ pub enum FromHome<R> {
     },
 }
 
+impl<R: Copy> FromHome<R> {
+    /// The message with this rider, where it has one, in place of its own.
+    pub fn riding<T: Drop>(self, rider: T) -> FromHome<T>
+        ensures { result ≡ message_with (λ own. rider) self }
+    {
+        match self {
+            FromHome::FwdGetS { block } => FromHome::FwdGetS { block },
+            FromHome::FwdGetM { block } => FromHome::FwdGetM { block },
+            FromHome::Inv { block } => FromHome::Inv { block },
+            FromHome::PutAck { block } => FromHome::PutAck { block },
+            FromHome::BlockData { block, words, .. } => FromHome::BlockData {
+                block,
+                words,
+                rider,
+            },
+        }
+    }
+}
+
 impl<R> FromHome<R> {
     /// The block that the message is about.
     pub fn block(&self) -> u32
@@ -212,25 +231,6 @@ impl<R> FromHome<R> {
             } => FromHome::BlockData {
                 block: *block,
                 words: *words,
-                rider,
-            },
-        }
-    }
-}
-
-impl<R: Copy> FromHome<R> {
-    /// The message with this rider, where it has one, in place of its own.
-    pub fn riding<T: Drop>(self, rider: T) -> FromHome<T>
-        ensures { result ≡ message_with (λ own. rider) self }
-    {
-        match self {
-            FromHome::FwdGetS { block } => FromHome::FwdGetS { block },
-            FromHome::FwdGetM { block } => FromHome::FwdGetM { block },
-            FromHome::Inv { block } => FromHome::Inv { block },
-            FromHome::PutAck { block } => FromHome::PutAck { block },
-            FromHome::BlockData { block, words, .. } => FromHome::BlockData {
-                block,
-                words,
                 rider,
             },
         }

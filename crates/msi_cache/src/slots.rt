@@ -15,30 +15,89 @@ use std::alloc::{AllocError, Global};
 use std::marker::Model;
 use std::mem;
 
-/// A place for a request.
+/// A message without its rider, which lies apart from it.
+pub trait Bare<R>: Drop {
+    /// The message with its rider.
+    type Whole;
+
+    /// The message with this rider, where it has one.
+    ghost with: { R → Self → Self.Whole };
+
+    /// Some message, which nobody sent.
+    fn blank() -> Self;
+}
+
+impl<R> Bare<R> for Request<()> {
+    ghost use Rattle.msi_cache.specs.Messages.{request_with};
+
+    type Whole = Request<R>;
+
+    ghost with = { λ rider bare. request_with (λ u. rider) bare };
+
+    fn blank() -> Self {
+        Request::GetS { block: 0 }
+    }
+}
+
+impl<R> Bare<R> for Response<()> {
+    ghost use Rattle.msi_cache.specs.Messages.{response_with};
+
+    type Whole = Response<R>;
+
+    ghost with = { λ rider bare. response_with (λ u. rider) bare };
+
+    fn blank() -> Self {
+        Response::InvAck {
+            block: 0,
+            rider: (),
+        }
+    }
+}
+
+impl<R> Bare<R> for FromHome<()> {
+    ghost use Rattle.msi_cache.specs.Messages.{message_with};
+
+    type Whole = FromHome<R>;
+
+    ghost with = { λ rider bare. message_with (λ u. rider) bare };
+
+    fn blank() -> Self {
+        FromHome::PutAck { block: 0 }
+    }
+}
+
+/// A place for a message: the message without its rider, and the rider, which lies apart from it.
 #[derive(Drop)]
-pub struct RequestSlot<R> {
-    bare: Request<()>,
+pub struct Slot<M: Bare<R>, R> {
+    bare: M,
     rider: Held<R>,
 }
 
-impl<R> Model for RequestSlot<R> {
-    ghost use Rattle.msi_cache.specs.Messages.{request_with};
-    ghost use Rattle.msi_cache.specs.declared.messages.Request.{Request};
+/// A place for a request.
+pub type RequestSlot<R> = Slot<Request<()>, R>;
 
-    ghost Value = { Request R };
+/// A place for a response.
+pub type ResponseSlot<R> = Slot<Response<()>, R>;
 
-    ghost view = { λ a. request_with (λ u. a.rider) a.bare };
+/// A place for a message from home.
+pub type FromHomeSlot<R> = Slot<FromHome<()>, R>;
+
+impl<M: Bare<R>, R> Model for Slot<M, R> {
+    ghost Value = { M.Whole };
+
+    ghost view = { λ a. M.with a.rider a.bare };
 }
 
-impl<R: Rider> RequestSlot<R> {
-    /// A place that was never written: contracts see some request in it, which nobody sent.
-    pub fn blank(alloc: Global) -> Result<RequestSlot<R>, AllocError> {
+impl<M: Bare<R>, R: Rider> Slot<M, R> {
+    /// A place that was never written: contracts see some message in it, which nobody sent.
+    pub fn blank(alloc: Global) -> Result<Slot<M, R>, AllocError> {
         let rider = Held::fresh(alloc)?;
-        let bare = Request::GetS { block: 0 };
-        Ok(RequestSlot { bare, rider })
+        let bare = M::blank();
+        Ok(Slot { bare, rider })
     }
+}
 
+impl<R: Rider> Slot<Request<()>, R> {
     /// Puts the request here.
     pub fn put(&mut self, request: Request<&R>)
         ensures { self.new ≡ request_seen request.entry }
@@ -65,13 +124,6 @@ impl<R: Rider> RequestSlot<R> {
         }
     }
 
-    /// The block that the request is about.
-    pub fn block(&self) -> u32
-        ensures { result ≡ request_block self.now }
-    {
-        self.bare.block()
-    }
-
     /// The request that lies here, with its rider lent.
     pub fn open(&self) -> Request<&R>
         ensures { request_seen result ≡ self.now }
@@ -88,57 +140,37 @@ impl<R: Rider> RequestSlot<R> {
             },
         }
     }
-}
 
-/// A place for a response.
-#[derive(Drop)]
-pub struct ResponseSlot<R> {
-    bare: Response<()>,
-    rider: Held<R>,
-}
-
-impl<R> Model for ResponseSlot<R> {
-    ghost use Rattle.msi_cache.specs.Messages.{response_with};
-    ghost use Rattle.msi_cache.specs.declared.messages.Response.{Response};
-
-    ghost Value = { Response R };
-
-    ghost view = { λ a. response_with (λ u. a.rider) a.bare };
-}
-
-impl<R: Rider> ResponseSlot<R> {
-    /// A place that was never written: contracts see some response in it, which nobody sent.
-    pub fn blank(alloc: Global) -> Result<ResponseSlot<R>, AllocError> {
-        let rider = Held::fresh(alloc)?;
-        let bare = Response::InvAck {
-            block: 0,
-            rider: (),
-        };
-        Ok(ResponseSlot { bare, rider })
+    /// The block that the request is about.
+    pub fn block(&self) -> u32
+        ensures { result ≡ request_block self.now }
+    {
+        self.bare.block()
     }
+}
 
+impl<R: Rider> Slot<Response<()>, R> {
     /// Puts the response here.
     pub fn put(&mut self, response: Response<&R>)
         ensures { self.new ≡ response_seen response.entry }
     {
-        match response {
-            Response::InvAck { block, rider } => {
-                self.bare = Response::InvAck { block, rider: () };
-                self.rider.copy_from(rider);
-            }
+        let (bare, rider) = match response {
+            Response::InvAck { block, rider } => (Response::InvAck { block, rider: () }, rider),
             Response::OwnerData {
                 block,
                 words,
                 rider,
             } => {
-                self.bare = Response::OwnerData {
+                let bare = Response::OwnerData {
                     block,
                     words,
                     rider: (),
                 };
-                self.rider.copy_from(rider);
+                (bare, rider)
             }
-        }
+        };
+        self.bare = bare;
+        self.rider.copy_from(rider);
     }
 
     /// Puts the response here with a rider that is handed over: the giver keeps one that holds nothing.
@@ -186,30 +218,7 @@ impl<R: Rider> ResponseSlot<R> {
     }
 }
 
-/// A place for a message from home.
-#[derive(Drop)]
-pub struct FromHomeSlot<R> {
-    bare: FromHome<()>,
-    rider: Held<R>,
-}
-
-impl<R> Model for FromHomeSlot<R> {
-    ghost use Rattle.msi_cache.specs.Messages.{message_with};
-    ghost use Rattle.msi_cache.specs.declared.messages.FromHome.{FromHome};
-
-    ghost Value = { FromHome R };
-
-    ghost view = { λ a. message_with (λ u. a.rider) a.bare };
-}
-
-impl<R: Rider> FromHomeSlot<R> {
-    /// A place that was never written: contracts see some message in it, which nobody sent.
-    pub fn blank(alloc: Global) -> Result<FromHomeSlot<R>, AllocError> {
-        let rider = Held::fresh(alloc)?;
-        let bare = FromHome::PutAck { block: 0 };
-        Ok(FromHomeSlot { bare, rider })
-    }
-
+impl<R: Rider> Slot<FromHome<()>, R> {
     /// Puts the message here.
     pub fn put(&mut self, message: FromHome<&R>)
         ensures { self.new ≡ message_seen message.entry }

@@ -39,6 +39,13 @@ module _ {R : Type 0} (home : Sparse R) (now : Blocks R) (view : blocks_in home 
   pub opens_within : HomeFits home → block * 4 + 3 < 2 ^ 32
   opens_within fits = let inside = rw (← view) at within in omega (arith, inside, fits.words, entries_counted home)
 
+-- what was done for a message was done for one that is equal to it
+pub done_by : {R M : Type 0} (does : M → Deed R) {told message : M} {old after : Kept R} {place : ℕ} {hand : R}
+    {served : Served} → told ≡ message → IsDoneAt (does told) old after place hand served →
+    IsDoneAt (does message) old after place hand served
+done_by does {old = old} {after = after} {place = place} {hand = hand} {served = served} same did =
+    subst (λ m. IsDoneAt (does m) old after place hand served) same did
+
 -- a message about a block of the memory comes to the home, which contracts see as `now`
 module _ {R : Type 0} (home : Sparse R) (now : Blocks R) (view : blocks_in home ≡ now) (fresh : R) (done : Deed R)
     (within : done.block < length now.entries) (asked : ℕ) (about : asked ≡ done.block) where

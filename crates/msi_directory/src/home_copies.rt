@@ -52,8 +52,8 @@ impl<R: Rider> HomeCopy<R> {
             (entry_of stage.new self.new) hand.new result }
     {
         match request {
-            Request::GetS { block } => self.get_shared(stage, About { from, block }, hand),
-            Request::GetM { block } => self.get_owned(stage, About { from, block }, hand),
+            Request::GetS { block } => self.get(stage, About { from, block }, true, hand),
+            Request::GetM { block } => self.get(stage, About { from, block }, false, hand),
             Request::PutS { block, rider } => self.put_shared(stage, from, block, rider),
             Request::PutM {
                 block,
@@ -93,40 +93,35 @@ impl<R: Rider> HomeCopy<R> {
         }
     }
 
-    /// A core wants to share the block.
-    fn get_shared(&mut self, stage: &mut Stage, about: About, hand: &mut Held<R>) -> HomeAnswer<()>
+    /// A core wants to share the block, or to own it.
+    fn get(
+        &mut self,
+        stage: &mut Stage,
+        about: About,
+        share: bool,
+        hand: &mut Held<R>,
+    ) -> HomeAnswer<()>
         requires from { about.from < CORES_MAX }
-        requires row { IsTrue (is_some (request_row stage.old about.from Ask.GetS)) }
-        ensures { IsDoneTo (request_deed R.riding about.from (Request.GetS about.block)) (entry_of stage.old self.old)
-            (entry_of stage.new self.new) hand.new result }
+        requires row { IsTrue (is_some (request_row stage.old about.from (if share then Ask.GetS else Ask.GetM))) }
+        ensures { IsDoneTo (request_deed R.riding about.from
+            (if share then Request.GetS about.block else Request.GetM about.block))
+            (entry_of stage.old self.old) (entry_of stage.new self.new) hand.new result }
     {
         match *stage {
-            Stage::Owned { owner } => ask_owner(stage, owner, about, true),
-            Stage::Shared { by } => {
+            Stage::Owned { owner } => ask_owner(stage, owner, about, share),
+            Stage::Shared { by } if share => {
                 *stage = Stage::Shared {
                     by: by.with(about.from),
                 };
                 self.lend(about.from, about.block, hand)
             }
-            _ => {
+            Stage::Shared { by } => self.take_from(by.without(about.from), stage, about, hand),
+            _ if share => {
                 *stage = Stage::Shared {
                     by: CoreSet::empty().with(about.from),
                 };
                 self.lend(about.from, about.block, hand)
             }
-        }
-    }
-
-    /// A core wants to own the block.
-    fn get_owned(&mut self, stage: &mut Stage, about: About, hand: &mut Held<R>) -> HomeAnswer<()>
-        requires from { about.from < CORES_MAX }
-        requires row { IsTrue (is_some (request_row stage.old about.from Ask.GetM)) }
-        ensures { IsDoneTo (request_deed R.riding about.from (Request.GetM about.block)) (entry_of stage.old self.old)
-            (entry_of stage.new self.new) hand.new result }
-    {
-        match *stage {
-            Stage::Owned { owner } => ask_owner(stage, owner, about, false),
-            Stage::Shared { by } => self.take_from(stage, by.without(about.from), about, hand),
             _ => {
                 *stage = Stage::Owned { owner: about.from };
                 self.give(about.from, about.block, hand)
@@ -137,8 +132,8 @@ impl<R: Rider> HomeCopy<R> {
     /// A core is to own the block once the others no longer share it.
     fn take_from(
         &mut self,
-        stage: &mut Stage,
         others: CoreSet,
+        stage: &mut Stage,
         about: About,
         hand: &mut Held<R>,
     ) -> HomeAnswer<()>

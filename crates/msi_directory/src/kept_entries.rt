@@ -27,20 +27,11 @@ const SHORTCUTS: usize = 64;
 ///
 /// Most looks are for few blocks again and again. So the place of the newest block of each remainder is at
 /// hand, and the map is searched where another block has that place.
+#[derive(Drop)]
 pub(crate) struct KeptEntries<R> {
     stages: IndexMap<u32, Stage>,
     copies: Vec<HomeCopy<R>>,
     shortcuts: [usize; SHORTCUTS],
-}
-
-impl<R: Drop> Drop for KeptEntries<R> {
-    fn drop(self) {
-        let KeptEntries {
-            stages: _stages,
-            copies: _copies,
-            shortcuts: _shortcuts,
-        } = self;
-    }
 }
 
 impl<R> Model for KeptEntries<R> {

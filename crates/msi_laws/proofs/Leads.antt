@@ -250,12 +250,12 @@ module _ {R K : Type 0} where
           let line = left_other riding p.cache k slot kind value rider b long (λ (e : l.block ≡ b). other (sym e
           ∙ at)) in
           record {
-            state = line.state;
-            block = line.block;
-            payload = line.payload;
             requests = refl;
             responses = refl;
             messages = refl;
+            state = line.state;
+            block = line.block;
+            payload = line.payload;
           }
 
   -- an act that changes one port and leaves the home

@@ -9,6 +9,7 @@ use Rattle.msi_cache.specs.Lines.{empty_line, line_for}
 use Rattle.msi_cache.specs.Table.{is_transient}
 use Rattle.msi_directory.specs.Blocks.{entry_at}
 use Rattle.msi_protocol.specs.Block.{View, Block}
+use Rattle.msi_protocol.specs.Phases.{BlockHolds}
 use Rattle.msi_protocol.specs.Promises.{OneWriter}
 use Rattle.msi_protocol.specs.Seats.{FullBlock}
 use Rattle.msi_protocol.specs.Shown.{Payload}
@@ -88,3 +89,9 @@ module _ {R K : Type 0} where
   KeepsLaw riding carrying =
       (m : Memory R K) (act : Act R) → IsTrue (can riding carrying m act) → MemoryHolds riding carrying m
       → MemoryHolds riding carrying (after_act riding carrying m act)
+
+-- the start has the invariant and acts keep it; with it each block is well, as the protocol has it
+pub record InvariantLaws {R K : Type 0} (riding : Riding R) (carrying : Carrying K) : Type 0 where
+  pub start : StartLaw riding carrying
+  pub act : KeepsLaw riding carrying
+  pub blocks : (m : Memory R K) → MemoryHolds riding carrying m → (b : ℕ) → BlockHolds (block_in riding carrying m b)

@@ -74,3 +74,10 @@ module _ {R K : Type 0} where
       → WaitsFor riding (port_at carrying m.ports c) block kind
       → let left = port_at carrying (after_act riding carrying m (TakeMessage c)).ports c in
       (allows riding left block kind ≡ true) × (waits left.cache ≡ false)
+
+-- what holds of a port's waiting
+pub record WaitingLaws {R K : Type 0} (riding : Riding R) (carrying : Carrying K) : Type 0 where
+  pub asked : WantsLaw riding carrying
+  pub waits : WaitsLaw riding carrying
+  pub granted : GrantsLaw riding carrying
+  pub still : StillLaw riding carrying

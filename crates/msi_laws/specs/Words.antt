@@ -55,3 +55,8 @@ module _ {R K : Type 0} where
       → MemoryHolds riding carrying m → c < length m.ports
       → allows riding (port_at carrying m.ports c) block kind ≡ true → HaveWords riding carrying m memory
       → (line_for riding.fresh (port_at carrying m.ports c).cache block).words ≡ memory block
+
+-- the start has the memory's words, and acts keep that
+pub record WordsLaws {R K : Type 0} (riding : Riding R) (carrying : Carrying K) : Type 0 where
+  pub start : OpeningWordsLaw riding carrying
+  pub act : WordsLaw riding carrying

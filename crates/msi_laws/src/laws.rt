@@ -1,22 +1,17 @@
 //! What holds of the memory system in each state that its acts lead to from the start.
-ghost use Rattle.std.specs.Prelude.{ℕ};
 ghost use Rattle.msi_memory.specs.Memories.{Memory};
-ghost use Rattle.msi_protocol.specs.Phases.{BlockHolds};
-ghost use Rattle.msi_laws.specs.Holds.{KeepsLaw, MemoryHolds, OneWriterEverywhere, StartLaw, block_in};
+ghost use Rattle.msi_laws.specs.Holds.{InvariantLaws, MemoryHolds, OneWriterEverywhere};
 ghost use Rattle.msi_laws.specs.Moving.{MovingLaw, QuietLaw};
 ghost use Rattle.msi_laws.specs.Ready.{LinksHoldLaw, ReadyLaw};
-ghost use Rattle.msi_laws.specs.Waits.{GrantsLaw, StillLaw, WaitsLaw, WantsLaw};
-ghost use Rattle.msi_laws.specs.Words.{FindsLaw, OpeningWordsLaw, WordsLaw};
+ghost use Rattle.msi_laws.specs.Waits.{WaitingLaws};
+ghost use Rattle.msi_laws.specs.Words.{FindsLaw, WordsLaws};
 
 use access_times::{Carry, Rider};
 
 /// The invariant holds at the start, and each act that can be made keeps it, whatever rider an access leaves.
 /// Each block of a memory system that keeps it is well, as the protocol has it.
 pub fn acts_keep_the_invariant<R: Rider, K: Carry>()
-    ensures start { StartLaw R.riding K.carrying }
-    ensures act { KeepsLaw R.riding K.carrying }
-    ensures blocks { (m : Memory R K) → MemoryHolds R.riding K.carrying m → (b : ℕ)
-        → BlockHolds (block_in R.riding K.carrying m b) }
+    ensures { InvariantLaws R.riding K.carrying }
 {}
 
 /// At most one cache may write a block, and then no other may read it.
@@ -40,17 +35,13 @@ pub fn a_memory_is_never_stuck<R: Rider, K: Carry>()
 /// A port that is asked waits for the access that it is asked for, and does so in every other act, until it
 /// waits no more: when the data come the cache allows the access. A port begins to wait by asking alone.
 pub fn a_port_waits_for_one_access<R: Rider, K: Carry>()
-    ensures asked { WantsLaw R.riding K.carrying }
-    ensures waits { WaitsLaw R.riding K.carrying }
-    ensures granted { GrantsLaw R.riding K.carrying }
-    ensures still { StillLaw R.riding K.carrying }
+    ensures { WaitingLaws R.riding K.carrying }
 {}
 
 /// At the start the copies that count have the words that the home has, and each act keeps that they have the
 /// memory's, as the memory is after it.
 pub fn acts_keep_words<R: Rider, K: Carry>()
-    ensures start { OpeningWordsLaw R.riding K.carrying }
-    ensures act { WordsLaw R.riding K.carrying }
+    ensures { WordsLaws R.riding K.carrying }
 {}
 
 /// Where a port allows an access, it has the memory's words.

@@ -5,15 +5,14 @@ ghost use Rattle.link_order.specs.Queue.{is_nil};
 ghost use Rattle.rtr_types.specs.CoreSets.{has};
 ghost use Rattle.rtr_types.specs.declared.TheConstants.{BLOCK_WORDS, CORES_MAX};
 ghost use Rattle.msi_cache.specs.Lines.{can_read, line_for, waits};
-ghost use Rattle.msi_directory.specs.Blocks.{entry_at, touched};
-ghost use Rattle.msi_directory.specs.Table.{is_free};
+ghost use Rattle.msi_directory.specs.Blocks.{touched};
 ghost use Rattle.msi_memory.specs.Acts.{TakeMessage, TakeRequest, TakeResponse, allows, can, data_next, head_free};
-ghost use Rattle.msi_memory.specs.Acts.{retire, take_message, take_request, take_response, touch, want};
+ghost use Rattle.msi_memory.specs.Acts.{retire, take_message, touch, want};
 ghost use Rattle.msi_memory.specs.Finals.{SameWords, at_hand, block_words};
 ghost use Rattle.msi_memory.specs.Memories.{memory_start, port_at, port_start, rider_at, word_at};
-ghost use Rattle.msi_memory.specs.Rests.{HasRoomFor, HeadsFit, NamesFit, OthersRoomy, RoomsMade, are_heads_roomy};
+ghost use Rattle.msi_memory.specs.Rests.{HasRoomFor, HeadsFit, OthersRoomy, RoomsMade, are_heads_roomy};
 ghost use Rattle.msi_memory.specs.Rests.{has_row_for, head_is, head_roomy, requests_at};
-ghost use Rattle.msi_memory.specs.Turns.{IsRequestTurn, IsResponseTurn};
+ghost use Rattle.msi_memory.specs.Turns.{HomeActed, HomeCanAct};
 
 use crate::answering::{collect, serve};
 use crate::port::Port;
@@ -269,18 +268,10 @@ impl<R: Rider, K: Carry> MemorySystem<R, K> {
     /// The home takes the core's oldest request, whose block it isn't busy with and has room for, and answers
     /// it.
     pub fn take_request(&mut self, core: u8) -> Turn
-        requires few { length self.old.memory.ports ≤ CORES_MAX }
-        requires here { core < length self.old.memory.ports }
-        requires names { NamesFit self.old.memory }
-        requires row { IsTrue (has_row_for R.riding K.carrying self.old.memory (TakeRequest core)) }
-        requires room { HasRoomFor R.riding K.carrying self.old.memory (TakeRequest core) }
+        requires can { HomeCanAct R.riding K.carrying self.old.memory (TakeRequest core) }
         requires roomy { IsTrue (head_roomy (port_at K.carrying self.old.memory.ports core).requests.items
             self.old.rooms) }
-        ensures memory { self.new.memory ≡ take_request R.riding K.carrying self.old.memory core }
-        ensures rooms { self.new.rooms ≡ self.old.rooms }
-        ensures turn { IsRequestTurn (port_at K.carrying self.old.memory.ports core).requests.items R.riding
-            self.old.memory core result }
-        ensures free { result.free ≡ is_free (entry_at R.riding.fresh self.new.memory.home result.block).stage }
+        ensures { HomeActed R.riding K.carrying self.old self.new (TakeRequest core) result }
     {
         let link = &mut self.ports[core as usize].requests;
         let turn = serve(&mut self.home, core, link, &mut self.carry, &mut self.hand);
@@ -290,16 +281,8 @@ impl<R: Rider, K: Carry> MemorySystem<R, K> {
 
     /// The home takes the core's oldest response, and answers whom it was for.
     pub fn take_response(&mut self, core: u8) -> Turn
-        requires few { length self.old.memory.ports ≤ CORES_MAX }
-        requires here { core < length self.old.memory.ports }
-        requires names { NamesFit self.old.memory }
-        requires row { IsTrue (has_row_for R.riding K.carrying self.old.memory (TakeResponse core)) }
-        requires room { HasRoomFor R.riding K.carrying self.old.memory (TakeResponse core) }
-        ensures memory { self.new.memory ≡ take_response R.riding K.carrying self.old.memory core }
-        ensures rooms { self.new.rooms ≡ self.old.rooms }
-        ensures turn { IsResponseTurn (port_at K.carrying self.old.memory.ports core).responses.items R.riding
-            self.old.memory core result }
-        ensures free { result.free ≡ is_free (entry_at R.riding.fresh self.new.memory.home result.block).stage }
+        requires { HomeCanAct R.riding K.carrying self.old.memory (TakeResponse core) }
+        ensures { HomeActed R.riding K.carrying self.old self.new (TakeResponse core) result }
     {
         let link = &mut self.ports[core as usize].responses;
         let turn = collect(&mut self.home, core, link, &mut self.carry, &mut self.hand);

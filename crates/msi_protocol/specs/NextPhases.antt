@@ -52,10 +52,6 @@ after_other stage c a d p = p
 
 -- the phase of a core after its response was taken
 abbrev pub answered : Phase → Phase
-answered Acked = Idle
-answered AckedAsksS = AsksS
-answered AckedAsksM = AsksM
-answered (AckedPuts p) = PutsLate p
 answered GaveHolds = Holds
 answered GaveUpgrades = Upgrades
 answered (GavePuts p) = Puts p
@@ -63,6 +59,10 @@ answered GaveAll = Idle
 answered GaveAllAsksS = AsksS
 answered GaveAllAsksM = AsksM
 answered GaveAllPuts = PutsLate OfModified
+answered Acked = Idle
+answered AckedAsksS = AsksS
+answered AckedAsksM = AsksM
+answered (AckedPuts p) = PutsLate p
 answered p = p
 
 -- BlockData is sent to the one that waits for it

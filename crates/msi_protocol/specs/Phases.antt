@@ -64,45 +64,26 @@ filling false = ImD
 -- where a core can be with the block
 pub data Phase : Type 0 where
   -- the home takes it for out
-  Idle : Phase
-  AsksS : Phase
-  AsksM : Phase
+  Idle AsksS AsksM : Phase
   PutsLate : (p : Put) → Phase
   PutDone : (e : Evicting) → Phase
   -- for a sharer
-  Holds : Phase
-  Fills : Phase
-  Upgrades : Phase
+  Holds Fills Upgrades : Phase
   Puts : (p : Put) → Phase
   -- for the owner
-  Owns : Phase
-  FillsM : Phase
-  UpgradeFills : Phase
-  PutsM : Phase
+  Owns FillsM UpgradeFills PutsM : Phase
   -- for one that is to acknowledge
-  HoldsTold : Phase
-  FillsTold : Phase
-  UpgradesTold : Phase
+  HoldsTold FillsTold UpgradesTold : Phase
   PutsTold : (p : Put) → Phase
-  Acked : Phase
-  AckedAsksS : Phase
-  AckedAsksM : Phase
+  Acked AckedAsksS AckedAsksM : Phase
   AckedPuts : (p : Put) → Phase
   -- for the one that waits for these
-  AwaitsAcks : Phase
-  UpgradeAwaitsAcks : Phase
+  AwaitsAcks UpgradeAwaitsAcks : Phase
   -- for the owner that is to give
-  OwnsTold : (share : Bool) → Phase
-  FillsMTold : (share : Bool) → Phase
-  UpgradeFillsTold : (share : Bool) → Phase
-  PutsMTold : (share : Bool) → Phase
-  GaveHolds : Phase
-  GaveUpgrades : Phase
+  OwnsTold FillsMTold UpgradeFillsTold PutsMTold : (share : Bool) → Phase
+  GaveHolds GaveUpgrades : Phase
   GavePuts : (p : Put) → Phase
-  GaveAll : Phase
-  GaveAllAsksS : Phase
-  GaveAllAsksM : Phase
-  GaveAllPuts : Phase
+  GaveAll GaveAllAsksS GaveAllAsksM GaveAllPuts : Phase
   -- for the one that waits for it
   AwaitsData : (share : Bool) → Phase
 

@@ -1,15 +1,25 @@
 -- What the protocol promises of a block.
 use Rattle.std.specs.Prelude.{◌≡◌, ◌≢◌, ℕ, ◌<◌, ◌≤◌, nat_lt, Bool, true, false, not, ◌&&◌, ◌||◌, is_some, List, [], ◌∷◌}
-use Rattle.std.specs.Prelude.{length}
+use Rattle.std.specs.Prelude.{IsTrue, length}
 use Rattle.link_order.specs.Queue.{is_nil}
 use Rattle.rtr_types.specs.declared.TheConstants.{CORES_MAX}
 use Rattle.msi_cache.specs.declared.line.State.{State}
 use Rattle.msi_cache.specs.declared.line.State.TheVariants.{I, S, M}
 use Rattle.msi_cache.specs.Table.{Signal, Ask, Reply, row, is_readable, is_writable, is_transient}
+use Rattle.msi_directory.specs.Fitting.{stage_fits}
 use Rattle.msi_directory.specs.Table.{is_free}
+use Rattle.msi_directory.specs.declared.entry.Stage.{Stage}
 use Rattle.msi_protocol.specs.Block.{View, view, Block, BlockMove, core_of, has_ask_row, has_reply_row, block_run}
-use Rattle.msi_protocol.specs.Block.{block_start}
-use Rattle.msi_protocol.specs.Phases.{Role, Sharer, Owner, role, BlockHolds}
+use Rattle.msi_protocol.specs.Block.{block_move, block_start}
+use Rattle.msi_protocol.specs.Phases.{Role, Sharer, Owner, role, BlockHolds, StageFits}
+
+-- the start has the invariant and moves keep it, so that each run has it, and the home's own invariant allows the
+-- stages that it allows
+pub record InvariantLaws : Type 0 where
+  pub start : BlockHolds block_start
+  pub step : (move : BlockMove) (b : Block) → BlockHolds b → BlockHolds (block_move move b)
+  pub run : (moves : List BlockMove) → BlockHolds (block_run moves block_start)
+  pub fits : (stage : Stage) → StageFits stage → IsTrue (stage_fits stage)
 
 -- what the invariant implies, and so what holds whatever moves are made from the start
 pub record Always (P : Block → Type 0) : Type 0 where

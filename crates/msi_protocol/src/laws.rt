@@ -1,20 +1,14 @@
 //! What holds of a block, whatever moves are made from the start.
-ghost use Rattle.std.specs.Prelude.{◌≡◌, ℕ, IsTrue, List, true};
-ghost use Rattle.msi_directory.specs.Fitting.{stage_fits};
-ghost use Rattle.msi_directory.specs.declared.entry.Stage.{Stage};
-ghost use Rattle.msi_protocol.specs.Block.{Block, BlockMove, block_move, block_run, block_start};
+ghost use Rattle.std.specs.Prelude.{◌≡◌, ℕ, List, true};
+ghost use Rattle.msi_protocol.specs.Block.{BlockMove, block_run, block_start};
 ghost use Rattle.msi_protocol.specs.Example.{BothShare, FirstOwns, store_again, store_then_load};
-ghost use Rattle.msi_protocol.specs.Phases.{BlockHolds, StageFits};
-ghost use Rattle.msi_protocol.specs.Promises.{Always, BusyMoves, FewUnderWay, HasRows, NoneForgotten, OneWriter};
-ghost use Rattle.msi_protocol.specs.Promises.{OnlyBelow, QuietAgrees, moves_below};
+ghost use Rattle.msi_protocol.specs.Promises.{Always, BusyMoves, FewUnderWay, HasRows, InvariantLaws, NoneForgotten};
+ghost use Rattle.msi_protocol.specs.Promises.{OneWriter, OnlyBelow, QuietAgrees, moves_below};
 
 /// The invariant: each core is with the block where the home takes it to be. It holds at the start, each
 /// move keeps it, and the stages that it allows are those that the home's own invariant allows.
 pub fn moves_keep_the_invariant()
-    ensures start { BlockHolds block_start }
-    ensures step { (move : BlockMove) (b : Block) → BlockHolds b → BlockHolds (block_move move b) }
-    ensures run { (moves : List BlockMove) → BlockHolds (block_run moves block_start) }
-    ensures fits { (stage : Stage) → StageFits stage → IsTrue (stage_fits stage) }
+    ensures { InvariantLaws }
 {}
 
 /// At most one cache may write the block, and then no other may read it.

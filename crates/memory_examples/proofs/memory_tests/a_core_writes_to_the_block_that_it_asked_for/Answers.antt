@@ -10,12 +10,13 @@ use Rattle.rtr_types.specs.declared.access.Kind.TheVariants.{Store}
 use Rattle.rtr_types.specs.declared.instr.Instr.{Instr}
 use Rattle.msi_memory.specs.Acts.{TakeMessage, TakeRequest, allows, retire, take_message, take_request, touch, want}
 use Rattle.msi_memory.specs.Memories.{Memory, memory_start, port_at, rider_at}
-use Rattle.msi_memory.specs.Rests.{HasRoomFor, HeadsFit, NamesFit, has_row_for}
+use Rattle.msi_memory.specs.Rests.{HasRoomFor, HeadsFit, has_row_for}
+use Rattle.msi_memory.specs.Turns.{HomeCanAct}
 use Rattle.memory_examples.proofs.FirstActs.{allowed_retired, asked, heads_asked, here_retired, here_served, here_taken}
 use Rattle.memory_examples.proofs.FirstActs.{served}
-use Rattle.memory_examples.proofs.FirstActs.{names_asked}
+use Rattle.memory_examples.proofs.FirstActs.{can_asked}
 use Rattle.msi_memory.specs.Finals.{at_hand}
-use Rattle.memory_examples.proofs.FirstActs.{at_hand_written, within_written, room_served, row_asked, row_served}
+use Rattle.memory_examples.proofs.FirstActs.{at_hand_written, within_written, room_served, row_served}
 use Rattle.memory_examples.proofs.FirstActs.{waits_served}
 use Rattle.memory_examples.proofs.memory_tests.a_core_writes_to_the_block_that_it_asked_for.Goals as goal
 
@@ -81,15 +82,10 @@ has_room-requires g c =
     by_asked (λ (m : Tried). HeadsFit m) (heads_asked riding carrying c.in_ok-to_vec.field-0.items)
     c.make_room.ensures.memory c.want.ensures.memory c.in_ok-system.ensures.memory c.in_ok-image.ensures.image
 
-pub take_request-requires-clause-names : goal.take_request-requires-clause-names
-take_request-requires-clause-names g c =
-    by_asked (λ (m : Tried). NamesFit m) (names_asked riding carrying c.in_ok-to_vec.field-0.items)
-    c.make_room.ensures.memory c.want.ensures.memory c.in_ok-system.ensures.memory c.in_ok-image.ensures.image
-
-pub take_request-requires-clause-row : goal.take_request-requires-clause-row
-take_request-requires-clause-row g c =
-    by_asked (λ (m : Tried). IsTrue (has_row_for riding carrying m (TakeRequest 0)))
-    (row_asked riding carrying c.in_ok-to_vec.field-0.items)
+pub take_request-requires-clause-can : goal.take_request-requires-clause-can
+take_request-requires-clause-can g c =
+    by_asked (λ (m : Tried). HomeCanAct riding carrying m (TakeRequest 0))
+    (can_asked riding carrying c.in_ok-to_vec.field-0.items)
     c.make_room.ensures.memory c.want.ensures.memory c.in_ok-system.ensures.memory c.in_ok-image.ensures.image
 
 pub take_message-requires-clause-here : goal.take_message-requires-clause-here

@@ -1,11 +1,10 @@
-use Rattle.std.proofs.Common.{IsTrue, ◌∙◌, refl, subst}
+use Rattle.std.proofs.Common.{IsTrue, ◌∙◌, refl}
 use Rattle.msi_directory.specs.Deeds.{response_deed}
-use Rattle.msi_directory.specs.KeptDeeds.{IsDoneAt}
 use Rattle.msi_directory.specs.Entries.{has_response_row}
 use Rattle.msi_directory.specs.Fitting.{stage_fits}
 use Rattle.msi_directory.specs.Kept.{home_of}
 use Rattle.msi_directory.proofs.Fits.{response_keeps_fit}
-use Rattle.msi_directory.proofs.Rows.{fits_after, fits_before, is_answered, stage_found, staged_kept}
+use Rattle.msi_directory.proofs.Rows.{done_by, fits_after, fits_before, is_answered, stage_found, staged_kept}
 use Rattle.msi_directory.proofs.home.Home.on_response.Goals as goal
 
 pub find-place-requires : goal.find-place-requires
@@ -35,15 +34,13 @@ invariant_of-self g c =
     fits_after (home_of c.self.inside.opening c.self.inside.fresh c.self.inside.kept) _ c.self.view_is
     g.R.Rider.riding.fresh (response_deed g.R.Rider.riding c.args.from c.args.response) c.requires.within _
     c.block.ensures _ c.find-place.ensures _ _ _
-    (subst (λ r. IsDoneAt (response_deed g.R.Rider.riding c.args.from r) c.self.inside.kept c.receive.new.self
-    c.find-place.result c.receive.new.hand c.receive.result) (c.put.ensures ∙ c.lent.ensures) c.receive.ensures)
+    (done_by (response_deed g.R.Rider.riding c.args.from) (c.put.ensures ∙ c.lent.ensures) c.receive.ensures)
     (λ e. response_keeps_fit g.R.Rider.riding e c.args.from c.args.response c.requires.from) c.self.invariant
 
 pub returns : goal.returns
 returns g c =
     is_answered (home_of c.self.inside.opening c.self.inside.fresh c.self.inside.kept) _ c.self.view_is
-    g.R.Rider.riding.fresh (response_deed g.R.Rider.riding c.args.from c.args.response) c.requires.within _
-    c.block.ensures _ c.find-place.ensures _ _ _
-    (subst (λ r. IsDoneAt (response_deed g.R.Rider.riding c.args.from r) c.self.inside.kept c.receive.new.self
-    c.find-place.result c.receive.new.hand c.receive.result) (c.put.ensures ∙ c.lent.ensures) c.receive.ensures) _ _
+    _ (response_deed g.R.Rider.riding c.args.from c.args.response) c.requires.within _ c.block.ensures _
+    c.find-place.ensures _ _ _ (done_by (response_deed g.R.Rider.riding c.args.from) (c.put.ensures ∙ c.lent.ensures)
+    c.receive.ensures) _ _
     (c.copied.ensures ∙ c.get.ensures) c.riding.ensures

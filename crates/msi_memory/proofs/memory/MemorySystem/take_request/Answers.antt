@@ -8,20 +8,18 @@ pub deliver-requires : goal.deliver-requires
 deliver-requires g c =
     let can =
     sends c.self.inside.ports.items c.self.inside.home _ _ _ _ _ c.args.self.now _ _ _ c.self.view_is
-    (oldest_request g.R.Rider.riding g.K.Carry.carrying _ c.args.core _ c.requires.row) c.requires.here
+    (oldest_request g.R.Rider.riding g.K.Carry.carrying _ c.args.core _ c.requires.can.row) c.requires.can.here
     c.index_mut.ensures.value c.as_mut_slice.ensures.value c.serve-turn.ensures.done refl
-    c.requires.few c.requires.names c.requires.room in
+    c.requires.can.few c.requires.can.names c.requires.can.room in
     record { cores = can.cores; room = can.room; to = can.to }
 
 pub returns : goal.returns
 returns g c =
     let is =
     took c.self.inside.ports.items c.self.inside.home _ _ _ _ _ c.args.self.now _ _ _ c.self.view_is
-    (oldest_request g.R.Rider.riding g.K.Carry.carrying _ c.args.core _ c.requires.row) c.requires.here
+    (oldest_request g.R.Rider.riding g.K.Carry.carrying _ c.args.core _ c.requires.can.row) c.requires.can.here
     c.index_mut.ensures.value c.as_mut_slice.ensures.value c.serve-turn.ensures.done
-    (take_front c.self.inside.ports.len c.deliver.new.ports _ (omega (
-      arith,
-      c.as_mut_slice.ensures.len,
-      c.deliver.auto.ports,
-    )) ∙ c.deliver.ensures) c.serve-turn.ensures.room c.serve-turn.ensures.items in
+    (take_front c.self.inside.ports.len c.deliver.new.ports _
+    (omega (arith, c.as_mut_slice.ensures.len, c.deliver.auto.ports)) ∙ c.deliver.ensures)
+    c.serve-turn.ensures.room c.serve-turn.ensures.items in
     record { memory = is.memory; rooms = is.rooms; turn = is.turn; free = is.free }
