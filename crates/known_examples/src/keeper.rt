@@ -5,6 +5,7 @@ ghost use Rattle.rtr_types.specs.Parameters.{Fits};
 use access_times::{Clerk, NoRider, Rider};
 use image_mem::Image;
 use know_history::Known;
+use machine_ports::SteppedMachine;
 use msi_machine::Machine;
 use rtr_types::{Access, Instr, Params};
 use schedule_pick::Schedule;

@@ -7,7 +7,7 @@ use Rattle.std.specs.List.{sum_by, list_all, range_with_len, zip}
 use Rattle.std.proofs.Math.Nat.{mul-add}
 use Rattle.std.proofs.lemmas.Bool.{and_parts}
 use Rattle.std.proofs.lemmas.Nat.{mul-le}
-use Rattle.std.proofs.lemmas.List.FromFn.{length-map-range_with_len, length-range_with_len}
+use Rattle.std.proofs.lemmas.List.FromFn.{length-range_with_len}
 use Rattle.std.proofs.lemmas.List.Sums.{sum_by-cons}
 use Rattle.access_times.specs.Riding.{Riding, Carrying, none_riding, none_carrying}
 use Rattle.image_mem.specs.Contents.{Contents}
@@ -26,14 +26,14 @@ use Rattle.msi_state.specs.Runs.{plain_moves, plain_step, opening_state, run, Is
 use Rattle.machine_bound.specs.Bound.{owed, earned, capacity, total_owed, total_earned, total_retired, left}
 use Rattle.machine_invariant.specs.Holds.{MachineHolds}
 use Rattle.machine_invariant.proofs.Begins.{chosen_enabled, holds_run}
-use Rattle.machine_invariant.proofs.Choosing.{each_after}
+use Rattle.machine_invariant.proofs.Choosing.{cores_stay, each_after}
 use Rattle.machine_invariant.proofs.Stepping.{step_cores}
 use Rattle.machine_progress.proofs.Stuck.{some_move}
 use Rattle.machine_bound.specs.Ends.{most_steps, end_of}
 use Rattle.machine_bound.proofs.PortEarns.{done_base}
 use Rattle.machine_bound.proofs.Payments.{earns}
 use Rattle.machine_bound.proofs.Capacity.{capacity_kept, total_earned_le}
-use Rattle.machine_bound.proofs.Firsts.{FailsBefore, first_end_is}
+use Rattle.machine_bound.proofs.Firsts.{FailsBefore, left_ends}
 use Rattle.machine_bound.proofs.Paying.{paid_until}
 
 -- ---- the sums at the start and at the end
@@ -106,10 +106,9 @@ steps_paid image params choices t fits more =
 -- no step changes the number of cores, nor what all instructions can pay for
 pub run_cores : (image : Contents) (params : Params) (choices : ℕ → ℕ) (t : ℕ) →
     length (run image params choices t).cores ≡ params.cores
-run_cores image params choices t =
-    each_after plain_moves plain_step (λ (s : PlainState). length s.cores ≡ params.cores)
-    (λ s choice m is e. step_cores none_riding none_carrying tt s m ∙ e) (opening_state image params) choices t
-    (length-map-range_with_len (λ (id : ℕ). starting id params.limit) 0 params.cores)
+run_cores image params =
+    cores_stay plain_moves plain_step (λ s m. step_cores none_riding none_carrying tt s m)
+    (λ id. starting id params.limit) image params.cores
 
 run_capacity : (image : Contents) (params : Params) (choices : ℕ → ℕ) (t : ℕ) →
     sum_by (capacity params.cores) (run image params choices t).cores ≡ most_steps params
@@ -151,8 +150,7 @@ all_earned s long done = done_earned s.image none_riding (length s.cores) s.core
 pub run_ends : (image : Contents) (params : Params) (choices : ℕ → ℕ) → InRange params →
     IsRunEnd image params choices (end_of image params choices)
 run_ends image params choices fits =
-    first_end_is run all_done most_steps image params choices
-    (λ t more. (let le = left_within image params choices t fits more in omega arith))
+    left_ends run all_done most_steps image params choices _ (λ t more. left_within image params choices t fits more)
 
 pub end_in_time : (image : Contents) (params : Params) (choices : ℕ → ℕ) → InRange params →
     end_of image params choices ≤ (2 * params.cores + 4) * total_retired (run image params choices

@@ -98,3 +98,9 @@ module _ {S : Type 0} (run : Contents → Params → (choices : ℕ → ℕ) →
   first_end_is few =
       let over : ℕ → Bool = λ (t : ℕ). all_done (run image params choices t) in
       record { done = first_passes (most_steps params) over few; first = fails_before (most_steps params) over }
+
+  -- so one does of which no more steps are left than that
+  pub left_ends : (left : ℕ → ℕ) →
+      ((t : ℕ) → FailsBefore (λ u. all_done (run image params choices u)) t → t + left t ≤ most_steps params) →
+      IsFirst (λ u. all_done (run image params choices u)) (first_end run all_done most_steps image params choices)
+  left_ends left few = first_end_is (λ t more. (let le = few t more in omega arith))

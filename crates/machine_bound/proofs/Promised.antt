@@ -7,7 +7,7 @@ use Rattle.rtr_types.specs.declared.params.Params.{Params}
 use Rattle.msi_state.specs.Choosing.{IsFirst}
 use Rattle.machine_bound.specs.Ends.{EndsInTime, first_end}
 use Rattle.machine_bound.proofs.Ends.{InRange}
-use Rattle.machine_bound.proofs.Firsts.{FailsBefore, first_end_is, first_end_within, one_first}
+use Rattle.machine_bound.proofs.Firsts.{FailsBefore, first_end_within, left_ends, one_first}
 
 module _ {S : Type 0} (run : Contents → Params → (choices : ℕ → ℕ) → (t : ℕ) → S) (all_done : S → Bool)
     (most_steps : Params → ℕ) {more : ℕ} {instructions left : S → ℕ} where
@@ -39,5 +39,5 @@ module _ {S : Type 0} (run : Contents → Params → (choices : ℕ → ℕ) →
       ends : (image : Contents) (params : Params) (choices : ℕ → ℕ) → InRange params →
           IsFirst (λ u. all_done (run image params choices u)) (first_end run all_done most_steps image params choices)
       ends image params choices fits =
-          first_end_is run all_done most_steps image params choices
-          (λ t more. (let le = left_within image params choices t fits more in omega arith))
+          left_ends run all_done most_steps image params choices _
+          (λ t more. left_within image params choices t fits more)

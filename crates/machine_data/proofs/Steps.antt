@@ -6,9 +6,12 @@ use Rattle.std.proofs.lemmas.List.{length-set}
 use Rattle.access_times.specs.Riding.{Riding, Carrying}
 use Rattle.image_mem.specs.Contents.{Contents}
 use Rattle.rtr_types.specs.declared.TheConstants.{BLOCK_WORDS}
+use Rattle.rtr_types.specs.Accesses.{is_write}
+use Rattle.rtr_types.specs.declared.access.Access.{Access}
 use Rattle.rtr_types.specs.declared.access.Kind.{Kind}
 use Rattle.rv_core.specs.declared.core_state.Core.{Core}
-use Rattle.rv_core.specs.Steps.{need, is_done, access_of as need_access}
+use Rattle.rv_core.specs.Steps.{need, wrote, is_done, access_of as need_access}
+use Rattle.rv_core.proofs.LawLemmas.{within_law, unwritten_law}
 use Rattle.msi_memory.specs.declared.port.Port.{Port}
 use Rattle.msi_memory.specs.Acts.{Act, TakeMessage, allows, can_all, after_act, after_acts, data_next}
 use Rattle.msi_memory.specs.Memories.{Memory, port_at}
@@ -19,7 +22,7 @@ use Rattle.msi_state.specs.declared.moves.Move.TheVariants.{Core as CoreMove, Re
 use Rattle.msi_state.specs.declared.moves.Move.TheVariants.{Response as ResponseMove, FromHome as MessageMove}
 use Rattle.msi_state.specs.Moves.{core_of}
 use Rattle.msi_state.specs.Events.{Event, Nothing, Retires, Accesses, access_of, event_working, event_working_in}
-use Rattle.msi_state.specs.Events.{port_taken}
+use Rattle.msi_state.specs.Events.{event_trying, port_taken}
 use Rattle.msi_state.specs.States.{State, core_at}
 use Rattle.msi_state.specs.Steps.{acts, acts_of, acts_working, enabled, event, step}
 use Rattle.machine_invariant.specs.Holds.{MachineHolds}
@@ -30,6 +33,8 @@ use Rattle.msi_laws.proofs.Awaits.{taken_there}
 use Rattle.machine_invariant.proofs.Awaits.{core_port, enabled_core}
 use Rattle.machine_invariant.proofs.Kept.{acts_can}
 use Rattle.machine_data.specs.Coherent.{Coherent, Finds, memory_after}
+use Rattle.machine_data.proofs.Recalls.{Works}
+use Rattle.machine_data.proofs.Values.{Honest}
 
 -- ---- what acts leave of the memory
 
@@ -135,19 +140,60 @@ module _ {R K : Type 0} where
       by true = subst (λ (x : Port R K). Finds (event_working s.image riding core x) memory) here found
       by false = tt
 
--- ---- the law
+-- ---- what an access leaves: a word of the memory's, as it was where it isn't written
 
--- the state after the move is coherent with the memory after its event, which found the memory's word
-pub record Works {R K : Type 0} (riding : Riding R) (carrying : Carrying K) (s : State R K) (e : Event) (memory : ℕ →
-    List ℕ) : Type 0 where
-  pub coherent : Coherent riding carrying s (memory_after e memory)
-  pub finds : Finds e memory
+module _ {R K : Type 0} where
+  trying_honest : (image : Contents) (riding : Riding R) (core : Core) (p : Port R K) (word : ℕ) (kind : Kind) →
+      word < image.words →
+      (is_write kind ≡ false → (old : ℕ) → wrote image core old ≡ old) →
+      Honest image.words (event_trying image riding core p word kind)
+  trying_honest image riding core p word kind within reads = by_test (allows riding p (word / BLOCK_WORDS) kind)
+    where
+      a : Access
+      a = access_of image riding core p word kind
+
+      by_test : (t : Bool) → Honest image.words (if t then Accesses a else Nothing)
+      by_test true = (within, λ e. reads e a.before)
+      by_test false = tt
+
+  working_honest : (image : Contents) (riding : Riding R) (core : Core) (p : Port R K) (used : Option (Kind × ℕ))
+      (done : Bool) →
+      need_access (need image core) ≡ used → Honest image.words (event_working_in used done image riding core p)
+  working_honest image riding core p (Some (kind, word)) done is =
+      trying_honest image riding core p word kind (within_law image core kind word is) (λ reads old. unwritten_law image
+      core kind word old is reads)
+  working_honest image riding core p None true is = tt
+  working_honest image riding core p None false is = tt
+
+  event_honest : (riding : Riding R) (carrying : Carrying K) (s : State R K) (m : Move) →
+      Honest s.image.words (event riding carrying s m)
+  event_honest riding carrying s (CoreMove c) =
+      let core : Core = core_at s.cores c in
+      working_honest s.image riding core (port_at carrying s.memory.ports c) (need_access (need s.image core))
+      (is_done (need s.image core)) refl
+  event_honest riding carrying s (RequestMove c) = tt
+  event_honest riding carrying s (ResponseMove c) = tt
+  event_honest riding carrying s (MessageMove c) =
+      by_data (data_next (port_at carrying s.memory.ports c).messages.items)
+    where
+      core : Core
+      core = core_at s.cores c
+
+      taken : Port R K
+      taken = port_taken riding carrying (port_at carrying s.memory.ports c)
+
+      by_data : (t : Bool) → Honest s.image.words (if t then event_working s.image riding core taken else Nothing)
+      by_data true = working_honest s.image riding core taken (need_access (need s.image core))
+          (is_done (need s.image core)) refl
+      by_data false = tt
+
+-- ---- the law
 
 module _ {R K : Type 0} where
   pub step_works : (riding : Riding R) (carrying : Carrying K) (s : State R K) (m : Move) (rider : R) (memory : ℕ →
       List ℕ) →
       IsTrue (enabled riding carrying s m) → MachineHolds riding carrying s → Coherent riding carrying s memory →
-      Works riding carrying (step riding carrying rider s m) (event riding carrying s m) memory
+      Works riding carrying (step riding carrying rider s m) s.image.words (event riding carrying s m) memory
   step_works riding carrying s m rider memory e h k =
       record {
         coherent = subst (λ (left : ℕ → List ℕ). HaveWords riding carrying (after_acts riding carrying s.memory
@@ -156,4 +202,5 @@ module _ {R K : Type 0} where
             (words_after riding carrying s.memory (acts riding carrying rider s m) memory
             (acts_can riding carrying s m rider e h) h.memory k);
         finds = step_finds riding carrying s m memory e h k;
+        honest = event_honest riding carrying s m;
       }

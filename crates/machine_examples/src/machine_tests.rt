@@ -4,6 +4,7 @@ ghost use Rattle.rtr_types.specs.Parameters.{Fits};
 
 use access_times::{NoCarry, NoRider};
 use image_mem::Image;
+use machine_ports::SteppedMachine;
 use msi_machine::{Machine, Move};
 use rtr_types::{CORES_MAX, Instr, Params};
 use std::alloc::Global;

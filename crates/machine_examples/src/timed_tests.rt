@@ -2,6 +2,7 @@
 //! for them: each access finds what the accesses before it left.
 use access_times::{NoCarry, Times};
 use image_mem::Image;
+use machine_ports::SteppedMachine;
 use msi_machine::Machine;
 use rtr_types::{Access, CORES_MAX, Instr, Params};
 use std::alloc::Global;

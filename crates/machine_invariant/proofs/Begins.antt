@@ -6,7 +6,6 @@ use Rattle.std.proofs.lemmas.List.FromFn.{length-map-range_with_len, get_or-map-
 use Rattle.access_times.specs.Riding.{Riding, Carrying, none_riding, none_carrying}
 use Rattle.image_mem.specs.Contents.{Contents}
 use Rattle.rtr_types.specs.declared.TheConstants.{CORES_MAX}
-use Rattle.rtr_types.specs.declared.params.Params.{Params}
 use Rattle.rv_core.specs.States.{starting}
 use Rattle.rv_core.specs.Steps.{need, access_of as need_access}
 use Rattle.rv_core.proofs.LawLemmas.{start_law}
@@ -23,7 +22,8 @@ use Rattle.msi_state.specs.Runs.{plain_moves, plain_step, opening_state, chosen,
 use Rattle.msi_laws.proofs.Starts.{memory_starts, port_start_at as ports_start_at}
 use Rattle.msi_laws.proofs.Awaits.{still_awaits}
 use Rattle.machine_invariant.specs.Holds.{CoreHolds, CoresHold, MachineHolds}
-use Rattle.machine_invariant.proofs.Choosing.{chosen_passes, each_after}
+use Rattle.machine_invariant.specs.Promises.{EachRunHas, EachStartHas}
+use Rattle.machine_invariant.proofs.Choosing.{chosen_passes, each_run_has}
 use Rattle.machine_invariant.proofs.Kept.{holds_kept}
 pub use Rattle.machine_invariant.proofs.Choosing.{chosen_at}
 
@@ -77,9 +77,8 @@ module _ {R K : Type 0} where
         awaited = still_awaits riding (port_start riding carrying) (need_access (need image (starting c limit))) refl;
       }
 
-  pub holds_start : (riding : Riding R) (carrying : Carrying K) (image : Contents) (cores limit : ℕ) →
-      cores ≤ CORES_MAX → limit < 2 ^ 32 →
-      MachineHolds riding carrying (state_start riding carrying image cores limit)
+  pub holds_start : (riding : Riding R) (carrying : Carrying K) →
+      EachStartHas (state_start riding carrying) (MachineHolds riding carrying)
   holds_start riding carrying image cores limit few small =
       cores_hold_start riding carrying (starting 0 0) (λ image c core p. CoreHolds image riding c core p)
       (λ id. starting id limit) image cores few (λ c. start_well image riding carrying limit c small)
@@ -90,10 +89,8 @@ pub chosen_enabled : (s : PlainState) (choice : ℕ) (m : Move) → chosen s cho
 chosen_enabled s choice m is =
     chosen_passes (enabled none_riding none_carrying s) (candidates (length s.cores) (4 * length s.cores)) choice m is
 
-pub holds_run : (image : Contents) (params : Params) (choices : ℕ → ℕ) (t : ℕ) → params.cores ≤ CORES_MAX →
-    params.limit < 2 ^ 32 → MachineHolds none_riding none_carrying (run image params choices t)
-holds_run image params choices t few small =
-    each_after plain_moves plain_step (λ s. MachineHolds none_riding none_carrying s)
+pub holds_run : EachRunHas run (MachineHolds none_riding none_carrying)
+holds_run =
+    each_run_has opening_state plain_moves plain_step (MachineHolds none_riding none_carrying)
+    (λ image params few small. holds_start none_riding none_carrying image params.cores params.limit few small)
     (λ s choice m is h. holds_kept none_riding none_carrying s m tt (chosen_enabled s choice m is) h)
-    (opening_state image params) choices t
-    (holds_start none_riding none_carrying image params.cores params.limit few small)

@@ -1,14 +1,13 @@
 -- What is promised of an invariant, by lemmas for any riders and carries: where the start has it and each enabled move
 -- keeps it, each state that moves lead to has it.
-use Rattle.std.proofs.Common.{◌≡◌, ℕ, ◌<◌, ◌≤◌, ◌^◌, Bool, true, false, IsTrue, List, [], length}
+use Rattle.std.proofs.Common.{◌≡◌, ℕ, ◌<◌, Bool, true, false, IsTrue, List, [], length}
 use Rattle.access_times.specs.Riding.{Riding, Carrying}
 use Rattle.image_mem.specs.Contents.{Contents}
-use Rattle.rtr_types.specs.declared.TheConstants.{CORES_MAX}
 use Rattle.msi_memory.specs.Acts.{Act, can_all}
 use Rattle.msi_laws.specs.Moving.{links_empty}
 use Rattle.msi_laws.proofs.Moves.{walked_keeps}
 use Rattle.msi_state.specs.CoreStates.{CoresState}
-use Rattle.machine_invariant.specs.Promises.{IsInvariant, MovesOn}
+use Rattle.machine_invariant.specs.Promises.{EachStartHas, IsInvariant, MovesOn}
 
 module _ {C M R K : Type 0} {riding : Riding R} {carrying : Carrying K}
     {Holds : Riding R → Carrying K → CoresState C R K → Type 0}
@@ -16,8 +15,7 @@ module _ {C M R K : Type 0} {riding : Riding R} {carrying : Carrying K}
   pub is_invariant : {start : Riding R → Carrying K → Contents → (cores limit : ℕ) → CoresState C R K}
       {acts : Riding R → Carrying K → R → CoresState C R K → M → List (Act R)}
       {step : Riding R → Carrying K → R → CoresState C R K → M → CoresState C R K} →
-      ((riding : Riding R) (carrying : Carrying K) (image : Contents) (cores limit : ℕ) → cores ≤ CORES_MAX →
-      limit < 2 ^ 32 → Holds riding carrying (start riding carrying image cores limit)) →
+      ((riding : Riding R) (carrying : Carrying K) → EachStartHas (start riding carrying) (Holds riding carrying)) →
       ((riding : Riding R) (carrying : Carrying K) (s : CoresState C R K) (m : M) (rider : R) →
       IsTrue (enabled riding carrying s m) → Holds riding carrying s →
       IsTrue (can_all riding carrying s.memory (acts riding carrying rider s m))) →

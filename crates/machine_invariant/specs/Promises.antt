@@ -9,6 +9,11 @@ use Rattle.msi_laws.specs.Moving.{links_empty}
 use Rattle.msi_laws.specs.Walks.{MoveTaken, walked as walked_by}
 use Rattle.msi_state.specs.CoreStates.{CoresState}
 
+-- the start has it, whatever image the cores run
+abbrev pub EachStartHas : {S : Type 0} → (start : Contents → (cores limit : ℕ) → S) → (Holds : S → Type 0) → Type 0
+EachStartHas start Holds =
+    (image : Contents) (cores limit : ℕ) → cores ≤ CORES_MAX → limit < 2 ^ 32 → Holds (start image cores limit)
+
 -- The start has it, and moves keep it.
 pub record IsInvariant {C M R K : Type 0} (riding : Riding R) (carrying : Carrying K)
     (Holds : Riding R → Carrying K → CoresState C R K → Type 0)
@@ -16,9 +21,7 @@ pub record IsInvariant {C M R K : Type 0} (riding : Riding R) (carrying : Carryi
     (enabled : Riding R → Carrying K → CoresState C R K → M → Bool)
     (acts : Riding R → Carrying K → R → CoresState C R K → M → List (Act R))
     (step : Riding R → Carrying K → R → CoresState C R K → M → CoresState C R K) : Type 0 where
-  -- the start has it, whatever image the cores run
-  pub started : (image : Contents) (cores limit : ℕ) → cores ≤ CORES_MAX → limit < 2 ^ 32
-      → Holds riding carrying (start riding carrying image cores limit)
+  pub started : EachStartHas (start riding carrying) (Holds riding carrying)
   -- what an enabled move of a state that has it does to the memory system can be done, one act after the other
   pub can : (s : CoresState C R K) (move : M) (rider : R) → IsTrue (enabled riding carrying s move)
       → Holds riding carrying s → IsTrue (can_all riding carrying s.memory (acts riding carrying rider s move))

@@ -59,6 +59,12 @@ abbrev pub RunRetiresLaw : Type 0
 RunRetiresLaw = (image : Contents) (params : Params) (choices : ℕ → ℕ) (t : ℕ) →
     (happening_at image params choices t).retires ≡ instr_of (event_at image params choices t)
 
+-- what holds of the events of each run
+pub record RunLaws : Type 0 where
+  pub orderly : RunOrderlyLaw
+  pub retires : RunRetiresLaw
+  pub links : RunLinksLaw
+
 -- x retires in an earlier step of the run than y
 pub record RetiresEarlier (image : Contents) (params : Params) (choices : ℕ → ℕ) (x y : Instr) : Type 0 where
   pub first : ℕ

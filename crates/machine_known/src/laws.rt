@@ -1,7 +1,7 @@
 //! What the carries of a machine hold.
 ghost use Rattle.machine_known.specs.Histories.{KnowsStartLaw, KnowsStepLaw};
 ghost use Rattle.machine_known.specs.Known.{CarriesFollowLaw, CarryToldLaw, KnownRunLaw, KnownStartLaw, KnownStepLaw};
-ghost use Rattle.machine_known.specs.Known.{RunEarlierLaw, RunKnowsLaw, RunLinksLaw, RunOrderlyLaw, RunRetiresLaw};
+ghost use Rattle.machine_known.specs.Known.{RunEarlierLaw, RunKnowsLaw, RunLaws};
 
 use access_times::{Carry, Rider};
 
@@ -18,9 +18,7 @@ pub fn carries_follow<R: Rider, K: Carry>()
 /// which the clerk is told of them. Each link holds as many messages as events have sent to it and not yet
 /// taken.
 pub fn runs_are_orderly()
-    ensures orderly { RunOrderlyLaw }
-    ensures retires { RunRetiresLaw }
-    ensures links { RunLinksLaw }
+    ensures { RunLaws }
 {}
 
 /// In a machine at its start each core has a port, and nothing is carried. Where each core has a port and the

@@ -1,9 +1,7 @@
 -- Each value is computed.
 use Rattle.std.proofs.Common.{refl}
-use Rattle.msi_examples.specs.Examples.{BothBlocksAreHeld, FirstStoresLast, ForwardMeetsPut}
-use Rattle.msi_examples.specs.Examples.{ForwardToOwnMeetsPut, HandedOver, InvMeetsPut, LimitReached}
-use Rattle.msi_examples.specs.Examples.{OneHandsOver, ReadBetweenWrites, ReadEightApart}
-use Rattle.msi_examples.specs.Examples.{SecondStoresLast, ShareFalsely, StoreBytes, SumInTurn}
+use Rattle.msi_examples.specs.Examples.{BothBlocksAreHeld, ChoiceDecides, HandedOver, LimitReached, OneHandsOver}
+use Rattle.msi_examples.specs.Examples.{PutIsStalled, ReadEightApart, ShareFalsely, StoreBytes, SumInTurn}
 use Rattle.msi_examples.proofs.Executing.{executing}
 
 -- all examples
@@ -13,13 +11,9 @@ pub record AllSo : Type 0 where
   pub share_falsely : ShareFalsely
   pub store_bytes : StoreBytes
   pub sum_in_turn : SumInTurn
-  pub second_stores_last : SecondStoresLast
-  pub first_stores_last : FirstStoresLast
-  pub read_between_writes : ReadBetweenWrites
+  pub choice_decides : ChoiceDecides
+  pub put_is_stalled : PutIsStalled
   pub limit_reached : LimitReached
-  pub inv_meets_put : InvMeetsPut
-  pub forward_meets_put : ForwardMeetsPut
-  pub forward_to_own_meets_put : ForwardToOwnMeetsPut
   pub both_blocks_are_held : BothBlocksAreHeld
   pub read_eight_apart : ReadEightApart
 
@@ -32,13 +26,17 @@ all_so =
       share_falsely = record { ends = refl; leaves = refl; finds = refl };
       store_bytes = record { ends = refl; leaves = refl; finds = refl };
       sum_in_turn = record { ends = refl; leaves = refl; finds = refl };
-      second_stores_last = record { ends = refl; leaves = refl; finds = refl };
-      first_stores_last = record { ends = refl; leaves = refl; finds = refl };
-      read_between_writes = record { ends = refl; leaves = refl; finds = refl };
+      choice_decides = record {
+        second = record { ends = refl; leaves = refl; finds = refl };
+        first = record { ends = refl; leaves = refl; finds = refl };
+        between = record { ends = refl; leaves = refl; finds = refl };
+      };
+      put_is_stalled = record {
+        invalidated = record { ends = refl; leaves = refl; finds = refl };
+        shared = record { ends = refl; leaves = refl; finds = refl };
+        given_up = record { ends = refl; leaves = refl; finds = refl };
+      };
       limit_reached = record { ends = refl; leaves = refl; finds = refl };
-      inv_meets_put = record { ends = refl; leaves = refl; finds = refl };
-      forward_meets_put = record { ends = refl; leaves = refl; finds = refl };
-      forward_to_own_meets_put = record { ends = refl; leaves = refl; finds = refl };
       both_blocks_are_held = refl;
       read_eight_apart = record { ends = refl; leaves = refl; finds = refl };
     }

@@ -129,6 +129,12 @@ ReadBetweenWrites =
     (exits (5 ∷ 4 ∷ []) (0x14 ∷ 0x20 ∷ []) (((5, 7) ∷ (6, 7) ∷ []) ∷ ((10, 1) ∷ []) ∷ []) ((16, 1) ∷ []))
     ((load 4 16 7 ∷ []) ∷ (load 2 16 0 ∷ []) ∷ [])
 
+-- so a choice decides what is last, and what is between
+pub record ChoiceDecides : Type 0 where
+  pub second : SecondStoresLast
+  pub first : FirstStoresLast
+  pub between : ReadBetweenWrites
+
 -- a reader gives its shared copy back, and is told to give it up while that Put waits at the home
 abbrev pub InvMeetsPut : Type 0
 InvMeetsPut =
@@ -152,6 +158,12 @@ ForwardToOwnMeetsPut =
     EndsSo writers_evict 10000 stalling 20
     (exits (5 ∷ 4 ∷ []) (0x14 ∷ 0x1c ∷ []) (((5, 9) ∷ []) ∷ ((5, 10) ∷ (10, 1) ∷ []) ∷ []) ((16, 10) ∷ []))
     ((load 4 80 0 ∷ []) ∷ [] ∷ [])
+
+-- so a Put is stalled in each of these ways
+pub record PutIsStalled : Type 0 where
+  pub invalidated : InvMeetsPut
+  pub shared : ForwardMeetsPut
+  pub given_up : ForwardToOwnMeetsPut
 
 -- a cache holds two blocks whose numbers differ by 8 beside each other: each core's third load, of the first block
 -- again, retires in the core's own move

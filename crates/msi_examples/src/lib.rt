@@ -3,8 +3,7 @@
 #![tactic(auto)]
 
 ghost use Rattle.msi_examples.specs.Examples.{OneHandsOver, HandedOver, ShareFalsely, StoreBytes, SumInTurn};
-ghost use Rattle.msi_examples.specs.Examples.{SecondStoresLast, FirstStoresLast, ReadBetweenWrites, InvMeetsPut};
-ghost use Rattle.msi_examples.specs.Examples.{BothBlocksAreHeld, ForwardMeetsPut, ForwardToOwnMeetsPut, LimitReached};
+ghost use Rattle.msi_examples.specs.Examples.{BothBlocksAreHeld, ChoiceDecides, LimitReached, PutIsStalled};
 ghost use Rattle.msi_examples.specs.Examples.{ReadEightApart};
 
 /// A word goes from core 0 to core 1 and back: what each of sixteen choices does, and what the run
@@ -29,17 +28,13 @@ pub fn a_word_is_added_to()
 /// Two stores to one word, of which one choice decides the last; and a read by the first writer between
 /// two writes.
 pub fn a_choice_decides()
-    ensures second { SecondStoresLast }
-    ensures first { FirstStoresLast }
-    ensures between { ReadBetweenWrites }
+    ensures { ChoiceDecides }
 {}
 
 /// A Put is stalled: at a shared copy while Inv arrives, and at an owned one while Fwd-GetS or Fwd-GetM
 /// arrives.
 pub fn a_put_is_stalled()
-    ensures invalidated { InvMeetsPut }
-    ensures shared { ForwardMeetsPut }
-    ensures given_up { ForwardToOwnMeetsPut }
+    ensures { PutIsStalled }
 {}
 
 /// Two cores read words of two blocks whose numbers differ by 8, and then the first again: neither block is taken

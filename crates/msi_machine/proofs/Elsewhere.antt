@@ -6,16 +6,11 @@ use Rattle.access_times.specs.Riding.{Riding, Carrying}
 use Rattle.rv_core.specs.States.{starting}
 use Rattle.rv_core.specs.Steps.{need, is_done}
 use Rattle.msi_cache.specs.Lines.{waits}
-use Rattle.move_marks.proofs.OnePort.{OneSet, PortMoved, one_other, port_other, same_long}
+use Rattle.move_marks.proofs.OnePort.{one_other, port_other, same_long}
+use Rattle.machine_ports.proofs.Elsewhere.{MovedAt}
 use Rattle.msi_state.specs.declared.moves.Move.TheVariants.{Core as CoreMove}
 use Rattle.msi_state.specs.States.{State}
 use Rattle.msi_state.specs.Steps.{enabled}
-
--- the state after core c moved at its port
-pub record MovedAt {R K : Type 0} (s t : State R K) (c : ℕ) : Type 0 where
-  pub image : t.image ≡ s.image
-  pub cores : OneSet s.cores t.cores c
-  pub memory : PortMoved s.memory t.memory c
 
 -- another core moves by itself exactly where it did
 pub elsewhere : {R K : Type 0} (riding : Riding R) (carrying : Carrying K) (s t : State R K) (c : ℕ) → MovedAt s t c →

@@ -49,9 +49,9 @@ use Rattle.move_marks.proofs.Delivered.{false_true}
 use Rattle.move_marks.proofs.Following.{one_request}
 use Rattle.move_marks.proofs.Turned.{PortsStay, request_leaves_none, request_stays, response_requests, response_stays}
 use Rattle.move_marks.proofs.Lateness.{late_marked}
-use Rattle.move_marks.proofs.OnePort.{links_marked, port_renewed, request_as_before, requests_other, requests_same}
+use Rattle.move_marks.proofs.OnePort.{links_marked, port_renewed, request_as_before, requests_same}
 use Rattle.move_marks.proofs.OnePort.{same_long}
-use Rattle.msi_machine.proofs.Elsewhere.{MovedAt}
+use Rattle.machine_ports.proofs.Elsewhere.{MovedAt, OthersStay, others_stay}
 use Rattle.msi_machine.proofs.Renewed.{all_others, own_followed, turn_marked}
 use Rattle.msi_machine.proofs.Standings.{moved_stands, stands_at, turned_stands}
 
@@ -237,14 +237,12 @@ module _ {R K : Type 0} where
 
   -- ---- a move changes no requests but those of its own core
   module _ (riding : Riding R) (carrying : Carrying K) (rider : R) (s : State R K) where
-    requests_stay : (m : Move) (d : ℕ) → core_of m < length s.memory.ports → d ≢ core_of m →
-        requests_at (step riding carrying rider s m).memory.ports d ≡ requests_at s.memory.ports d
-    requests_stay (CoreMove c) d within other =
-        requests_other carrying s.memory _ c (core_moves riding carrying rider s _ c within refl).memory d other
-    requests_stay (MessageMove c) d within other =
-        requests_other carrying s.memory _ c (message_moves riding carrying rider s _ c within refl).memory d other
-    requests_stay (RequestMove c) d within other = (request_stays riding carrying s.memory c).requests d other
-    requests_stay (ResponseMove c) d within other = (response_stays riding carrying s.memory c).requests d other
+    requests_stay : (m : Move) → core_of m < length s.memory.ports →
+        OthersStay s (step riding carrying rider s m) (core_of m)
+    requests_stay (CoreMove c) within = others_stay carrying (core_moves riding carrying rider s _ c within refl)
+    requests_stay (MessageMove c) within = others_stay carrying (message_moves riding carrying rider s _ c within refl)
+    requests_stay (RequestMove c) within = (request_stays riding carrying s.memory c).requests
+    requests_stay (ResponseMove c) within = (response_stays riding carrying s.memory c).requests
 
   -- and its own stay, or none is left, but where the core asks
   core_requests : (riding : Riding R) (carrying : Carrying K) (rider : R) (s : State R K) (c : ℕ) →
@@ -308,7 +306,7 @@ module _ {R K : Type 0} where
           (each_roomy old.state.memory.ports old.rooms roomy (core_of m))
       by d other (inr elsewhere) =
           ap (λ items. head_roomy items old.rooms)
-          (requests_stay riding carrying rider old.state m d within elsewhere)
+          (requests_stay riding carrying rider old.state m within d elsewhere)
           ∙ each_roomy old.state.memory.ports old.rooms roomy d
 
   -- ---- what is kept of each core follows a move that can be made

@@ -31,7 +31,8 @@ use Rattle.msi_machine.specs.declared.marks.Marks.{Marks}
 use Rattle.msi_machine.specs.declared.standing.Standing.{Standing}
 use Rattle.msi_machine.specs.Marks.{AllMarked, OthersMarked, made_of, marked}
 use Rattle.msi_machine.specs.Standings.{may_work, standing_at}
-use Rattle.msi_machine.proofs.Elsewhere.{MovedAt, elsewhere}
+use Rattle.machine_ports.proofs.Elsewhere.{MovedAt}
+use Rattle.msi_machine.proofs.Elsewhere.{elsewhere}
 
 module _ {R K : Type 0} where
   -- a core that isn't there can't move by itself

@@ -16,7 +16,7 @@ use Rattle.msi_state.specs.States.{State, all_done, core_at}
 use Rattle.msi_machine.specs.declared.standing.Standing.{Standing}
 use Rattle.msi_machine.specs.Standings.{StandingsFit, next_in, next_of, standing_at}
 use Rattle.move_marks.proofs.OnePort.{one_now, port_now}
-use Rattle.msi_machine.proofs.Elsewhere.{MovedAt}
+use Rattle.machine_ports.proofs.Elsewhere.{MovedAt}
 
 module _ {R K : Type 0} where
   pub standings_long : (s : State R K) (standings : List Standing) → StandingsFit s standings →

@@ -1,9 +1,9 @@
 -- What a step of the machine promises, whatever its riders and carries are and whoever is told of it.
-use Rattle.std.specs.Prelude.{◌≡◌, ◌<◌, ℕ, List, Some, IsTrue, length}
+use Rattle.std.specs.Prelude.{◌≡◌, ◌<◌, ℕ, List, length}
 use Rattle.access_times.specs.Riding.{Riding, Carrying}
 use Rattle.machine_bound.specs.Bound.{Earns, left}
 use Rattle.machine_data.specs.Coherent.{Coherent, Finds, memory_after}
-use Rattle.msi_state.specs.Moves.{IsNumbered}
+use Rattle.machine_ports.specs.Steppings.{Takes}
 use Rattle.msi_state.specs.Events.{Event}
 use Rattle.machine_plain.specs.Plain.{plain}
 use Rattle.msi_state.specs.Rests.{HasRoomFor, has_row_for}
@@ -13,16 +13,11 @@ use Rattle.msi_state.specs.Steps.{StepsTo, event, moves}
 use Rattle.msi_state.specs.declared.moves.Move.{Move}
 use Rattle.msi_machine.specs.Writers.{OneWriterEach}
 
--- The move is the one that a step takes by this choice: of the moves that can be made, of which there is
--- always one, that which the choice numbers, counted around. The plain machine takes the same. Its message
--- has a row in its receiver's table, and no link that it pushes to is full.
-pub record IsTaken {R K : Type 0} (riding : Riding R) (carrying : Carrying K) (s : State R K) (choice : ℕ)
-    (m : Move) : Type 0 where
-  pub some : 0 < length (moves riding carrying s)
-  pub numbered : IsNumbered (moves riding carrying s) choice m
-  pub plainly : chosen (plain s) choice ≡ Some m
-  pub row : IsTrue (has_row_for riding carrying s m)
-  pub room : HasRoomFor riding carrying s m
+-- the move is the one that a step takes by this choice
+abbrev pub IsTaken : {R K : Type 0} → Riding R → Carrying K → State R K → (choice : ℕ) → Move → Type 0
+IsTaken riding carrying s choice m =
+    Takes (moves riding carrying s) (chosen (plain s) choice) (has_row_for riding carrying s)
+    (HasRoomFor riding carrying s) choice m
 
 -- The machine after the move. What rides changes nothing: the plain part makes the plain machine's step, and
 -- that tells of the same.

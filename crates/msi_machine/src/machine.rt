@@ -1,5 +1,5 @@
 //! The machine and its calls.
-ghost use Rattle.std.specs.Prelude.{◌≡◌, ◌<◌, ◌≤◌, ◌+◌, ◌*◌, ◌/◌, ◌%◌, ℕ, IfOk, IsTrue, List, OnOk, false, length};
+ghost use Rattle.std.specs.Prelude.{◌≡◌, ◌<◌, ◌≤◌, ◌/◌, ◌%◌, ℕ, IfOk, IsTrue, List, OnOk, false, length};
 ghost use Rattle.std.specs.Prelude.{slice_index, true};
 ghost use Rattle.access_times.specs.Riding.{none_carrying, none_riding};
 ghost use Rattle.rtr_types.specs.Parameters.{Fits};
@@ -9,14 +9,12 @@ ghost use Rattle.msi_machine.specs.Marks.{AllMarked, marked};
 ghost use Rattle.msi_machine.specs.Steppings.{HasMoved, IsTaken, KeepsPromises};
 ghost use Rattle.msi_directory.specs.Blocks.{touched};
 ghost use Rattle.msi_machine.specs.Writers.{OneWriterEach};
-ghost use Rattle.machine_bound.specs.Bound.{total_earned, total_owed, total_retired};
+ghost use Rattle.machine_bound.specs.Bound.{total_owed};
 ghost use Rattle.machine_data.specs.Coherent.{Coherent, opening_memory};
-ghost use Rattle.msi_state.specs.FinalMemory.{final_word, final_words};
+ghost use Rattle.msi_state.specs.FinalMemory.{final_word};
 ghost use Rattle.msi_state.specs.Events.{instr_of};
 ghost use Rattle.machine_plain.specs.Plain.{plain};
 ghost use Rattle.msi_state.specs.Rests.{heads_roomy};
-ghost use Rattle.msi_laws.specs.Moving.{links_empty};
-ghost use Rattle.msi_memory.specs.Finals.{SameWords};
 ghost use Rattle.msi_memory.specs.Rests.{RoomsMade};
 ghost use Rattle.msi_state.specs.Runs.{opening_state};
 ghost use Rattle.msi_state.specs.States.{all_done, core_at, state_start};
@@ -24,13 +22,13 @@ ghost use Rattle.msi_state.specs.Steps.{AcceptsNext, TellsOf, event, moves};
 
 use crate::marks::Marks;
 use crate::parts::Parts;
-use crate::standing::{Standing, are_done, first_marks, first_standings};
+use crate::standing::{Standing, first_marks, first_standings};
 use access_times::{Carry, Clerk, Rider};
 use image_mem::Image;
+use machine_ports::SteppedMachine;
 use move_marks::{make_room, with_late};
 use msi_state::Move;
 use rtr_types::{BLOCK_WORDS, CORES_MAX, Instr, Params};
-use rv_core::Core;
 use std::alloc::{AllocError, Global};
 use std::marker::Model;
 
@@ -50,8 +48,8 @@ pub struct Stepped {
 /// a request for whose block there is none; and the home is asked only then whether that block is free.
 pub struct Machine<R: Rider, K: Carry> {
     pub(crate) parts: Parts<R, K>,
-    standings: Vec<Standing>,
-    marks: Marks,
+    pub(crate) standings: Vec<Standing>,
+    pub(crate) marks: Marks,
     asker: u8,
 }
 
@@ -101,26 +99,6 @@ impl<R: Rider, K: Carry> Machine<R, K> {
             marks,
             asker: CORES_MAX,
         })
-    }
-
-    /// Whether each core's program is done. Then nothing is under way any more, the steps of the run are
-    /// all paid for by the instructions that retired, and the memory is what the last write to each word
-    /// left.
-    pub fn done(&self) -> bool
-        ensures done { result ≡ all_done self.now.state }
-        ensures plain { result ≡ all_done (plain self.now.state) }
-        ensures links { IsTrue result → links_empty self.now.state.memory ≡ true }
-        ensures paid { IsTrue result → total_earned R.riding self.now.state
-            ≡ (2 * length self.now.state.cores + 4) * total_retired self.now.state }
-        ensures last { (memory : ℕ → List ℕ) → IsTrue result → Coherent R.riding K.carrying self.now.state memory
-            → (block : ℕ) → final_words R.riding K.carrying self.now.state block ≡ memory block }
-    {
-        // where a move can be made some core isn't done
-        let marks = self.marks;
-        if !marks.is_empty() {
-            return false;
-        }
-        are_done(self.standings.as_slice())
     }
 
     /// How many blocks the home made room for: it keeps so many entries, and the others are as the image has
@@ -198,20 +176,6 @@ impl<R: Rider, K: Carry> Machine<R, K> {
         Marks { cores, moves }
     }
 
-    /// The words of a block of the memory at the end: the owner's where a cache owns the block, else the home's.
-    /// Each is what the last write to it left.
-    pub fn final_words(&self, block: u32) -> [u32; BLOCK_WORDS]
-        requires done { all_done self.now.state ≡ true }
-        requires within { block * BLOCK_WORDS < self.now.state.image.words }
-        ensures value { SameWords result (final_words R.riding K.carrying self.now.state block) }
-        ensures plain { SameWords result (final_words none_riding none_carrying (plain self.now.state) block) }
-        ensures last { (memory : ℕ → List ℕ) → Coherent R.riding K.carrying self.now.state memory
-            → SameWords result (memory block) }
-    {
-        let parts = &self.parts;
-        parts.memory.final_words(block)
-    }
-
     /// A word of the memory at the end, by its index: the owner's copy of it where a cache owns its block, else
     /// the home's. It is what the last write to it left.
     pub fn final_word(&self, word: u32) -> u32
@@ -237,16 +201,6 @@ impl<R: Rider, K: Carry> Machine<R, K> {
             asker: _asker,
         } = self;
         parts.into_image()
-    }
-
-    /// A core.
-    pub fn core(&self, core: u8) -> &Core
-        requires { core < length self.now.state.cores }
-        ensures value { result.now ≡ (core_at self.now.state.cores core) }
-        ensures number { result.now.id ≡ core }
-        ensures within { result.now.count ≤ result.now.limit }
-    {
-        &self.parts.cores[core as usize]
     }
 
     /// What retires as a core takes the oldest message from home: after a block's data the instruction that

@@ -4,7 +4,7 @@ ghost use Rattle.rtr_types.specs.CoreSets.{has};
 ghost use Rattle.move_marks.specs.Kinds.{set_of};
 ghost use Rattle.move_marks.specs.declared.marks.MoveKind.{MoveKind};
 ghost use Rattle.msi_state.specs.declared.moves.Move.{Move};
-ghost use Rattle.msi_machine.specs.Marks.{marked, move_of};
+ghost use Rattle.msi_machine.specs.Marks.{made_of, marked};
 
 use move_marks::{MarkedMove, MoveKind, MoveMarks};
 use msi_state::Move;
@@ -47,18 +47,19 @@ impl Marks {
         requires { number < length (marked self) }
         ensures { (d : Move) → result ≡ slice_index_or (marked self) number d }
     {
-        move_of(self.moves.pick(number))
+        let MarkedMove { kind, core } = self.moves.pick(number);
+        made_of(kind, core)
     }
 }
 
 /// The move of a kind at a core.
-fn move_of(taken: MarkedMove) -> Move
-    ensures { result ≡ move_of taken }
+fn made_of(kind: MoveKind, core: u8) -> Move
+    ensures { result ≡ made_of kind core }
 {
-    match taken.kind {
-        MoveKind::Own => Move::Core(taken.core),
-        MoveKind::Request => Move::Request(taken.core),
-        MoveKind::Response => Move::Response(taken.core),
-        MoveKind::FromHome => Move::FromHome(taken.core),
+    match kind {
+        MoveKind::Own => Move::Core(core),
+        MoveKind::Request => Move::Request(core),
+        MoveKind::Response => Move::Response(core),
+        MoveKind::FromHome => Move::FromHome(core),
     }
 }

@@ -102,7 +102,7 @@ impl<R: Rider, K: Carry> Parts<R, K> {
             Some((kind, word)) => {
                 let block = word / BLOCK_WORDS as u32;
                 if self.memory.allows(c, block, kind) {
-                    return Some(self.retire_access(c, word, kind, standing, clerk));
+                    return Some(self.retire_access(c, standing, word, kind, clerk));
                 }
                 self.memory.want(c, block, kind);
                 standing.waits = true;
@@ -180,9 +180,9 @@ impl<R: Rider, K: Carry> Parts<R, K> {
     fn retire_access<C: Clerk<R, K>>(
         &mut self,
         c: u8,
+        standing: &mut Standing,
         word: u32,
         kind: Kind,
-        standing: &mut Standing,
         clerk: &mut C,
     ) -> Instr
         requires there { IsThere self.old.state c }
@@ -202,14 +202,17 @@ impl<R: Rider, K: Carry> Parts<R, K> {
         let after = core.finish_op(self.program.image(), standing.op, before);
         standing.look_ahead(&self.program, core);
         self.memory.retire(c, at);
-        let access = Access {
-            at,
-            word,
-            kind,
-            before,
-            after,
-        };
-        self.memory.touch(c, access, clerk);
+        self.memory.touch(
+            c,
+            Access {
+                at,
+                word,
+                kind,
+                before,
+                after,
+            },
+            clerk,
+        );
         at
     }
 
@@ -231,7 +234,7 @@ impl<R: Rider, K: Carry> Parts<R, K> {
         ensures renewed { standing.new ≡ standing_at K.carrying self.new.state c }
     {
         let (kind, word) = standing.need.access()?;
-        Some(self.retire_access(c, word, kind, standing, clerk))
+        Some(self.retire_access(c, standing, word, kind, clerk))
     }
 }
 

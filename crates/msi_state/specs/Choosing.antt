@@ -22,6 +22,11 @@ module _ {S M : Type 0} where
       let before = state_after moves step start choices t in
       by_move before (step before) (chosen_of (moves before) (choices t))
 
+module _ {S M X : Type 0} where
+  -- what the move gives that a choice takes at a state; where it takes none, what none gives
+  abbrev pub by_choice : (moves : S → List M) → (none : X) → (gives : S → M → X) → S → (choice : ℕ) → X
+  by_choice moves none gives s choice = by_move none (gives s) (chosen_of (moves s) choice)
+
 -- the first moment at which a test passes
 pub record IsFirst (test : ℕ → Bool) (t : ℕ) : Type 0 where
   pub done : test t ≡ true

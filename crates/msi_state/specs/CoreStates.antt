@@ -11,6 +11,10 @@ pub record CoresState (C R K : Type 0) : Type 0 where
   pub cores : List C
   pub memory : Memory R K
 
+-- those on which nothing rides
+abbrev pub PlainCores : Type 0 → Type 0
+PlainCores C = CoresState C (Unit {0}) (Unit {0})
+
 module _ {C R K : Type 0} where
   -- the start: each core is as it starts by its number, no cache holds a block, and the home has what the image has
   abbrev pub cores_start : (starts : ℕ → C) → Riding R → Carrying K → Contents → (cores : ℕ) → CoresState C R K

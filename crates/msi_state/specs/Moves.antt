@@ -1,5 +1,5 @@
 -- The moves that a machine of some cores can have, in their order.
-use Rattle.std.specs.Prelude.{◌≡◌, ℕ, ◌+◌, ◌*◌, ◌-◌, ◌%◌, List, length, map, slice_index_or, if◌then◌else◌, nat_lt}
+use Rattle.std.specs.Prelude.{ℕ, ◌+◌, ◌*◌, ◌-◌, List, map, if◌then◌else◌, nat_lt}
 use Rattle.std.specs.List.{range_with_len}
 use Rattle.msi_state.specs.declared.moves.Move.{Move}
 use Rattle.msi_state.specs.declared.moves.Move.TheVariants.{Core, Request, Response, FromHome}
@@ -15,10 +15,6 @@ candidate cores k =
 -- the first n of them
 abbrev pub candidates : ℕ → ℕ → List Move
 candidates cores n = map (candidate cores) (range_with_len 0 n)
-
--- of these moves, of which there are some, the one that a choice numbers, counted around
-abbrev pub IsNumbered : List Move → (choice : ℕ) → Move → Type 0
-IsNumbered moves choice m = (d : Move) → m ≡ slice_index_or moves (choice % length moves) d
 
 -- the core at which a move happens
 abbrev pub core_of : Move → ℕ

@@ -13,7 +13,7 @@ use Rattle.rv_core.specs.declared.outcome.Outcome.{Outcome}
 use Rattle.msi_state.specs.declared.moves.Move.{Move}
 pub use Rattle.msi_state.specs.Choosing.{chosen_of}
 use Rattle.msi_state.specs.States.{PlainState, state_start, all_done}
-use Rattle.msi_state.specs.Choosing.{IsFirst, by_move, state_after}
+use Rattle.msi_state.specs.Choosing.{IsFirst, by_choice, by_move, state_after}
 use Rattle.msi_state.specs.Events.{Event, Nothing, Retires, Accesses}
 use Rattle.msi_state.specs.Steps.{moves, step, event}
 use Rattle.msi_state.specs.FinalMemory.{final_memory}
@@ -50,8 +50,7 @@ run image params choices t = state_after plain_moves plain_step (opening_state i
 -- what the choice numbered t told the clerk
 abbrev pub event_at : Contents → Params → (choices : ℕ → ℕ) → (t : ℕ) → Event
 event_at image params choices t =
-    let before = run image params choices t in
-    event_by before (chosen before (choices t))
+    by_choice plain_moves Nothing plain_event (run image params choices t) (choices t)
 
 -- a run ends at the first moment at which each core's program is done
 abbrev pub IsRunEnd : Contents → Params → (choices : ℕ → ℕ) → (t : ℕ) → Type 0
@@ -63,16 +62,16 @@ retired_in Nothing = []
 retired_in (Retires at) = at ∷ []
 retired_in (Accesses a) = a.at ∷ []
 
--- the accesses of an event
-abbrev pub accesses_in : Event → List Access
-accesses_in (Accesses a) = a ∷ []
-accesses_in _ = []
-
 -- the instructions that retired within the first t choices, in the order in which they did
 abbrev pub retirements : Contents → Params → (choices : ℕ → ℕ) → (t : ℕ) → List Instr
 retirements image params choices zero = []
 retirements image params choices (suc t) =
     retirements image params choices t ++ retired_in (event_at image params choices t)
+
+-- the accesses of an event
+abbrev pub accesses_in : Event → List Access
+accesses_in (Accesses a) = a ∷ []
+accesses_in _ = []
 
 -- the data accesses of the first t choices, in the order in which their instructions retired
 abbrev pub accesses : Contents → Params → (choices : ℕ → ℕ) → (t : ℕ) → List Access

@@ -34,7 +34,7 @@ use Rattle.tso_bound.specs.Bound.{capacity, core_cost, empty_worth, left, lines_
 use Rattle.tso_bound.specs.Bound.{total_earned, total_owed}
 use Rattle.tso_bound.specs.Ends.{most_steps, end_of}
 use Rattle.tso_bound.proofs.Capacity.{capacity_kept, total_earned_le}
-use Rattle.machine_bound.proofs.Firsts.{FailsBefore, first_end_is}
+use Rattle.machine_bound.proofs.Firsts.{FailsBefore, left_ends}
 use Rattle.machine_bound.proofs.Paying.{paid_until}
 use Rattle.tso_bound.proofs.Ports.{still_port}
 use Rattle.tso_bound.proofs.Steps.{earns}
@@ -197,8 +197,7 @@ ended_worth s h done =
 pub run_ends : (image : Contents) (params : Params) (choices : ℕ → ℕ) → InRange params →
     IsRunEnd image params choices (end_of image params choices)
 run_ends image params choices fits =
-    first_end_is run all_done most_steps image params choices
-    (λ t more. (let le = left_within image params choices t fits more in omega arith))
+    left_ends run all_done most_steps image params choices _ (λ t more. left_within image params choices t fits more)
 
 pub end_done : (image : Contents) (params : Params) (choices : ℕ → ℕ) → InRange params →
     all_done (run image params choices (end_of image params choices)) ≡ true

@@ -1,14 +1,14 @@
 -- What is noted at the start: nothing is pending or under way, and each core whose program isn't done is marked.
 use Rattle.std.proofs.Common.{◌≡◌, ◌≢◌, ◌∙◌, ◌⊎◌, inl, inr, refl, sym, subst, ap, ℕ, ◌<◌, ◌≤◌, Bool, true}
 use Rattle.std.proofs.Common.{false, List, [], length, get_or}
-use Rattle.std.proofs.Common.{replicate, nat_lt, zero-add, ◌&&◌, ◌||◌, ◌/◌}
+use Rattle.std.proofs.Common.{replicate, nat_lt, zero-add, ◌&&◌, ◌||◌, ◌/◌, ◌*◌, ◌^◌}
 use Rattle.std.specs.Prelude.{map, not}
 use Rattle.std.specs.List.{range_with_len}
 use Rattle.std.proofs.lemmas.List.{get_or-map, get_or_past, length-map}
 use Rattle.std.proofs.lemmas.List.FromFn.{get_or-map-range_with_len, length-map-range_with_len}
 use Rattle.access_times.specs.Riding.{Riding, Carrying}
 use Rattle.image_mem.specs.Contents.{Contents}
-use Rattle.rtr_types.specs.declared.TheConstants.{BLOCK_WORDS}
+use Rattle.rtr_types.specs.declared.TheConstants.{BLOCK_WORDS, CORES_MAX}
 use Rattle.rtr_types.specs.declared.access.Kind.TheVariants.{Load as Loading}
 use Rattle.rv_core.specs.declared.core_state.Need.{Need}
 use Rattle.rv_core.specs.declared.core_state.Need.TheVariants.{Local, Load, Store, Amo, Done}
@@ -18,6 +18,8 @@ use Rattle.msi_memory.specs.declared.port.Port.{Port}
 use Rattle.msi_memory.specs.Acts.{allows}
 use Rattle.msi_memory.specs.Memories.{port_at, port_start}
 use Rattle.rtr_types.specs.CoreSets.{has}
+use Rattle.machine_data.specs.Coherent.{opening_memory}
+use Rattle.machine_data.proofs.Opening.{start_coherent}
 use Rattle.move_marks.specs.declared.marks.MoveKind.{MoveKind}
 use Rattle.move_marks.specs.declared.marks.MoveKind.TheVariants.{Own}
 use Rattle.move_marks.specs.Kinds.{set_of}
@@ -26,7 +28,9 @@ use Rattle.move_marks.proofs.Idle.{idle_noted, port_idle}
 use Rattle.tso_state.specs.declared.moves.Move.TheVariants.{Core as CoreMove, Order as OrderMove}
 use Rattle.tso_state.specs.States.{BufferedCore, State, buffered_start, core_at, state_start}
 use Rattle.tso_state.specs.Steps.{can_execute, can_order, case_holds, enabled, is_fence}
+use Rattle.tso_data.specs.Orders.{Coherent}
 use Rattle.tso_invariant.specs.Holds.{TsoHolds}
+use Rattle.tso_invariant.proofs.Begins.{holds_start}
 use Rattle.tso_core.specs.declared.marks.Marks.{Marks}
 use Rattle.tso_core.specs.declared.standing.Standing.{Standing}
 use Rattle.tso_core.specs.Machineries.{Machinery}
@@ -171,3 +175,35 @@ module _ {R K : Type 0} where
       fit : standings ≡ map (λ (t : BufferedCore). standing_with m.state.image t.core) m.state.cores
       fit = made ∙ ap (λ (s : State R K). map (λ (t : BufferedCore). standing_with s.image t.core) m.state.cores)
           (sym is)
+
+  -- ---- the machine that is made so
+  module _ (riding : Riding R) (carrying : Carrying K) (image : Contents) (cores limit : ℕ) (m : Machinery R K)
+      (is : m.state ≡ state_start riding carrying image cores limit) where
+    pub begun_coherent : length image.bytes ≤ 4 * image.words →
+        Coherent riding carrying m.state (opening_memory image)
+    begun_coherent fits =
+        subst (λ (s : State R K). Coherent riding carrying s (opening_memory image)) (sym is)
+        (start_coherent riding carrying image cores limit fits)
+
+    module _ (few : cores ≤ CORES_MAX) (small : limit < 2 ^ 32) where
+      pub begun_holds : TsoHolds riding carrying m.state
+      begun_holds =
+          subst (λ (s : State R K). TsoHolds riding carrying s) (sym is) (holds_start riding carrying image cores limit
+          few small)
+
+      -- from what each call gave
+      pub notes_first : {seen : Machinery R K} → seen ≡ m → {listed : List BufferedCore} → listed ≡ seen.state.cores →
+          {standings : List Standing} →
+          standings ≡ map (λ (t : BufferedCore). standing_with seen.state.image t.core) listed →
+          {read : List Standing} → read ≡ standings → (marks : Marks) → marks.cores ≡ length read →
+          ((c : ℕ) → has (set_of Own marks.moves) c ≡ may_begin read c) → ((c : ℕ) → has marks.orders c ≡ false) →
+          ((k : MoveKind) → k ≢ Own → (c : ℕ) → has (set_of k marks.moves) c ≡ false) →
+          NotesFit riding carrying m standings marks 0
+      notes_first {seen} view {listed} lists {standings} made {read} reads marks count own orders none =
+          notes_begin riding carrying image cores limit m standings marks is begun_holds
+          (made
+          ∙ ap (map (λ (t : BufferedCore). standing_with seen.state.image t.core)) lists
+          ∙ (λ i. map (λ (t : BufferedCore). standing_with (view i).state.image t.core) (view i).state.cores)
+          ∙ ap (λ (s : State R K). map (λ (t : BufferedCore). standing_with s.image t.core) m.state.cores) is)
+          (count ∙ ap (λ (xs : List Standing). length xs) reads)
+          (λ c. own c ∙ ap (λ (xs : List Standing). may_begin xs c) reads) orders none

@@ -2,19 +2,21 @@
 use Rattle.std.proofs.Common.{◌≡◌, ◌∙◌, ap, refl, sym, subst, ℕ, ◌*◌, ◌<◌, true, false, List, length, Some}
 use Rattle.std.specs.Prelude.{◌%◌, slice_index_or}
 use Rattle.access_times.specs.Riding.{Riding, Carrying}
+use Rattle.machine_ports.specs.Steppings.{IsNumbered}
 use Rattle.move_marks.proofs.Choosing.{numbered, numbered_chosen, numbered_passes}
 use Rattle.tso_state.specs.declared.moves.Move.{Move}
 use Rattle.tso_state.specs.Moves.{candidates}
 use Rattle.tso_state.specs.Runs.{chosen, chosen_of}
 use Rattle.tso_state.specs.States.{State, all_done}
 use Rattle.tso_state.specs.Steps.{enabled, moves}
+use Rattle.tso_invariant.proofs.Rested.{rooms_there, rows_there}
 use Rattle.tso_invariant.proofs.Stuck.{some_move}
 use Rattle.tso_invariant.specs.Holds.{TsoHolds}
 use Rattle.tso_plain.proofs.Events.{plain_moves}
 use Rattle.tso_plain.specs.Plain.{plain}
 use Rattle.tso_core.specs.Machineries.{Machinery}
-use Rattle.tso_core.specs.Numbers.{IsNumbered}
-use Rattle.tso_core.specs.Steppings.{IsTaken}
+use Rattle.tso_core.specs.Numbers.{IsTaken}
+use Rattle.tso_core.proofs.Ended.{holds_seen}
 
 module _ {R K : Type 0} where
   pub plainly_chosen : (riding : Riding R) (carrying : Carrying K) (s : State R K) (choice : ℕ) (m : Move) →
@@ -24,6 +26,14 @@ module _ {R K : Type 0} where
       ap (λ (ms : List Move). chosen_of ms choice) (sym (plain_moves riding carrying s))
       ∙ numbered_chosen (λ (ms : List Move). chosen_of ms choice) (moves riding carrying s) choice m
       (λ first later. refl) some is
+
+  -- a machine that hasn't ended has a move, so some are counted
+  pub some_counted : (riding : Riding R) (carrying : Carrying K) {m seen : Machinery R K} → m ≡ seen →
+      TsoHolds riding carrying m.state → all_done seen.state ≡ false →
+      {found : List Move} → found ≡ moves riding carrying seen.state → {count : ℕ} → count ≡ length found → 0 < count
+  some_counted riding carrying {m} {seen} view holds more all same =
+      subst (λ (n : ℕ). 0 < n) (sym (same ∙ ap length all))
+      (some_move riding carrying seen.state (holds_seen riding carrying view holds) more)
 
   -- what a step takes can be made
   pub taken_enabled : (riding : Riding R) (carrying : Carrying K) (s : State R K) (choice : ℕ) (m : Move) →
@@ -38,17 +48,32 @@ module _ {R K : Type 0} where
       (holds : TsoHolds riding carrying m.state) (more : all_done seen.state ≡ false)
       (all : found ≡ moves riding carrying seen.state)
       (same : count ≡ length found) (is : (d : Move) → taken ≡ slice_index_or found (choice % count) d) where
+    seen_holds : TsoHolds riding carrying seen.state
+    seen_holds = holds_seen riding carrying view holds
+
     some_there : 0 < length (moves riding carrying seen.state)
-    some_there = some_move riding carrying seen.state (subst (λ (x : Machinery R K). TsoHolds riding carrying x.state)
-        view holds) more
+    some_there = some_move riding carrying seen.state seen_holds more
+
+    here : IsNumbered (moves riding carrying seen.state) choice taken
+    here = numbered choice count taken all same is
+
+    seen_enabled : enabled riding carrying seen.state taken ≡ true
+    seen_enabled =
+        numbered_passes (enabled riding carrying seen.state)
+        (candidates (length seen.state.cores) (5 * length seen.state.cores)) choice taken some_there here
 
     pub found_enabled : enabled riding carrying m.state taken ≡ true
-    found_enabled =
-        subst (λ (x : Machinery R K). enabled riding carrying x.state taken ≡ true) (sym view)
-        (numbered_passes (enabled riding carrying seen.state)
-        (candidates (length seen.state.cores) (5 * length seen.state.cores)) choice taken some_there
-        (numbered choice count taken all same is))
+    found_enabled = subst (λ (x : Machinery R K). enabled riding carrying x.state taken ≡ true) (sym view) seen_enabled
 
     pub found_chosen : chosen (plain seen.state) choice ≡ Some taken
-    found_chosen = plainly_chosen riding carrying seen.state choice taken some_there (numbered choice count taken all
-        same is)
+    found_chosen = plainly_chosen riding carrying seen.state choice taken some_there here
+
+    pub found_taken : IsTaken riding carrying seen.state choice taken
+    found_taken =
+        record {
+          some = some_there;
+          numbered = here;
+          plainly = found_chosen;
+          row = rows_there riding carrying seen.state taken seen_holds seen_enabled;
+          room = rooms_there riding carrying seen.state taken seen_holds seen_enabled;
+        }

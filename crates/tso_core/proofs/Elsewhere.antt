@@ -13,7 +13,8 @@ use Rattle.rv_core.specs.Steps.{need}
 use Rattle.msi_cache.specs.Lines.{is_allowed, line_for, waits}
 use Rattle.msi_memory.specs.declared.port.Port.{Port}
 use Rattle.msi_memory.specs.Memories.{port_at}
-use Rattle.move_marks.proofs.OnePort.{OneSet, PortMoved, one_other, port_other, same_long}
+use Rattle.move_marks.proofs.OnePort.{one_other, port_other, same_long}
+use Rattle.machine_ports.proofs.Elsewhere.{MovedAt}
 use Rattle.tso_state.specs.declared.moves.Move.TheVariants.{Core as CoreMove, Order as OrderMove}
 use Rattle.tso_state.specs.declared.pending.Pending.{Pending}
 use Rattle.tso_state.specs.declared.pending.Pending.TheVariants.{Load as PendingLoad, Store as PendingStore}
@@ -46,12 +47,6 @@ module _ {R K : Type 0} where
   can_order_by (PendingStore count word mask bits ∷ rest) riding p q same =
       λ i. is_allowed (line_for riding.fresh (same i) (word / BLOCK_WORDS)) (word / BLOCK_WORDS) Storing || not
       (waits (same i))
-
--- the state after core c moved at its port
-pub record MovedAt {R K : Type 0} (s t : State R K) (c : ℕ) : Type 0 where
-  pub image : t.image ≡ s.image
-  pub cores : OneSet s.cores t.cores c
-  pub memory : PortMoved s.memory t.memory c
 
 -- what another core can do is what it could
 module _ {R K : Type 0} (riding : Riding R) (carrying : Carrying K) (s t : State R K) (c d : ℕ)

@@ -7,6 +7,7 @@ pub mod Ended
 pub mod Heads
 pub mod Leaving
 pub mod Moves
+pub mod Promises
 pub mod Queues
 pub mod Marked
 pub mod Renewed

@@ -36,11 +36,12 @@ use Rattle.move_marks.specs.declared.marks.MoveMarks.{MoveMarks}
 use Rattle.move_marks.specs.Kinds.{set_of}
 use Rattle.move_marks.specs.Ports.{PortsMarkedBut}
 use Rattle.move_marks.proofs.Following.{each}
-use Rattle.move_marks.proofs.OnePort.{links_marked, port_renewed, requests_other, same_long}
+use Rattle.move_marks.proofs.OnePort.{links_marked, port_renewed, same_long}
 use Rattle.move_marks.proofs.Turned.{request_stays, response_stays}
 use Rattle.tso_core.proofs.AtPort.{AreHere, acts_here, asking_here, here_append, links, own_links, port_acts}
 use Rattle.tso_core.proofs.AtPort.{telling_here}
-use Rattle.tso_core.proofs.Elsewhere.{MovedAt, order_elsewhere, own_elsewhere}
+use Rattle.machine_ports.proofs.Elsewhere.{MovedAt, OthersStay, others_stay}
+use Rattle.tso_core.proofs.Elsewhere.{order_elsewhere, own_elsewhere}
 use Rattle.tso_core.proofs.Heads.{order_standing}
 use Rattle.tso_core.proofs.Renewed.{order_marked, own_marked}
 use Rattle.tso_core.proofs.Standings.{moved_stands, stands_at}
@@ -151,16 +152,13 @@ module _ {R K : Type 0} where
 
   -- ---- a move changes no requests but those of its own core
   module _ (riding : Riding R) (carrying : Carrying K) (rider : R) (s : State R K) where
-    requests_stay : (m : Move) (d : ℕ) → core_of m < length s.memory.ports → d ≢ core_of m →
-        requests_at (step riding carrying rider s m).memory.ports d ≡ requests_at s.memory.ports d
-    requests_stay (CoreMove c) d within other =
-        requests_other carrying s.memory _ c (core_moves riding carrying rider s _ c within refl).memory d other
-    requests_stay (OrderMove c) d within other =
-        requests_other carrying s.memory _ c (order_moves riding carrying rider s _ c within refl).memory d other
-    requests_stay (MessageMove c) d within other =
-        requests_other carrying s.memory _ c (message_moves riding carrying rider s _ c within refl).memory d other
-    requests_stay (RequestMove c) d within other = (request_stays riding carrying s.memory c).requests d other
-    requests_stay (ResponseMove c) d within other = (response_stays riding carrying s.memory c).requests d other
+    requests_stay : (m : Move) → core_of m < length s.memory.ports →
+        OthersStay s (step riding carrying rider s m) (core_of m)
+    requests_stay (CoreMove c) within = others_stay carrying (core_moves riding carrying rider s _ c within refl)
+    requests_stay (OrderMove c) within = others_stay carrying (order_moves riding carrying rider s _ c within refl)
+    requests_stay (MessageMove c) within = others_stay carrying (message_moves riding carrying rider s _ c within refl)
+    requests_stay (RequestMove c) within = (request_stays riding carrying s.memory c).requests
+    requests_stay (ResponseMove c) within = (response_stays riding carrying s.memory c).requests
 
   -- so where each head's block had room, only the mover's may have none
   pub others_roomy : (riding : Riding R) (carrying : Carrying K) (rider : R) (old new : Machinery R K) (m : Move) →
@@ -169,7 +167,7 @@ module _ {R K : Type 0} where
       OthersRoomy new.state.memory.ports (core_of m) new.rooms
   others_roomy riding carrying rider old new m within roomy is same d other =
       (λ i. head_roomy (requests_at (is i).memory.ports d) (same i))
-      ∙ (λ i. head_roomy (requests_stay riding carrying rider old.state m d within other i) old.rooms)
+      ∙ (λ i. head_roomy (requests_stay riding carrying rider old.state m within d other i) old.rooms)
       ∙ each_roomy old.state.memory.ports old.rooms roomy d
 
   -- ---- what is kept of each core follows a move that can be made
@@ -205,45 +203,6 @@ module _ {R K : Type 0} where
       (λ port. order_moves riding carrying rider s t c port is)
       (kept_here riding carrying s taken c standings d holds can_be at fit
       ∙ order_standing riding carrying rider s t c is here))
-
-  -- a machine's notes follow a move
-  pub notes_kept : (riding : Riding R) (carrying : Carrying K) (old new : Machinery R K) (m : Move)
-      (standings kept : List Standing) (marks : Marks)
-      (mover : ℕ) → heads_roomy old ≡ true → TsoHolds riding carrying old.state →
-      enabled riding carrying old.state m ≡ true →
-      StepsTo riding carrying old.state new.state m → new.rooms ≡ old.rooms → StandingsFit new.state kept →
-      standings ≡ kept →
-      OthersMarked riding carrying new.state marks (core_of m) → mover ≡ core_of m →
-      NotesFit riding carrying new standings marks mover
-  notes_kept riding carrying old new m standings kept marks mover roomy holds can_be is same fit all others mine =
-      let rider : R = rider_left riding carrying old.state new.state m in
-      let here : core_of m < length old.state.memory.ports =
-      core_port riding carrying old.state (core_of m) holds (enabled_core riding carrying old.state m can_be holds) in
-      let after : TsoHolds riding carrying new.state =
-      subst (λ (s : State R K). TsoHolds riding carrying s) (sym is) (holds_kept riding carrying old.state m rider
-      can_be holds) in
-      let cores : length new.state.cores ≡ length old.state.cores =
-      ap (λ (t : State R K). length t.cores) is ∙ step_cores riding carrying rider old.state m in
-      record {
-        holds = after;
-        stands = subst (λ (xs : List Standing). StandingsFit new.state xs) (sym all) fit;
-        cores = others.cores;
-        ports = record {
-          long = others.cores.cores ∙ sym after.ports_there;
-          marked = subst (λ (c : ℕ). PortsMarkedBut riding carrying new.state.memory marks.moves c) (sym mine)
-              others.ports;
-          past = λ out. absurd (omega (
-            arith,
-            out,
-            mine,
-            cores,
-            after.ports_there,
-            enabled_core riding carrying old.state m can_be holds,
-          ));
-          roomy = subst (λ (c : ℕ). OthersRoomy new.state.memory.ports c new.rooms) (sym mine)
-              (others_roomy riding carrying rider old new m here roomy is same);
-        };
-      }
 
   -- ---- the core that is seen in its place at its port
   module _ {seen now : Machinery R K} {c : ℕ} (view : seen ≡ now) (here : c < length now.state.cores) {t : BufferedCore}
@@ -365,6 +324,38 @@ module _ {R K : Type 0} where
       pub ports_few : length seen.state.memory.ports ≤ CORES_MAX
       ports_few = subst (λ (x : Machinery R K). length x.state.memory.ports ≤ CORES_MAX) (sym view)
           after.memory.cores
+
+  -- a machine's notes follow a move
+  pub notes_kept : (riding : Riding R) (carrying : Carrying K) (old new : Machinery R K) (m : Move)
+      (standings kept : List Standing) (marks : Marks)
+      (mover : ℕ) → heads_roomy old ≡ true → TsoHolds riding carrying old.state →
+      enabled riding carrying old.state m ≡ true →
+      StepsTo riding carrying old.state new.state m → new.rooms ≡ old.rooms → StandingsFit new.state kept →
+      standings ≡ kept →
+      OthersMarked riding carrying new.state marks (core_of m) → mover ≡ core_of m →
+      NotesFit riding carrying new standings marks mover
+  notes_kept riding carrying old new m standings kept marks mover roomy holds can_be is same fit all others mine =
+      let later : TsoHolds riding carrying new.state = after new refl holds can_be is refl in
+      record {
+        holds = later;
+        stands = subst (λ (xs : List Standing). StandingsFit new.state xs) (sym all) fit;
+        cores = others.cores;
+        ports = record {
+          long = others.cores.cores ∙ sym later.ports_there;
+          marked = subst (λ (c : ℕ). PortsMarkedBut riding carrying new.state.memory marks.moves c) (sym mine)
+              others.ports;
+          past = λ out. absurd (omega (
+            arith,
+            out,
+            mine,
+            later.ports_there,
+            core_after new refl holds can_be is refl,
+          ));
+          roomy = subst (λ (c : ℕ). OthersRoomy new.state.memory.ports c new.rooms) (sym mine)
+              (others_roomy riding carrying (rider_left riding carrying old.state new.state m) old new m
+              (port_before new refl holds can_be is refl) roomy is same);
+        };
+      }
 
   -- a port that doesn't wait has room for a request
   pub room_still : (riding : Riding R) (carrying : Carrying K) (s : State R K) (m : Move) (c : ℕ) →

@@ -8,7 +8,7 @@ use Rattle.tso_state.specs.States.{BufferedCore, State, buffered_start}
 use Rattle.tso_core.specs.declared.standing.Standing.{Standing}
 use Rattle.tso_core.specs.Standings.{StandingsFit, standing_at, standing_with}
 use Rattle.move_marks.proofs.OnePort.{one_now}
-use Rattle.tso_core.proofs.Elsewhere.{MovedAt}
+use Rattle.machine_ports.proofs.Elsewhere.{MovedAt}
 
 -- what is kept of a core with its pending accesses
 abbrev pub kept_of : Contents → BufferedCore → Standing

@@ -1,13 +1,11 @@
 //! The machine and its calls.
-ghost use Rattle.std.specs.Prelude.{◌≡◌, ◌<◌, ◌≤◌, ◌*◌, ◌/◌, ◌%◌, ℕ, IfOk, IsTrue, List, OnOk, Some, false, length};
+ghost use Rattle.std.specs.Prelude.{◌≡◌, ◌<◌, ◌≤◌, ◌/◌, ◌%◌, ℕ, IfOk, IsTrue, List, OnOk, Some, false, length};
 ghost use Rattle.std.specs.Prelude.{slice_index, true};
 ghost use Rattle.access_times.specs.Riding.{none_carrying, none_riding};
 ghost use Rattle.rtr_types.specs.Parameters.{Fits};
 ghost use Rattle.rtr_types.specs.declared.TheConstants.{BLOCK_WORDS, CORES_MAX};
 ghost use Rattle.machine_data.specs.Coherent.{opening_memory};
-ghost use Rattle.msi_laws.specs.Moving.{links_empty};
 ghost use Rattle.msi_directory.specs.Blocks.{touched};
-ghost use Rattle.msi_memory.specs.Finals.{SameWords, block_words};
 ghost use Rattle.msi_memory.specs.Rests.{RoomsMade};
 ghost use Rattle.tso_state.specs.FinalMemory.{final_word};
 ghost use Rattle.tso_state.specs.Runs.{chosen, opening_state};
@@ -18,7 +16,8 @@ ghost use Rattle.tso_data.specs.Orders.{Coherent};
 ghost use Rattle.tso_plain.specs.Plain.{plain};
 ghost use Rattle.tso_core.specs.Machineries.{heads_roomy};
 ghost use Rattle.tso_core.specs.Marks.{AllMarked, marked};
-ghost use Rattle.tso_core.specs.Steppings.{HasMoved, IsTaken, KeepsPromises};
+ghost use Rattle.tso_core.specs.Numbers.{IsTaken};
+ghost use Rattle.tso_core.specs.Steppings.{HasMoved, KeepsPromises};
 ghost use Rattle.tso_core.specs.Moving.{AcceptsOf, TellsOf};
 ghost use Rattle.machine_ports.specs.Writers.{OneWriterEach};
 
@@ -27,9 +26,9 @@ use crate::parts::Parts;
 use crate::standing::{Standing, first_marks, first_standings};
 use access_times::{Carry, Rider};
 use image_mem::Image;
+use machine_ports::SteppedMachine;
 use move_marks::{make_room, with_late};
 use rtr_types::{BLOCK_WORDS, CORES_MAX, Params};
-use rv_core::Core;
 use std::alloc::{AllocError, Global};
 use std::marker::Model;
 use tso_clerk::TsoClerk;
@@ -100,22 +99,6 @@ impl<R: Rider, K: Carry> BufferedMachine<R, K> {
         })
     }
 
-    /// Whether each core has ended: its program is done, and each of its accesses is ordered or logged. Then
-    /// nothing is under way any more, and the memory is what the last ordered write to each word left.
-    ///
-    /// It is where no move can be made.
-    pub fn done(&self) -> bool
-        ensures done { result ≡ all_done self.now.state }
-        ensures plain { result ≡ all_done (plain self.now.state) }
-        ensures links { IsTrue result → links_empty self.now.state.memory ≡ true }
-        ensures last { (memory : ℕ → List ℕ) → IsTrue result → Coherent R.riding K.carrying self.now.state memory
-            → (block : ℕ) → block_words R.riding K.carrying self.now.state.memory block ≡ memory block }
-    {
-        // What always holds of a machine says this.
-        let _ = &self.parts;
-        self.all_marks().count() == 0
-    }
-
     /// How many blocks the home made room for: it keeps so many entries, and the others are as the image has
     /// them.
     pub fn touched(&self) -> u32
@@ -183,7 +166,7 @@ impl<R: Rider, K: Carry> BufferedMachine<R, K> {
 
     /// The marks of the moves that can be made.
     #[inline(always)]
-    fn all_marks(&self) -> Marks
+    pub(crate) fn all_marks(&self) -> Marks
         ensures all { AllMarked R.riding K.carrying self.now.state result }
         ensures moves { marked result ≡ moves R.riding K.carrying self.now.state }
     {
@@ -200,20 +183,6 @@ impl<R: Rider, K: Carry> BufferedMachine<R, K> {
             orders,
             moves,
         }
-    }
-
-    /// The words of a block of the memory at the end: the owner's where a cache owns the block, else the home's.
-    /// Each is what the last ordered write to it left.
-    pub fn final_words(&self, block: u32) -> [u32; BLOCK_WORDS]
-        requires done { all_done self.now.state ≡ true }
-        requires within { block * BLOCK_WORDS < self.now.state.image.words }
-        ensures value { SameWords result (block_words R.riding K.carrying self.now.state.memory block) }
-        ensures plain { SameWords result (block_words none_riding none_carrying (plain self.now.state).memory block) }
-        ensures last { (memory : ℕ → List ℕ) → Coherent R.riding K.carrying self.now.state memory
-            → SameWords result (memory block) }
-    {
-        let parts = &self.parts;
-        parts.memory.final_words(block)
     }
 
     /// A word of the memory at the end, by its index: the owner's copy of it where a cache owns its block, else
@@ -241,16 +210,6 @@ impl<R: Rider, K: Carry> BufferedMachine<R, K> {
             mover: _mover,
         } = self;
         parts.into_image()
-    }
-
-    /// A core, without its pending accesses.
-    pub fn core(&self, core: u8) -> &Core
-        requires { core < length self.now.state.cores }
-        ensures value { result.now ≡ (core_at self.now.state.cores core).core }
-        ensures number { result.now.id ≡ core }
-        ensures within { result.now.count ≤ result.now.limit }
-    {
-        self.parts.cores[core as usize].core()
     }
 
     /// Each core's number is its place, and below the greatest number of cores: a law for clerks that keep

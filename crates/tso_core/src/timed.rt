@@ -13,7 +13,8 @@ ghost use Rattle.tso_times.specs.Absorbing.{MeetsAlike};
 ghost use Rattle.tso_times.specs.Timed.{StandsAfter};
 ghost use Rattle.tso_core.specs.Machineries.{heads_roomy};
 ghost use Rattle.tso_core.specs.Moving.{AcceptsOf, TellsOf};
-ghost use Rattle.tso_core.specs.Steppings.{HasMoved, IsTaken, KeepsPromises};
+ghost use Rattle.tso_core.specs.Numbers.{IsTaken};
+ghost use Rattle.tso_core.specs.Steppings.{HasMoved, KeepsPromises};
 ghost use Rattle.tso_core.specs.TimedSteps.{StandsMoved, StepFinds};
 
 use crate::machine::BufferedMachine;

@@ -26,6 +26,7 @@ use Rattle.msi_laws.proofs.PortsKept.{length_act}
 use Rattle.msi_laws.proofs.Properties.{finds_words, words_kept}
 use Rattle.msi_laws.proofs.Acting.{acts_carry, folded}
 use Rattle.machine_data.specs.Coherent.{Finds, memory_after}
+use Rattle.machine_data.proofs.Recalls.{Works}
 use Rattle.machine_data.proofs.Values.{Honest}
 use Rattle.msi_state.specs.Events.{access_of}
 use Rattle.tso_state.specs.declared.moves.Move.{Move}
@@ -236,18 +237,12 @@ module _ {R K : Type 0} where
 
 -- ---- the law
 
--- the state after the move is coherent with the memory after its access, which found the memory's word
-pub record Works {R K : Type 0} (riding : Riding R) (carrying : Carrying K) (s : State R K) (words : ℕ) (e : Event)
-    (memory : ℕ → List ℕ) : Type 0 where
-  pub coherent : Coherent riding carrying s (memory_after (ordering_of e) memory)
-  pub finds : Finds (ordering_of e) memory
-  pub honest : Honest words (ordering_of e)
-
 module _ {R K : Type 0} where
   pub step_works : (riding : Riding R) (carrying : Carrying K) (s : State R K) (m : Move) (rider : R)
       (memory : ℕ → List ℕ) →
       enabled riding carrying s m ≡ true → TsoHolds riding carrying s → Coherent riding carrying s memory →
-      Works riding carrying (step riding carrying rider s m) s.image.words (event riding carrying s m) memory
+      Works riding carrying (step riding carrying rider s m) s.image.words (ordering_of (event riding carrying s m))
+      memory
   step_works riding carrying s m rider memory e h k =
       let w = step_well riding carrying s m memory e h k in
       record {

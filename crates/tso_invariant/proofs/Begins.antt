@@ -1,15 +1,14 @@
 -- The start keeps what each state of a run keeps, and so each state of a run does. At the start no queue holds
 -- anything, nobody asks, and the memory system has its own start.
-use Rattle.std.proofs.Common.{◌≡◌, ◌∙◌, refl, ℕ, ◌*◌, ◌<◌, ◌≤◌, ◌^◌, true, length, Some, arith}
-use Rattle.std.proofs.lemmas.List.FromFn.{length-map-range_with_len}
+use Rattle.std.proofs.Common.{◌≡◌, refl, ℕ, ◌*◌, ◌<◌, ◌^◌, true, length, Some, arith}
 use Rattle.access_times.specs.Riding.{Riding, Carrying, none_riding, none_carrying}
 use Rattle.image_mem.specs.Contents.{Contents}
-use Rattle.rtr_types.specs.declared.TheConstants.{CORES_MAX}
 use Rattle.rtr_types.specs.declared.params.Params.{Params}
 use Rattle.rv_core.proofs.LawLemmas.{start_law}
 use Rattle.msi_memory.specs.Memories.{port_start}
 use Rattle.machine_invariant.proofs.Begins.{cores_hold_start}
-use Rattle.machine_invariant.proofs.Choosing.{chosen_passes, each_after}
+use Rattle.machine_invariant.specs.Promises.{EachRunHas, EachStartHas}
+use Rattle.machine_invariant.proofs.Choosing.{chosen_passes, cores_stay, each_run_has}
 use Rattle.tso_state.specs.declared.moves.Move.{Move}
 use Rattle.tso_state.specs.Moves.{candidates}
 use Rattle.tso_state.specs.States.{PlainState, buffered_start, state_start}
@@ -18,6 +17,12 @@ use Rattle.tso_state.specs.Runs.{plain_moves, plain_step, opening_state, chosen,
 use Rattle.tso_invariant.specs.Holds.{BufferedHolds, TsoHolds}
 use Rattle.tso_invariant.proofs.Kept.{holds_kept, step_cores}
 pub use Rattle.machine_invariant.proofs.Choosing.{chosen_at}
+
+-- what a choice takes is enabled
+pub chosen_enabled : (s : PlainState) (choice : ℕ) (m : Move) → chosen s choice ≡ Some m →
+    enabled none_riding none_carrying s m ≡ true
+chosen_enabled s choice m is =
+    chosen_passes (enabled none_riding none_carrying s) (candidates (length s.cores) (5 * length s.cores)) choice m is
 
 module _ {R K : Type 0} where
   start_well : (image : Contents) (riding : Riding R) (carrying : Carrying K) (limit c : ℕ) → limit < 2 ^ 32 →
@@ -35,31 +40,21 @@ module _ {R K : Type 0} where
         waiting = refl;
       }
 
-  pub holds_start : (riding : Riding R) (carrying : Carrying K) (image : Contents) (cores limit : ℕ) →
-      cores ≤ CORES_MAX → limit < 2 ^ 32 →
-      TsoHolds riding carrying (state_start riding carrying image cores limit)
+  pub holds_start : (riding : Riding R) (carrying : Carrying K) →
+      EachStartHas (state_start riding carrying) (TsoHolds riding carrying)
   holds_start riding carrying image cores limit few small =
       cores_hold_start riding carrying (buffered_start 0 0) (λ image c t p. BufferedHolds image riding c t p)
       (λ id. buffered_start id limit) image cores few (λ c. start_well image riding carrying limit c small)
 
--- what a choice takes is enabled
-pub chosen_enabled : (s : PlainState) (choice : ℕ) (m : Move) → chosen s choice ≡ Some m →
-    enabled none_riding none_carrying s m ≡ true
-chosen_enabled s choice m is =
-    chosen_passes (enabled none_riding none_carrying s) (candidates (length s.cores) (5 * length s.cores)) choice m is
-
-pub holds_run : (image : Contents) (params : Params) (choices : ℕ → ℕ) (t : ℕ) → params.cores ≤ CORES_MAX →
-    params.limit < 2 ^ 32 → TsoHolds none_riding none_carrying (run image params choices t)
-holds_run image params choices t few small =
-    each_after plain_moves plain_step (λ s. TsoHolds none_riding none_carrying s)
+pub holds_run : EachRunHas run (TsoHolds none_riding none_carrying)
+holds_run =
+    each_run_has opening_state plain_moves plain_step (TsoHolds none_riding none_carrying)
+    (λ image params few small. holds_start none_riding none_carrying image params.cores params.limit few small)
     (λ s choice m is h. holds_kept none_riding none_carrying s m tt (chosen_enabled s choice m is) h)
-    (opening_state image params) choices t
-    (holds_start none_riding none_carrying image params.cores params.limit few small)
 
 -- no core comes or goes
 pub run_cores : (image : Contents) (params : Params) (choices : ℕ → ℕ) (t : ℕ) →
     length (run image params choices t).cores ≡ params.cores
-run_cores image params choices t =
-    each_after plain_moves plain_step (λ (s : PlainState). length s.cores ≡ params.cores)
-    (λ s choice m is e. step_cores none_riding none_carrying tt s m ∙ e) (opening_state image params) choices t
-    (length-map-range_with_len (λ (id : ℕ). buffered_start id params.limit) 0 params.cores)
+run_cores image params =
+    cores_stay plain_moves plain_step (λ s m. step_cores none_riding none_carrying tt s m)
+    (λ id. buffered_start id params.limit) image params.cores

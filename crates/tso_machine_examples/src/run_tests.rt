@@ -9,6 +9,7 @@ use crate::images::{
     OWN_STORE_SEEN, STORE_BUFFERING, SUM, WORDS, choice_at,
 };
 use access_times::{NoCarry, NoRider};
+use machine_ports::SteppedMachine;
 use rtr_types::{CORES_MAX, Params};
 use std::alloc::Global;
 use std::test::Fail;

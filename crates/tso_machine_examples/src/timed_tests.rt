@@ -5,6 +5,7 @@ use crate::images::{
     BYTES_BUFFERED, HANDED_OVER, ONE_LOGGED, OWN_STORE_SEEN, STORE_BUFFERING, SUM, WORDS, choice_at,
 };
 use access_times::Times;
+use machine_ports::SteppedMachine;
 use rtr_types::{Instr, Params};
 use std::alloc::Global;
 use std::test::Fail;

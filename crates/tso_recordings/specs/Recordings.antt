@@ -67,6 +67,12 @@ RunToldLaw =
     → IsToldRun (tso_recording_at image params choices t) (tellings_of (all_told image params choices t))
     (outcome_at image params choices t)
 
+-- what the recording of a run that has ended is
+pub record RecordingLaws : Type 0 where
+  pub recorded : RecordedLaw
+  pub valid : ValidLaw
+  pub told : RunToldLaw
+
 -- Every replay order of the recording replays the run: it gives each core the first of the run's loads, it goes on
 -- until it is whole, and a whole one ends in the run's outcome.
 abbrev pub RunReplaysLaw : Type 0

@@ -1,14 +1,12 @@
 //! What the recording of a run is, under choices and under a schedule, and what its replays answer.
-ghost use Rattle.tso_recordings.specs.Recordings.{RecordedLaw, RunReplaysLaw, RunToldLaw, ValidLaw};
+ghost use Rattle.tso_recordings.specs.Recordings.{RecordingLaws, RunReplaysLaw};
 ghost use Rattle.tso_recordings.specs.Logged.{LoggedLaw};
 ghost use Rattle.tso_recordings.specs.Schedules.{AnsweredLaw, HeldLaw, ReplayedLaw};
 
 /// The recording of a run is valid. Its reduced log is the least set of the accesses that the run ordered, which the
 /// reduction comes to that is told of the run. What was told plays with the recorded words to the run's outcome.
 pub fn every_run_is_recorded()
-    ensures recorded { RecordedLaw }
-    ensures valid { ValidLaw }
-    ensures told { RunToldLaw }
+    ensures { RecordingLaws }
 {}
 
 /// Every replay order of it plays by accesses of the run and gives each core the first of the run's loads, each with

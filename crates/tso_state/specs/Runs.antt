@@ -10,7 +10,7 @@ use Rattle.rtr_types.specs.declared.access.Access.{Access}
 use Rattle.rtr_types.specs.declared.params.Params.{Params}
 use Rattle.rv_core.specs.declared.outcome.LoadNote.{LoadNote}
 use Rattle.rv_core.specs.declared.outcome.Outcome.{Outcome}
-use Rattle.msi_state.specs.Choosing.{IsFirst, by_move, state_after}
+use Rattle.msi_state.specs.Choosing.{IsFirst, by_choice, by_move, state_after}
 pub use Rattle.msi_state.specs.Choosing.{chosen_of}
 use Rattle.tso_state.specs.declared.moves.Move.{Move}
 use Rattle.tso_state.specs.declared.pending.Pending.{Pending}
@@ -20,32 +20,14 @@ use Rattle.tso_state.specs.Events.{Event, Told, instr_told, Nothing, Buffers, Pe
 use Rattle.tso_state.specs.Steps.{moves, step, event, told}
 use Rattle.tso_state.specs.FinalMemory.{final_memory}
 
--- the moves, the step, the event and what is told, of a state on which nothing rides
+-- ---- the states of a run
+
+-- the moves and the step of a state on which nothing rides
 abbrev pub plain_moves : PlainState → List Move
 plain_moves s = moves none_riding none_carrying s
 
 abbrev pub plain_step : PlainState → Move → PlainState
 plain_step s m = step none_riding none_carrying tt s m
-
-abbrev pub plain_event : PlainState → Move → Event
-plain_event s m = event none_riding none_carrying s m
-
-abbrev pub plain_told : PlainState → Move → List Told
-plain_told s m = told none_riding none_carrying s m
-
--- the move that a choice takes
-abbrev pub chosen : PlainState → (choice : ℕ) → Option Move
-chosen s choice = chosen_of (plain_moves s) choice
-
--- the state after it, what happens in it, and what is told in it
-abbrev pub stepped_by : PlainState → Option Move → PlainState
-stepped_by s taken = by_move s (plain_step s) taken
-
-abbrev pub event_by : PlainState → Option Move → Event
-event_by s taken = by_move Nothing (plain_event s) taken
-
-abbrev pub told_by : PlainState → Option Move → List Told
-told_by s taken = by_move [] (plain_told s) taken
 
 -- the machine of an image and parameters before its first move
 abbrev pub opening_state : Contents → Params → PlainState
@@ -55,20 +37,39 @@ opening_state image params = state_start none_riding none_carrying image params.
 abbrev pub run : Contents → Params → (choices : ℕ → ℕ) → (t : ℕ) → PlainState
 run image params choices t = state_after plain_moves plain_step (opening_state image params) choices t
 
--- what a core did by the choice numbered t, and what was told
-abbrev pub event_at : Contents → Params → (choices : ℕ → ℕ) → (t : ℕ) → Event
-event_at image params choices t =
-    let before = run image params choices t in
-    event_by before (chosen before (choices t))
-
-abbrev pub told_at : Contents → Params → (choices : ℕ → ℕ) → (t : ℕ) → List Told
-told_at image params choices t =
-    let before = run image params choices t in
-    told_by before (chosen before (choices t))
-
 -- a run ends at the first moment at which each core's program is done and no access is pending
 abbrev pub IsRunEnd : Contents → Params → (choices : ℕ → ℕ) → (t : ℕ) → Type 0
 IsRunEnd image params choices t = IsFirst (λ u. all_done (run image params choices u)) t
+
+-- ---- what a move does, and what is told in it
+
+-- the move that a choice takes, and the state after it
+abbrev pub chosen : PlainState → (choice : ℕ) → Option Move
+chosen s choice = chosen_of (plain_moves s) choice
+
+abbrev pub stepped_by : PlainState → Option Move → PlainState
+stepped_by s taken = by_move s (plain_step s) taken
+
+-- what happens in a move of a state on which nothing rides, in the move that was taken, and by the choice numbered t
+abbrev pub plain_event : PlainState → Move → Event
+plain_event s m = event none_riding none_carrying s m
+
+abbrev pub event_by : PlainState → Option Move → Event
+event_by s taken = by_move Nothing (plain_event s) taken
+
+abbrev pub event_at : Contents → Params → (choices : ℕ → ℕ) → (t : ℕ) → Event
+event_at image params choices t =
+    by_choice plain_moves Nothing plain_event (run image params choices t) (choices t)
+
+-- what is told in it
+abbrev pub plain_told : PlainState → Move → List Told
+plain_told s m = told none_riding none_carrying s m
+
+abbrev pub told_by : PlainState → Option Move → List Told
+told_by s taken = by_move [] (plain_told s) taken
+
+abbrev pub told_at : Contents → Params → (choices : ℕ → ℕ) → (t : ℕ) → List Told
+told_at image params choices t = by_choice plain_moves [] plain_told (run image params choices t) (choices t)
 
 -- ---- what happens in a run
 

@@ -1,18 +1,21 @@
 -- What is told of a core's instructions is what the core does, one instruction after the other: each is the core's
 -- next, needs what is told of it, and finds the word that is told.
-use Rattle.std.specs.Prelude.{◌≡◌, ℕ, ◌<◌, ◌==◌, List, [], ◌∷◌, ◌++◌, Some, if◌then◌else◌}
+use Rattle.std.specs.Prelude.{◌≡◌, ℕ, ◌<◌, ◌==◌, List, [], ◌∷◌, ◌++◌, Some, if◌then◌else◌, true}
 use Rattle.std.specs.List.{filter}
 use Rattle.image_mem.specs.Contents.{Contents}
 use Rattle.rtr_types.specs.Accesses.{is_read}
 use Rattle.rtr_types.specs.declared.access.Access.{Access}
 use Rattle.rtr_types.specs.declared.access.Kind.TheVariants.{Load as Loading}
+use Rattle.rtr_types.specs.declared.params.Params.{Params}
 use Rattle.rv_core.specs.declared.core_state.Core.{Core}
 use Rattle.rv_core.specs.declared.core_state.Need.TheVariants.{Local}
 use Rattle.rv_core.specs.declared.outcome.LoadNote.{LoadNote}
+use Rattle.rv_core.specs.States.{starting}
 use Rattle.rv_core.specs.Steps.{need, after, wrote, access_of as need_access}
 use Rattle.msi_state.specs.Events.{next_instr}
 use Rattle.tso_state.specs.Events.{Told, Alone, Ordered, Logged, instr_told}
-use Rattle.tso_state.specs.Runs.{LoggedLoad, read_by}
+use Rattle.tso_state.specs.Runs.{LoggedLoad, all_told, read_by, reads as reads_of, run}
+use Rattle.tso_state.specs.States.{all_done, core_at}
 use Rattle.tso_state.specs.declared.pending.Pending.{Pending}
 
 -- the word that an instruction found
@@ -67,6 +70,19 @@ reads_told (e ∷ later) = read_told e ++ reads_told later
 abbrev pub reads_pending : List Pending → List LoadNote
 reads_pending [] = []
 reads_pending (x ∷ rest) = read_by x ++ reads_pending rest
+
+-- what is told of core c in so many steps of a run is what the core did: each instruction is the core's next; once each
+-- core has ended, it is all that the core did; what the core read is told with it, or still pending, and all of it is
+-- told once each core has ended
+pub record IsToldOf (image : Contents) (params : Params) (choices : ℕ → ℕ) (t c : ℕ) : Type 0 where
+  pub right : AreNext image (starting c params.limit) (told_of c (all_told image params choices t))
+  pub whole : all_done (run image params choices t) ≡ true
+      → told_core image (starting c params.limit) (told_of c (all_told image params choices t))
+      ≡ (core_at (run image params choices t).cores c).core
+  pub reads : reads_of image params choices t c ≡ reads_told (told_of c (all_told image params choices t))
+      ++ reads_pending (core_at (run image params choices t).cores c).queue
+  pub all_reads : all_done (run image params choices t) ≡ true
+      → reads_of image params choices t c ≡ reads_told (told_of c (all_told image params choices t))
 
 -- ---- by kind
 

@@ -1,10 +1,7 @@
 -- The request of the core that asked is looked at, and then all moves that can be made are marked.
-use Rattle.std.proofs.Common.{◌∙◌, subst}
-use Rattle.move_marks.specs.Ports.{PortsMarked}
-use Rattle.msi_state.specs.States.{Machinery}
-use Rattle.msi_machine.specs.Marks.{AllMarked}
 use Rattle.msi_machine.proofs.Choosing.{seen_holds}
 use Rattle.msi_machine.proofs.Renewed.{all_moves}
+use Rattle.msi_machine.proofs.Roomed.{all_looked_at}
 use Rattle.msi_machine.proofs.machine.Machine.all_marks.Goals as goal
 
 pub with_late-moves-requires-clause-holds : goal.with_late-moves-requires-clause-holds
@@ -15,14 +12,8 @@ with_late-moves-requires-clause-noted g c = rw (← c.parts.view_is) at c.self.i
 
 pub returns-clause-all : goal.returns-clause-all
 returns-clause-all g c =
-    subst (λ (m : Machinery g.row.R.Denot g.row.K.Denot). AllMarked g.R.Rider.riding g.K.Carry.carrying m.state
-    (record c.self.inside.marks { moves = c.with_late-moves.result })) c.self.view_is
-    (record {
-      cores = c.self.invariant.ports.long ∙ c.self.invariant.holds.ports_there;
-      own = λ k. c.with_late-moves.ensures.own k ∙ c.self.invariant.own k;
-      ports = subst (λ (m : Machinery g.row.R.Denot g.row.K.Denot). PortsMarked g.R.Rider.riding g.K.Carry.carrying
-          m.state.memory c.with_late-moves.result) c.parts.view_is c.with_late-moves.ensures.marked;
-    })
+    all_looked_at g.R.Rider.riding g.K.Carry.carrying c.self.invariant c.parts.view_is c.self.view_is
+    c.with_late-moves.ensures.marked c.with_late-moves.ensures.own
 
 pub returns-clause-moves : goal.returns-clause-moves
 returns-clause-moves g c =

@@ -17,7 +17,8 @@ use Rattle.machine_progress.proofs.Stuck.{some_move}
 use Rattle.msi_state.specs.Events.{Event}
 use Rattle.move_marks.proofs.Choosing.{numbered, numbered_chosen, numbered_passes}
 use Rattle.msi_state.specs.declared.moves.Move.{Move}
-use Rattle.msi_state.specs.Moves.{IsNumbered, candidates}
+use Rattle.machine_ports.specs.Steppings.{IsNumbered}
+use Rattle.msi_state.specs.Moves.{candidates}
 use Rattle.msi_state.specs.Runs.{chosen_of}
 use Rattle.msi_state.specs.States.{Machinery, State}
 use Rattle.msi_state.specs.Steps.{enabled, event, moves, rider_left, step}

@@ -1,22 +1,13 @@
 -- At the start no move is marked but the cores' own, and all that a machine holds is true of the opening state by the
 -- laws of the start.
-use Rattle.std.proofs.Common.{◌≡◌, ◌∙◌, ap, sym, subst, length, ℕ, arith, List}
-use Rattle.std.specs.Prelude.{map}
-use Rattle.image_mem.specs.Contents.{Contents}
-use Rattle.machine_data.specs.Coherent.{opening_memory}
-use Rattle.machine_data.proofs.Opening.{start_coherent}
-use Rattle.tso_state.specs.States.{BufferedCore, State, buffered_start}
-use Rattle.tso_data.specs.Orders.{Coherent}
-use Rattle.tso_invariant.specs.Holds.{TsoHolds}
-use Rattle.tso_invariant.proofs.Begins.{holds_start}
+use Rattle.std.proofs.Common.{◌≡◌, ◌∙◌, length, ℕ, arith}
+use Rattle.tso_state.specs.States.{BufferedCore, buffered_start}
 use Rattle.tso_plain.specs.Plain.{plain}
 use Rattle.tso_plain.proofs.Steps.{plain_start}
-use Rattle.tso_core.specs.declared.standing.Standing.{Standing}
-use Rattle.tso_core.specs.Machineries.{Machinery}
-use Rattle.tso_core.specs.Standings.{may_begin, standing_with}
+use Rattle.tso_core.specs.Standings.{standing_with}
 use Rattle.machine_ports.proofs.AtHand.{one_writer}
 use Rattle.machine_ports.proofs.Counting.{kept_long}
-use Rattle.tso_core.proofs.Beginning.{notes_begin}
+use Rattle.tso_core.proofs.Beginning.{begun_coherent, begun_holds, notes_first}
 use Rattle.tso_core.proofs.machine.BufferedMachine.new.Goals as goal
 
 pub first_marks-marks-requires : goal.first_marks-marks-requires
@@ -30,42 +21,24 @@ first_marks-marks-requires g c =
 
 pub invariant_of-result : goal.invariant_of-result
 invariant_of-result g c =
-    let image : c.parts.inside.program ≡ c.args.image =
-    ap (λ (m : Machinery g.row.R.Denot g.row.K.Denot). m.state.image) c.parts.view_is
-    ∙ ap (λ (s : State g.row.R.Denot g.row.K.Denot). s.image) c.in_ok-parts.ensures.state in
-    let cores : c.as_slice.result.now ≡ c.in_ok-parts.parts.state.cores =
-    c.as_slice.ensures.value ∙ ap (λ (m : Machinery g.row.R.Denot g.row.K.Denot). m.state.cores) c.parts.view_is in
-    notes_begin g.R.Rider.riding g.K.Carry.carrying c.args.image c.args.params.cores c.args.params.limit
-    c.in_ok-parts.parts
-    c.in_ok-standings.standings.items c.first_marks-marks.result c.in_ok-parts.ensures.state
-    (subst (λ (s : State g.row.R.Denot g.row.K.Denot). TsoHolds g.R.Rider.riding g.K.Carry.carrying s)
-    (sym c.in_ok-parts.ensures.state)
-    (holds_start g.R.Rider.riding g.K.Carry.carrying c.args.image c.args.params.cores c.args.params.limit
-    c.requires.fits.cores (omega arith)))
-    (c.in_ok-standings.ensures
-    ∙ ap (λ (x : Contents). map (λ (t : BufferedCore). standing_with x t.core) c.as_slice.result.now) image
-    ∙ ap (map (λ (t : BufferedCore). standing_with c.args.image t.core)) cores)
-    (c.first_marks-marks.ensures.cores ∙ ap (λ (xs : List Standing). length xs) c.as_slice-2.ensures.value)
-    (λ k. c.first_marks-marks.ensures.own k ∙ ap (λ (xs : List Standing). may_begin xs k) c.as_slice-2.ensures.value)
-    c.first_marks-marks.ensures.orders c.first_marks-marks.ensures.others
+    notes_first g.R.Rider.riding g.K.Carry.carrying c.args.image c.args.params.cores c.args.params.limit
+    c.in_ok-parts.parts c.in_ok-parts.ensures.state c.requires.fits.cores (omega arith) c.parts.view_is
+    c.as_slice.ensures.value c.in_ok-standings.ensures c.as_slice-2.ensures.value c.first_marks-marks.result
+    c.first_marks-marks.ensures.cores c.first_marks-marks.ensures.own c.first_marks-marks.ensures.orders
+    c.first_marks-marks.ensures.others
 
 pub returns-clause-plain : goal.returns-clause-plain
 returns-clause-plain g c =
-    ap (plain {R = g.row.R.Denot} {K = g.row.K.Denot}) c.in_ok-parts.ensures.state
+    (λ i. plain (c.in_ok-parts.ensures.state i))
     ∙ plain_start g.R.Rider.riding g.K.Carry.carrying c.args.image c.args.params.cores c.args.params.limit
 
 pub returns-clause-coherent : goal.returns-clause-coherent
 returns-clause-coherent g c =
-    subst (λ (s : State g.row.R.Denot g.row.K.Denot). Coherent g.R.Rider.riding g.K.Carry.carrying s
-    (opening_memory c.args.image))
-    (sym c.in_ok-parts.ensures.state)
-    (start_coherent g.R.Rider.riding g.K.Carry.carrying c.args.image c.args.params.cores c.args.params.limit
-    (omega arith))
+    begun_coherent g.R.Rider.riding g.K.Carry.carrying c.args.image c.args.params.cores c.args.params.limit
+    c.in_ok-parts.parts c.in_ok-parts.ensures.state (omega arith)
 
 pub returns-clause-one_writer : goal.returns-clause-one_writer
 returns-clause-one_writer g c =
     one_writer g.R.Rider.riding g.K.Carry.carrying c.in_ok-parts.parts.state.memory
-    (subst (λ (s : State g.row.R.Denot g.row.K.Denot). TsoHolds g.R.Rider.riding g.K.Carry.carrying s)
-    (sym c.in_ok-parts.ensures.state)
-    (holds_start g.R.Rider.riding g.K.Carry.carrying c.args.image c.args.params.cores c.args.params.limit
-    c.requires.fits.cores (omega arith))).memory
+    (begun_holds g.R.Rider.riding g.K.Carry.carrying c.args.image c.args.params.cores c.args.params.limit
+    c.in_ok-parts.parts c.in_ok-parts.ensures.state c.requires.fits.cores (omega arith)).memory

@@ -1,40 +1,28 @@
 -- The marks are those of the moves that can be made, so the one picked can be; after it the notes fit again, and the
 -- laws of moves give the promises.
-use Rattle.std.proofs.Common.{◌≡◌, ◌∙◌, ap, sym, subst, ◌<◌, ◌*◌, ◌%◌, List, length, true, ℕ}
+use Rattle.std.proofs.Common.{◌≡◌, ◌∙◌, ap, sym, subst, ◌<◌, ◌%◌, List, length, true, ℕ}
 use Rattle.std.proofs.lemmas.List.{with_items_is}
 use Rattle.std.proofs.lemmas.Nat.{mod_below}
-use Rattle.tso_bound.proofs.Capacity.{nearer}
-use Rattle.tso_bound.proofs.Steps.{earns}
-use Rattle.tso_data.proofs.Steps.{step_works}
-use Rattle.tso_invariant.specs.Holds.{TsoHolds}
-use Rattle.tso_invariant.proofs.Kept.{holds_kept, step_cores}
+use Rattle.tso_invariant.proofs.Kept.{step_cores}
 use Rattle.tso_plain.specs.Plain.{plain}
 use Rattle.tso_plain.proofs.Events.{plain_event}
 use Rattle.tso_plain.proofs.Steps.{plain_step, plain_told}
-use Rattle.tso_invariant.proofs.Rested.{rooms_there, rows_there}
-use Rattle.tso_invariant.proofs.Stuck.{some_move}
-use Rattle.move_marks.proofs.Choosing.{numbered, numbered_passes}
-use Rattle.tso_state.specs.Events.{Event}
 use Rattle.tso_core.specs.Machineries.{Machinery}
 use Rattle.tso_core.specs.Moving.{AcceptsOf, rider_left}
-use Rattle.tso_core.specs.Numbers.{IsNumbered}
-use Rattle.tso_state.specs.Moves.{candidates}
 use Rattle.tso_state.specs.States.{State}
-use Rattle.tso_state.specs.Steps.{enabled, event, moves, step}
+use Rattle.tso_state.specs.Steps.{enabled, event}
 use Rattle.tso_core.specs.declared.standing.Standing.{Standing}
 use Rattle.tso_core.specs.Steppings.{HasMoved, KeepsPromises}
-use Rattle.machine_ports.proofs.AtHand.{one_writer}
-use Rattle.tso_core.proofs.Ended.{holds_seen}
-use Rattle.tso_core.proofs.Choosing.{found_chosen, found_enabled, plainly_chosen}
+use Rattle.tso_core.proofs.Choosing.{found_chosen, found_enabled, found_taken, some_counted}
 use Rattle.tso_core.proofs.Moves.{notes_kept}
+use Rattle.tso_core.proofs.Promises.{promises_kept}
 use Rattle.tso_core.proofs.Standings.{standings_long}
 use Rattle.tso_core.proofs.machine.BufferedMachine.step.Goals as goal
 
 pub nonzero_rem-choice : goal.nonzero_rem-choice
 nonzero_rem-choice g c =
-    let holds = holds_seen g.R.Rider.riding g.K.Carry.carrying c.self.view_is c.self.invariant.holds in
-    subst (λ (n : ℕ). 0 < n) (sym (c.count.ensures ∙ ap length c.all_marks-marks.ensures.moves))
-    (some_move g.R.Rider.riding g.K.Carry.carrying c.args.self.now.state holds c.requires.more)
+    some_counted g.R.Rider.riding g.K.Carry.carrying c.self.view_is c.self.invariant.holds c.requires.more
+    c.all_marks-marks.ensures.moves c.count.ensures
 
 pub pick-taken-requires : goal.pick-taken-requires
 pick-taken-requires g c =
@@ -85,22 +73,9 @@ invariant_of-self g c =
 
 pub returns-clause-taken : goal.returns-clause-taken
 returns-clause-taken g c =
-    let s : State g.row.R.Denot g.row.K.Denot = c.args.self.now.state in
-    let holds = holds_seen g.R.Rider.riding g.K.Carry.carrying c.self.view_is c.self.invariant.holds in
-    let some : 0 < length (moves g.R.Rider.riding g.K.Carry.carrying s) =
-    some_move g.R.Rider.riding g.K.Carry.carrying s holds c.requires.more in
-    let is : IsNumbered (moves g.R.Rider.riding g.K.Carry.carrying s) c.args.choice c.pick-taken.result =
-    numbered c.args.choice c.count.result c.pick-taken.result c.all_marks-marks.ensures.moves c.count.ensures
-    c.pick-taken.ensures in
-    let can_be = numbered_passes (enabled g.R.Rider.riding g.K.Carry.carrying s)
-    (candidates (length s.cores) (5 * length s.cores)) c.args.choice c.pick-taken.result some is in
-    record {
-      some = some;
-      numbered = is;
-      plainly = plainly_chosen g.R.Rider.riding g.K.Carry.carrying s c.args.choice c.pick-taken.result some is;
-      row = rows_there g.R.Rider.riding g.K.Carry.carrying s c.pick-taken.result holds can_be;
-      room = rooms_there g.R.Rider.riding g.K.Carry.carrying s c.pick-taken.result holds can_be;
-    }
+    found_taken g.R.Rider.riding g.K.Carry.carrying c.self.inside.parts c.args.self.now c.args.choice c.count.result
+    c.pick-taken.result c.self.view_is
+    c.self.invariant.holds c.requires.more c.all_marks-marks.ensures.moves c.count.ensures c.pick-taken.ensures
 
 pub returns-clause-moved : goal.returns-clause-moved
 returns-clause-moved g c =
@@ -123,30 +98,17 @@ returns-clause-moved g c =
 
 pub returns-clause-keeps : goal.returns-clause-keeps
 returns-clause-keeps g c =
-    let s : State g.row.R.Denot g.row.K.Denot = c.self.inside.parts.state in
-    let can_be : enabled g.R.Rider.riding g.K.Carry.carrying s c.pick-taken.result ≡ true =
-    found_enabled g.R.Rider.riding g.K.Carry.carrying c.self.inside.parts c.args.self.now c.args.choice c.count.result
-    c.pick-taken.result c.self.view_is
-    c.self.invariant.holds c.requires.more c.all_marks-marks.ensures.moves c.count.ensures c.pick-taken.ensures in
-    let rider = rider_left g.R.Rider.riding g.K.Carry.carrying s c.make_move.new.self.state c.pick-taken.result in
-    let e : Event = event g.R.Rider.riding g.K.Carry.carrying s c.pick-taken.result in
-    let after : TsoHolds g.R.Rider.riding g.K.Carry.carrying (step g.R.Rider.riding g.K.Carry.carrying rider s
-    c.pick-taken.result) =
-    holds_kept g.R.Rider.riding g.K.Carry.carrying s c.pick-taken.result rider can_be c.self.invariant.holds in
     subst (λ (m : Machinery g.row.R.Denot g.row.K.Denot). KeepsPromises g.R.Rider.riding g.K.Carry.carrying m.state
     c.make_move.new.self.state
     (event g.R.Rider.riding g.K.Carry.carrying m.state c.pick-taken.result)) c.self.view_is
-    (subst (λ (t : State g.row.R.Denot g.row.K.Denot). KeepsPromises g.R.Rider.riding g.K.Carry.carrying s t e)
+    (subst (λ (t : State g.row.R.Denot g.row.K.Denot). KeepsPromises g.R.Rider.riding g.K.Carry.carrying
+    c.self.inside.parts.state t
+    (event g.R.Rider.riding g.K.Carry.carrying c.self.inside.parts.state c.pick-taken.result))
     (sym c.make_move.ensures.made.state)
-    (record {
-      earns = earns g.R.Rider.riding g.K.Carry.carrying s c.pick-taken.result rider can_be c.self.invariant.holds;
-      nearer = nearer g.R.Rider.riding g.K.Carry.carrying s c.pick-taken.result rider can_be c.self.invariant.holds
-          after;
-      coherent = λ memory k.
-          (step_works g.R.Rider.riding g.K.Carry.carrying s c.pick-taken.result rider memory can_be
-          c.self.invariant.holds k).coherent;
-      finds = λ memory k. (step_works g.R.Rider.riding g.K.Carry.carrying s c.pick-taken.result rider memory can_be
-          c.self.invariant.holds k).finds;
-      one_writer = one_writer g.R.Rider.riding g.K.Carry.carrying
-          (step g.R.Rider.riding g.K.Carry.carrying rider s c.pick-taken.result).memory after.memory;
-    }))
+    (promises_kept g.R.Rider.riding g.K.Carry.carrying c.self.inside.parts.state c.pick-taken.result
+    (rider_left g.R.Rider.riding g.K.Carry.carrying c.self.inside.parts.state c.make_move.new.self.state
+    c.pick-taken.result)
+    (found_enabled g.R.Rider.riding g.K.Carry.carrying c.self.inside.parts c.args.self.now c.args.choice c.count.result
+    c.pick-taken.result c.self.view_is c.self.invariant.holds c.requires.more c.all_marks-marks.ensures.moves
+    c.count.ensures c.pick-taken.ensures)
+    c.self.invariant.holds))

@@ -7,8 +7,26 @@ use Rattle.tso_clerk.specs.Telling.{TellsAll}
 use Rattle.tso_state.specs.States.{BufferedCore, core_at}
 use Rattle.tso_core.specs.Machineries.{Machinery}
 use Rattle.tso_core.specs.Workings.{HasTold, locals_of}
-use Rattle.tso_core.proofs.Telling.{Behind, all_told, instr, one_told}
+use Rattle.tso_core.proofs.Telling.{Behind, accepts_next, all_told, instr, one_told}
+use Rattle.tso_core.proofs.parts.Parts.tell_behind.Given.{Over}
 use Rattle.tso_core.proofs.parts.Parts.tell_behind.Goals as goal
+use Rattle.tso_core.proofs.parts.Parts.tell_behind.Goals.{After-instr-at}
+
+-- the instruction whose turn it is
+module _ (g : Over) (c : After-instr-at g) where
+  at_is : c.instr-at.result ≡ instr (core_at c.args.self.now.state.cores c.args.c).core.id (c.loop-last.last + 1)
+  at_is =
+      c.instr-at.ensures
+      ∙ ap (λ (cores : List BufferedCore). instr (core_at cores c.args.c).core.id (c.loop-last.last + 1))
+      c.loop-last.invariant.cores
+
+pub alone-requires : goal.alone-requires
+alone-requires g c =
+    accepts_next g.C.Clerk.accepts g.C.TsoClerk.accepts_alone g.C.Clerk.told_local g.C.Clerk.told_touch
+    g.C.TsoClerk.told_logged g.R.Rider.riding g.K.Carry.carrying c.args.self.now.state c.loop-last.self.state c.args.c
+    (core_at c.args.self.now.state.cores c.args.c).core.id c.args.count c.loop-last.last c.count_before-until.result
+    c.args.clerk.now c.loop-last.clerk c.loop-last.invariant.behind c.loop-last-test.true c.instr-at.result
+    (at_is g (goal.at.alone-requires g c).After-instr-at)
 
 pub loop-last-preserved : goal.loop-last-preserved
 loop-last-preserved g c =
@@ -19,16 +37,13 @@ loop-last-preserved g c =
     c.args.c core c.args.count
     c.loop-last.last c.count_before-until.result c.args.clerk.now c.loop-last.clerk) (sym
     c.self-in-loop-last.view_is) c.loop-last.invariant.behind in
-    let at_is : c.instr-at.result ≡ instr core (c.loop-last.last + 1) =
-    c.instr-at.ensures
-    ∙ ap (λ (cores : List BufferedCore). instr (core_at cores c.args.c).core.id (c.loop-last.last + 1))
-    c.loop-last.invariant.cores in
     record {
       behind = one_told g.C.Clerk.accepts g.C.TsoClerk.accepts_alone g.C.Clerk.told_local g.C.Clerk.told_touch
           g.C.TsoClerk.told_logged
           g.R.Rider.riding g.K.Carry.carrying c.args.self.now.state _ c.args.c core c.args.count c.loop-last.last
           c.count_before-until.result
-          c.args.clerk.now c.loop-last.clerk before c.loop-last-test.true c.instr-at.result at_is
+          c.args.clerk.now c.loop-last.clerk before c.loop-last-test.true c.instr-at.result
+          (at_is g (goal.at.loop-last-preserved g c).After-instr-at)
           c.retire.new.self.memory _ c.alone.new.self
           c.retire.ensures.memory c.retire.ensures.carry c.carry.ensures c.alone.ensures;
       cores = ap (λ (m : Machinery g.row.R.Denot g.row.K.Denot). m.state.cores) c.self-in-loop-last.view_is

@@ -7,7 +7,7 @@ use Rattle.msi_state.specs.FinalMemory.{final_words}
 use Rattle.msi_state.specs.States.{Machinery, all_done}
 use Rattle.msi_machine.proofs.AtHand.{ends_at_hand}
 use Rattle.msi_machine.proofs.Choosing.{seen_holds}
-use Rattle.msi_machine.proofs.machine.Machine.final_words.Goals as goal
+use Rattle.msi_machine.proofs.stepped.MachineSteppedMachine.final_words.Goals as goal
 
 pub final_words-requires-clause-at_hand : goal.final_words-requires-clause-at_hand
 final_words-requires-clause-at_hand g c =

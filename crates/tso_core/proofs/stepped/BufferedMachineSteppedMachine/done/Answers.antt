@@ -6,7 +6,7 @@ use Rattle.tso_state.specs.States.{State}
 use Rattle.tso_invariant.proofs.Ending.{links_left}
 use Rattle.tso_plain.proofs.Steps.{plain_done}
 use Rattle.tso_core.proofs.Ended.{ends_by, holds_seen}
-use Rattle.tso_core.proofs.machine.BufferedMachine.done.Goals as goal
+use Rattle.tso_core.proofs.stepped.BufferedMachineSteppedMachine.done.Goals as goal
 
 pub returns-clause-done : goal.returns-clause-done
 returns-clause-done g c =

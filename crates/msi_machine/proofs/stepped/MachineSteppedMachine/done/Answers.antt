@@ -11,7 +11,7 @@ use Rattle.msi_state.specs.States.{Machinery, State, all_done}
 use Rattle.msi_machine.specs.Marks.{marked}
 use Rattle.msi_machine.proofs.Ended.{ended, marked_goes_on, some_there}
 use Rattle.msi_machine.proofs.Standings.{done_stands}
-use Rattle.msi_machine.proofs.machine.Machine.done.Goals as goal
+use Rattle.msi_machine.proofs.stepped.MachineSteppedMachine.done.Goals as goal
 
 pub returns-then-not-is_empty-clause-done : goal.returns-then-not-is_empty-clause-done
 returns-then-not-is_empty-clause-done g c =

@@ -9,7 +9,7 @@ use Rattle.tso_data.specs.Orders.{Coherent}
 use Rattle.tso_invariant.proofs.Ending.{links_left}
 use Rattle.tso_core.specs.Machineries.{Machinery}
 use Rattle.machine_ports.proofs.AtHand.{ends_at_hand}
-use Rattle.tso_core.proofs.machine.BufferedMachine.final_words.Goals as goal
+use Rattle.tso_core.proofs.stepped.BufferedMachineSteppedMachine.final_words.Goals as goal
 
 pub final_words-requires-clause-at_hand : goal.final_words-requires-clause-at_hand
 final_words-requires-clause-at_hand g c =
