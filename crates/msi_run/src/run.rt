@@ -1,6 +1,6 @@
 //! The run of an image.
 ghost use Rattle.std.specs.Prelude.{◌≡◌, IfOk};
-ghost use Rattle.rtr_types.specs.Parameters.{Fits};
+ghost use Rattle.run_steps.specs.Ways.{IsSetUp};
 ghost use Rattle.machine_plain.specs.Plain.{plain};
 ghost use Rattle.run_outcome.specs.Outcomes.{StandsAt, outcome_of};
 
@@ -8,10 +8,10 @@ use access_times::{NoCarry, NoRider};
 use image_mem::Image;
 use msi_machine::Machine;
 use rtr_types::Params;
-use run_steps::{LoadClerk, Running, Stepping, outcome_at_end, run_to_end};
+use run_steps::{LoadClerk, Made, Running, Stepping, outcome_at_end, run_to_end};
 use rv_core::Outcome;
 use schedule_pick::Schedule;
-use std::alloc::{AllocError, Global};
+use std::alloc::Global;
 
 /// What a run came to, and the image that it was of.
 #[derive(Drop)]
@@ -26,14 +26,8 @@ pub struct Ran {
 /// no log is made. The only refusal is want of memory.
 ///
 /// The outcome is one function of image, parameters and schedule: that of the run which the recorder records.
-pub fn run_image(
-    alloc: Global,
-    image: Image,
-    params: Params,
-    schedule: Schedule,
-) -> Result<Ran, AllocError>
-    requires fits { Fits params }
-    requires words { image.words ≡ params.words }
+pub fn run_image(alloc: Global, image: Image, params: Params, schedule: Schedule) -> Made<Ran>
+    requires { IsSetUp image params }
     ensures outcome { IfOk result (λ ran. ran.outcome ≡ outcome_of image params schedule) }
     ensures image { IfOk result (λ ran. ran.image ≡ image) }
 {
@@ -61,7 +55,7 @@ impl Stepping for Runner {
 
     ghost ready = { λ r. Unit {0} };
 
-    fn turn(run: &mut Running<Self::Machine, Self::Clerk>) -> Result<(), AllocError> {
+    fn turn(run: &mut Running<Self::Machine, Self::Clerk>) -> Made<()> {
         run.machine.make_room()?;
         run.clerk.make_room()?;
         run.machine.step(run.choices.next(), &mut run.clerk);

@@ -1,15 +1,9 @@
 //! The run of an image, recorded.
 ghost use Rattle.std.specs.Prelude.{◌≡◌, IfOk};
-ghost use Rattle.conflict_edge.specs.Least.{IsLeast};
-ghost use Rattle.edge_regulate.specs.Regulated.{Knowledge, regulated};
-ghost use Rattle.race_log.specs.Sources.{log_edges};
-ghost use Rattle.race_log.specs.Validity.{Valid};
 ghost use Rattle.run_outcome.specs.Outcomes.{outcome_of};
-ghost use Rattle.rtr_types.specs.Parameters.{Fits};
-ghost use Rattle.rtr_types.specs.declared.pairs.Which.TheVariants.{Reduced};
-ghost use Rattle.run_records.specs.Recordings.{recording_of, run_accesses};
-ghost use Rattle.run_records.specs.WhatIsKnown.{CountsKnown};
+ghost use Rattle.recorder.specs.Promises.{IsRecordingOf};
 ghost use Rattle.run_records.specs.Standing.{RecordsAt};
+ghost use Rattle.run_steps.specs.Ways.{IsSetUp};
 
 use crate::run_clerk::RunClerk;
 use access_times::Times;
@@ -19,10 +13,10 @@ use msi_machine::Machine;
 use msi_run::run_image;
 use race_log::Recording;
 use rtr_types::{Items, Params};
-use run_steps::{Running, Stepping, run_to_end, totals_of};
+use run_steps::{Made, Running, Stepping, run_to_end, totals_of};
 use rv_core::Outcome;
 use schedule_pick::Schedule;
-use std::alloc::{AllocError, Global};
+use std::alloc::Global;
 
 /// The recording of a run, and what the run came to.
 #[derive(Drop)]
@@ -46,15 +40,9 @@ pub fn record_image(
     image: Image,
     params: Params,
     schedule: Schedule,
-) -> Result<Recording, AllocError>
-    requires fits { Fits params }
-    requires words { image.words ≡ params.words }
-    ensures recording { IfOk result (λ recording. recording ≡ recording_of image params schedule) }
-    ensures valid { IfOk result (λ recording. Valid recording) }
-    ensures regulated { IfOk result (λ recording. (known : Knowledge) → CountsKnown image params schedule known →
-        recording.regulated ≡ regulated params.cores known recording.reduced) }
-    ensures least { IfOk result (λ recording. IsLeast (run_accesses image params schedule)
-        (log_edges Reduced recording)) }
+) -> Made<Recording>
+    requires { IsSetUp image params }
+    ensures { IfOk result (λ recording. IsRecordingOf image params schedule recording) }
 {
     let words = image.words();
     prove!(words == params.words);
@@ -77,29 +65,16 @@ pub fn record_image(
 ///
 /// The outcome and the recording are one function of image, parameters and schedule; of the recording holds
 /// what `record_image` says.
-pub fn record_run(
-    alloc: Global,
-    image: Image,
-    params: Params,
-    schedule: Schedule,
-) -> Result<Recorded, AllocError>
-    requires fits { Fits params }
-    requires words { image.words ≡ params.words }
+pub fn record_run(alloc: Global, image: Image, params: Params, schedule: Schedule) -> Made<Recorded>
+    requires { IsSetUp image params }
     ensures outcome { IfOk result (λ run. run.outcome ≡ outcome_of image params schedule) }
-    ensures recording { IfOk result (λ run. run.recording ≡ recording_of image params schedule) }
-    ensures valid { IfOk result (λ run. Valid run.recording) }
-    ensures regulated { IfOk result (λ run. (known : Knowledge) → CountsKnown image params schedule known →
-        run.recording.regulated ≡ regulated params.cores known run.recording.reduced) }
-    ensures least { IfOk result (λ run. IsLeast (run_accesses image params schedule)
-        (log_edges Reduced run.recording)) }
+    ensures recorded { IfOk result (λ run. IsRecordingOf image params schedule run.recording) }
 {
     let again = schedule.copied(alloc)?;
     let ran = run_image(alloc, image, params, schedule)?;
     let recording = record_image(alloc, ran.image, params, again)?;
-    Ok(Recorded {
-        recording,
-        outcome: ran.outcome,
-    })
+    let outcome = ran.outcome;
+    Ok(Recorded { recording, outcome })
 }
 
 /// How the machine is stepped where its run is recorded.
@@ -115,7 +90,7 @@ impl Stepping for Recorder {
 
     ghost ready = { λ r. Unit {0} };
 
-    fn turn(run: &mut Running<Self::Machine, Self::Clerk>) -> Result<(), AllocError> {
+    fn turn(run: &mut Running<Self::Machine, Self::Clerk>) -> Made<()> {
         run.machine.make_room()?;
         run.clerk.ready()?;
         run.machine.step_timed(run.choices.next(), &mut run.clerk);

@@ -1,14 +1,13 @@
 //! Who is told of the run's retirements.
 ghost use Rattle.std.specs.Prelude.{◌≡◌, ℕ, ◌≤◌, List, [], IfOk, IsTrue, OnOk, replicate};
-ghost use Rattle.std.proofs.Common.{◌∙◌, ap};
 ghost use Rattle.rtr_types.specs.Pairs.{pair_count};
 ghost use Rattle.rtr_types.specs.declared.TheConstants.{CORES_MAX};
 ghost use Rattle.know_history.specs.Notes.{Notes, known_at, no_notes};
 ghost use Rattle.edge_regulate.specs.Regulated.{AreReady, IsRegulation, regulated};
 ghost use Rattle.edge_regulate.specs.Seats.{Follows};
-ghost use Rattle.online_reduce.proofs.ExactNext.{other_clocks_law};
 ghost use Rattle.online_reduce.specs.Reduced.{clock_of, unreduced};
 ghost use Rattle.run_records.specs.Clerks.{CanTell, IsTold};
+ghost use Rattle.run_steps.proofs.Clocks.{local_kept, touch_kept};
 
 use access_times::{Clerk, Times, TimesClerk};
 use edge_regulate::Regulator;
@@ -24,22 +23,12 @@ use stride_vector::StrideVector;
 ///
 /// The regulated log is made from what is known at the instructions up to an edge's target. So the regulator
 /// is told of a retirement first, and of its edges by `tell`, after the step in which it retired.
+#[derive(Drop)]
 pub(crate) struct RunClerk {
     reducer: Reducer,
     /// The edges of the last retirement, until the regulator is told of them.
     untold: EdgePlaces,
     regulator: Regulator,
-}
-
-// One call lets the whole clerk go, at each way out of the functions that own one.
-impl Drop for RunClerk {
-    fn drop(self) {
-        let RunClerk {
-            reducer: _reducer,
-            untold: _untold,
-            regulator: _regulator,
-        } = self;
-    }
 }
 
 /// Both logs of a run, by pair of cores.
@@ -147,16 +136,11 @@ impl Clerk<Times, Known> for RunClerk {
 }
 
 impl TimesClerk<Known> for RunClerk {
-    ghost use Rattle.online_reduce.specs.Reduced.{Reduced};
-
     ghost clock = { λ c core. clock_of c.reduction.state core };
 
-    ghost local_keeps = { λ c d at k told core other.
-        ap (λ (r : Reduced). clock_of r core) told.reduction ∙ (other_clocks_law c.reduction.state core).0 at other };
+    ghost local_keeps = { λ c d at k told. local_kept c.reduction.state d.reduction.state at told.reduction };
 
-    ghost touch_keeps = { λ c d before after a k told core other.
-        ap (λ (r : Reduced). clock_of r core) told.reduction
-        ∙ (other_clocks_law c.reduction.state core).1 a before other };
+    ghost touch_keeps = { λ c d r q a k told. touch_kept c.reduction.state d.reduction.state a r told.reduction };
 
-    ghost touch_notes = { λ c d before after a k told. told.times };
+    ghost touch_notes = { λ c d r q a k told. told.times };
 }

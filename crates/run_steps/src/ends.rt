@@ -3,10 +3,11 @@ ghost use Rattle.std.specs.Prelude.{◌≡◌, ◌%◌, IfOk, length, map, true}
 ghost use Rattle.rtr_types.specs.declared.TheConstants.{BLOCK_WORDS};
 ghost use Rattle.run_steps.specs.Ends.{outcome_with, words_in};
 
+use crate::running::Made;
 use machine_ports::SteppedMachine;
 use rtr_types::{BLOCK_WORDS, Items, Params};
 use rv_core::{Core, LoadNote, Outcome};
-use std::alloc::{AllocError, Global};
+use std::alloc::Global;
 
 /// What the machine has come to at the end, with what each core's loads got. The only refusal is want of memory.
 pub fn outcome_at_end<M: SteppedMachine>(
@@ -14,7 +15,7 @@ pub fn outcome_at_end<M: SteppedMachine>(
     machine: &M,
     loads: Items<Items<LoadNote>>,
     params: Params,
-) -> Result<Outcome, AllocError>
+) -> Made<Outcome>
     requires done { M.ended machine.now ≡ true }
     requires cores { params.cores ≡ length (M.cores machine.now) }
     requires words { params.words ≡ (M.image machine.now).words }
@@ -32,11 +33,7 @@ pub fn outcome_at_end<M: SteppedMachine>(
 }
 
 /// The cores, of which there are so many. The only refusal is want of memory.
-fn cores_of<M: SteppedMachine>(
-    alloc: Global,
-    machine: &M,
-    cores: u8,
-) -> Result<Items<Core>, AllocError>
+fn cores_of<M: SteppedMachine>(alloc: Global, machine: &M, cores: u8) -> Made<Items<Core>>
     requires { cores ≡ length (M.cores machine.now) }
     ensures { IfOk result (λ list. list ≡ M.cores machine.now) }
 {
@@ -48,11 +45,7 @@ fn cores_of<M: SteppedMachine>(
 }
 
 /// The words of the memory at the end, of which there are so many. The only refusal is want of memory.
-fn words_of<M: SteppedMachine>(
-    alloc: Global,
-    machine: &M,
-    words: u32,
-) -> Result<Items<u32>, AllocError>
+fn words_of<M: SteppedMachine>(alloc: Global, machine: &M, words: u32) -> Made<Items<u32>>
     requires done { M.ended machine.now ≡ true }
     requires words { words ≡ (M.image machine.now).words }
     requires whole { words % BLOCK_WORDS ≡ 0 }
@@ -66,11 +59,7 @@ fn words_of<M: SteppedMachine>(
 }
 
 /// How many instructions each core executed, of so many cores. The only refusal is want of memory.
-pub fn totals_of<M: SteppedMachine>(
-    alloc: Global,
-    machine: &M,
-    cores: u8,
-) -> Result<Items<u32>, AllocError>
+pub fn totals_of<M: SteppedMachine>(alloc: Global, machine: &M, cores: u8) -> Made<Items<u32>>
     requires { cores ≡ length (M.cores machine.now) }
     ensures { IfOk result (λ totals. totals ≡ map (λ k. k.count) (M.cores machine.now)) }
 {

@@ -9,5 +9,5 @@ mod stepping;
 
 pub use ends::{outcome_at_end, totals_of};
 pub use load_clerk::LoadClerk;
-pub use running::Running;
+pub use running::{Made, Running};
 pub use stepping::{Stepping, run_to_end};

@@ -6,10 +6,9 @@ ghost use Rattle.schedule_pick.specs.Choices.{Choices};
 ghost use Rattle.run_steps.specs.Ways.{IsUnderWay, running_with};
 ghost use Rattle.run_steps.specs.declared.running.Running.{Running};
 
-use crate::running::Running;
+use crate::running::{Made, Running};
 use machine_ports::SteppedMachine;
 use schedule_pick::Schedule;
-use std::alloc::AllocError;
 
 /// How runs of one kind are stepped: which machine is, who is told of its steps, and what a turn does.
 pub trait Stepping {
@@ -26,7 +25,7 @@ pub trait Stepping {
     ghost ready: { Running Self.Machine Self.Clerk → Type 0 };
 
     /// One step of the machine, with the room for it. The only refusal is want of memory.
-    fn turn(run: &mut Running<Self::Machine, Self::Clerk>) -> Result<(), AllocError>
+    fn turn(run: &mut Running<Self::Machine, Self::Clerk>) -> Made<()>
         requires going { Self.Machine.ended run.old.machine ≡ false }
         requires under_way { IsUnderWay (stands run.old) }
         requires ready { ready run.old }
@@ -42,7 +41,7 @@ pub fn run_to_end<S: Stepping>(
     machine: S::Machine,
     clerk: S::Clerk,
     choices: Schedule,
-) -> Result<Running<S::Machine, S::Clerk>, AllocError>
+) -> Made<Running<S::Machine, S::Clerk>>
     requires under_way { IsUnderWay (S.stands (running_with machine clerk choices)) }
     requires ready { S.ready (running_with machine clerk choices) }
     ensures stands { IfOk result (λ run. (image : Contents) (params : Params) (schedule : Choices) (t : ℕ)

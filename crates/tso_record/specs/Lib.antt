@@ -1,2 +1,3 @@
 pub mod Clerks
+pub mod Promises
 pub mod Standing

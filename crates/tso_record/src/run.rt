@@ -1,14 +1,10 @@
 //! The run of an image by cores with store buffers, recorded.
 ghost use Rattle.std.specs.Prelude.{◌≡◌, ◌<◌, ℕ, IfOk, IsTrue, OnOk, slice_index};
-ghost use Rattle.conflict_edge.specs.Least.{IsLeast};
-ghost use Rattle.race_log.specs.Sources.{log_edges};
-ghost use Rattle.rtr_types.specs.Parameters.{Fits};
-ghost use Rattle.rtr_types.specs.declared.pairs.Which.TheVariants.{Reduced};
-ghost use Rattle.tso_recordings.specs.Logged.{AreLogged};
-ghost use Rattle.tso_recordings.specs.Schedules.{tso_accesses_of, tso_order_of, tso_recording_of};
-ghost use Rattle.tso_codec.specs.Validity.{IsTso, plain_of};
+ghost use Rattle.run_steps.specs.Ways.{IsSetUp};
+ghost use Rattle.tso_recordings.specs.Schedules.{tso_order_of};
 ghost use Rattle.tso_core.specs.Machineries.{heads_roomy};
 ghost use Rattle.tso_outcome.specs.Outcomes.{tso_outcome_of};
+ghost use Rattle.tso_record.specs.Promises.{IsTsoRecordingOf};
 ghost use Rattle.tso_record.specs.Standing.{RecordsAt};
 ghost use Rattle.tso_replay.specs.Laws.{ReplaysTold};
 
@@ -17,22 +13,13 @@ use crate::uncarried::Uncarried;
 use access_times::Times;
 use image_mem::Image;
 use rtr_types::{Items, Params};
-use run_steps::{Running, Stepping, run_to_end, totals_of};
+use run_steps::{Made, Running, Stepping, run_to_end, totals_of};
 use rv_core::Outcome;
 use schedule_pick::Schedule;
-use std::alloc::{AllocError, Global};
+use std::alloc::Global;
 use tso_codec::TsoRecording;
 use tso_core::BufferedMachine;
 use tso_run::tso_run;
-
-/// The recording of a run, and what the run came to.
-#[derive(Drop)]
-pub struct TsoRecorded {
-    /// The recording, with the reduced log and the logged loads.
-    pub recording: TsoRecording,
-    /// The cores, the final memory and what each core's loads and atomic memory operations got.
-    pub outcome: Outcome,
-}
 
 /// Runs the image on cores with store buffers to its end, under the schedule, and records the run. The only refusal is
 /// want of memory.
@@ -49,14 +36,9 @@ pub fn tso_record_image(
     image: Image,
     params: Params,
     schedule: Schedule,
-) -> Result<TsoRecording, AllocError>
-    requires fits { Fits params }
-    requires words { image.words ≡ params.words }
-    ensures recording { IfOk result (λ recording. recording ≡ tso_recording_of image params schedule) }
-    ensures valid { IfOk result (λ recording. IsTso recording) }
-    ensures least { IfOk result (λ recording. IsLeast (tso_accesses_of image params schedule)
-        (log_edges Reduced (plain_of recording))) }
-    ensures logged { IfOk result (λ recording. AreLogged image params schedule recording.values) }
+) -> Made<TsoRecording>
+    requires { IsSetUp image params }
+    ensures recorded { IfOk result (λ recording. IsTsoRecordingOf image params schedule recording) }
     ensures replayed { IfOk result (λ recording. ReplaysTold recording (tso_order_of image params schedule)
         (tso_outcome_of image params schedule)) }
 {
@@ -71,10 +53,10 @@ pub fn tso_record_image(
     let logs = ended.clerk.finish();
     Ok(TsoRecording {
         params,
-        image: Items::from_vec(ended.machine.into_image().into_bytes()),
         totals,
         reduced: logs.reduced,
         values: logs.values,
+        image: Items::from_vec(ended.machine.into_image().into_bytes()),
     })
 }
 
@@ -89,25 +71,27 @@ pub fn tso_record(
     image: Image,
     params: Params,
     schedule: Schedule,
-) -> Result<TsoRecorded, AllocError>
-    requires fits { Fits params }
-    requires words { image.words ≡ params.words }
+) -> Made<TsoRecorded>
+    requires { IsSetUp image params }
     ensures outcome { IfOk result (λ run. run.outcome ≡ tso_outcome_of image params schedule) }
-    ensures recording { IfOk result (λ run. run.recording ≡ tso_recording_of image params schedule) }
-    ensures valid { IfOk result (λ run. IsTso run.recording) }
-    ensures least { IfOk result (λ run. IsLeast (tso_accesses_of image params schedule)
-        (log_edges Reduced (plain_of run.recording))) }
-    ensures logged { IfOk result (λ run. AreLogged image params schedule run.recording.values) }
+    ensures recorded { IfOk result (λ run. IsTsoRecordingOf image params schedule run.recording) }
     ensures replayed { IfOk result (λ run. ReplaysTold run.recording (tso_order_of image params schedule)
         run.outcome) }
 {
     let again = schedule.copied(alloc)?;
     let ran = tso_run(alloc, image, params, schedule)?;
     let recording = tso_record_image(alloc, ran.image, params, again)?;
-    Ok(TsoRecorded {
-        recording,
-        outcome: ran.outcome,
-    })
+    let outcome = ran.outcome;
+    Ok(TsoRecorded { recording, outcome })
+}
+
+/// The recording of a run, and what the run came to.
+#[derive(Drop)]
+pub struct TsoRecorded {
+    /// The recording, with the reduced log and the logged loads.
+    pub recording: TsoRecording,
+    /// The cores, the final memory and what each core's loads and atomic memory operations got.
+    pub outcome: Outcome,
 }
 
 /// Bytes are below 256.
@@ -123,16 +107,16 @@ fn are_bytes(bytes: &[u8])
 struct Recorder;
 
 impl Stepping for Recorder {
+    type Clerk = RunClerk;
+
     type Machine = BufferedMachine<Times, Uncarried>;
 
-    type Clerk = RunClerk;
+    ghost ready = { λ r. IsTrue (heads_roomy r.machine) × IsTrue r.clerk.reduction.ready × IsTrue r.clerk.roomy };
 
     ghost stands = { λ r image params schedule t.
         RecordsAt image params schedule t r.machine.state r.clerk r.choices };
 
-    ghost ready = { λ r. IsTrue (heads_roomy r.machine) × IsTrue r.clerk.reduction.ready × IsTrue r.clerk.roomy };
-
-    fn turn(run: &mut Running<Self::Machine, Self::Clerk>) -> Result<(), AllocError> {
+    fn turn(run: &mut Running<Self::Machine, Self::Clerk>) -> Made<()> {
         run.machine.step_timed(run.choices.next(), &mut run.clerk);
         make_rooms(&mut run.machine, &mut run.clerk)?;
         Ok(())
@@ -142,10 +126,7 @@ impl Stepping for Recorder {
 /// Makes room for the next step, in the machine and in the clerk.
 ///
 /// It is made behind each step, so that the machine tells without another look at the home whether a move is left.
-fn make_rooms(
-    machine: &mut BufferedMachine<Times, Uncarried>,
-    clerk: &mut RunClerk,
-) -> Result<(), AllocError>
+fn make_rooms(machine: &mut BufferedMachine<Times, Uncarried>, clerk: &mut RunClerk) -> Made<()>
     ensures state { machine.new.state ≡ machine.old.state }
     ensures reduction { clerk.new.reduction.state ≡ clerk.old.reduction.state }
     ensures values { clerk.new.values ≡ clerk.old.values }

@@ -1,9 +1,8 @@
 //! Who is told of the run's instructions.
 ghost use Rattle.std.specs.Prelude.{◌≡◌, ◌≤◌, [], IfOk, IsTrue, OnOk, replicate};
-ghost use Rattle.std.proofs.Common.{◌∙◌, ap};
 ghost use Rattle.rtr_types.specs.declared.TheConstants.{CORES_MAX};
-ghost use Rattle.online_reduce.proofs.ExactNext.{other_clocks_law};
 ghost use Rattle.online_reduce.specs.Reduced.{clock_of, unreduced};
+ghost use Rattle.run_steps.proofs.Clocks.{local_kept, touch_kept};
 
 use crate::uncarried::Uncarried;
 use access_times::{Clerk, Times, TimesClerk};
@@ -16,23 +15,13 @@ use tso_clerk::TsoClerk;
 
 /// Makes the reduced log of the run, and keeps the words of the loads that are logged. It keeps no access. It accepts
 /// the next instruction of each core while one more ordered access and one more logged load need no memory.
+#[derive(Drop)]
 pub(crate) struct RunClerk {
     reducer: Reducer,
-    /// The edges of the last ordered access. Nothing reads them.
-    edges: EdgePlaces,
     /// Of each core the logged loads, each with its count and its word.
     values: RoomyLists<(u32, u32)>,
-}
-
-// One call lets the whole clerk go, at each way out of the functions that own one.
-impl Drop for RunClerk {
-    fn drop(self) {
-        let RunClerk {
-            reducer: _reducer,
-            edges: _edges,
-            values: _values,
-        } = self;
-    }
+    /// The edges of the last ordered access. Nothing reads them.
+    edges: EdgePlaces,
 }
 
 /// The reduced log of a run by pair of cores, and its logged loads by core.
@@ -66,8 +55,8 @@ impl RunClerk {
         let values = RoomyLists::new(alloc, cores as usize)?;
         Ok(RunClerk {
             reducer,
-            edges: EdgePlaces::new(),
             values,
+            edges: EdgePlaces::new(),
         })
     }
 
@@ -89,14 +78,24 @@ impl RunClerk {
     {
         let RunClerk {
             reducer,
-            edges: _edges,
             values,
+            edges: _edges,
         } = self;
         RunLogs {
             reduced: reducer.finish(),
             values: values.into_items(),
         }
     }
+}
+
+impl TimesClerk<Uncarried> for RunClerk {
+    ghost clock = { λ c core. clock_of c.reduction.state core };
+
+    ghost local_keeps = { λ c d at k told. local_kept c.reduction.state d.reduction.state at told.reduction };
+
+    ghost touch_keeps = { λ c d r q a k told. touch_kept c.reduction.state d.reduction.state a r told.reduction };
+
+    ghost touch_notes = { λ c d r q a k told. told.times };
 }
 
 impl Clerk<Times, Uncarried> for RunClerk {
@@ -133,19 +132,4 @@ impl TsoClerk<Times, Uncarried> for RunClerk {
         self.reducer.local(at);
         self.values.push(at.core as usize, (at.count, value));
     }
-}
-
-impl TimesClerk<Uncarried> for RunClerk {
-    ghost use Rattle.online_reduce.specs.Reduced.{Reduced};
-
-    ghost clock = { λ c core. clock_of c.reduction.state core };
-
-    ghost local_keeps = { λ c d at k told core other.
-        ap (λ (r : Reduced). clock_of r core) told.reduction ∙ (other_clocks_law c.reduction.state core).0 at other };
-
-    ghost touch_keeps = { λ c d before after a k told core other.
-        ap (λ (r : Reduced). clock_of r core) told.reduction
-        ∙ (other_clocks_law c.reduction.state core).1 a before other };
-
-    ghost touch_notes = { λ c d before after a k told. told.times };
 }

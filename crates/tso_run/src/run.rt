@@ -1,17 +1,38 @@
 //! The run of an image by cores with store buffers.
 ghost use Rattle.std.specs.Prelude.{◌≡◌, IfOk};
-ghost use Rattle.rtr_types.specs.Parameters.{Fits};
+ghost use Rattle.run_steps.specs.Ways.{IsSetUp};
 ghost use Rattle.tso_outcome.specs.Outcomes.{StandsAt, tso_outcome_of};
 ghost use Rattle.tso_plain.specs.Plain.{plain};
 
 use access_times::{NoCarry, NoRider};
 use image_mem::Image;
 use rtr_types::Params;
-use run_steps::{LoadClerk, Running, Stepping, outcome_at_end, run_to_end};
+use run_steps::{LoadClerk, Made, Running, Stepping, outcome_at_end, run_to_end};
 use rv_core::Outcome;
 use schedule_pick::Schedule;
-use std::alloc::{AllocError, Global};
+use std::alloc::Global;
 use tso_core::BufferedMachine;
+
+/// Runs the image on cores with store buffers to its end, under the schedule. Nothing rides on copies and messages, and
+/// no log is made. The only refusal is want of memory.
+///
+/// The outcome is one function of image, parameters and schedule: that of the run which `tso_record` records. Its loads
+/// are all loads and atomic memory operations, each with the word that it got.
+pub fn tso_run(alloc: Global, image: Image, params: Params, schedule: Schedule) -> Made<TsoRan>
+    requires { IsSetUp image params }
+    ensures outcome { IfOk result (λ ran. ran.outcome ≡ tso_outcome_of image params schedule) }
+    ensures image { IfOk result (λ ran. ran.image ≡ image) }
+{
+    let machine = BufferedMachine::<NoRider, NoCarry>::new(alloc, image, params)?;
+    let clerk = LoadClerk::new(alloc, params.cores)?;
+    let ended = run_to_end::<Runner>(machine, clerk, schedule)?;
+    let loads = ended.clerk.into_loads();
+    let outcome = outcome_at_end(alloc, &ended.machine, loads, params)?;
+    Ok(TsoRan {
+        image: ended.machine.into_image(),
+        outcome,
+    })
+}
 
 /// What a run came to, and the image that it was of.
 #[derive(Drop)]
@@ -22,47 +43,20 @@ pub struct TsoRan {
     pub image: Image,
 }
 
-/// Runs the image on cores with store buffers to its end, under the schedule. Nothing rides on copies and messages, and
-/// no log is made. The only refusal is want of memory.
-///
-/// The outcome is one function of image, parameters and schedule: that of the run which `tso_record` records. Its loads
-/// are all loads and atomic memory operations, each with the word that it got.
-pub fn tso_run(
-    alloc: Global,
-    image: Image,
-    params: Params,
-    schedule: Schedule,
-) -> Result<TsoRan, AllocError>
-    requires fits { Fits params }
-    requires words { image.words ≡ params.words }
-    ensures outcome { IfOk result (λ ran. ran.outcome ≡ tso_outcome_of image params schedule) }
-    ensures image { IfOk result (λ ran. ran.image ≡ image) }
-{
-    let clerk = LoadClerk::new(alloc, params.cores)?;
-    let machine = BufferedMachine::<NoRider, NoCarry>::new(alloc, image, params)?;
-    let ended = run_to_end::<Runner>(machine, clerk, schedule)?;
-    let loads = ended.clerk.into_loads();
-    let outcome = outcome_at_end(alloc, &ended.machine, loads, params)?;
-    Ok(TsoRan {
-        outcome,
-        image: ended.machine.into_image(),
-    })
-}
-
 /// How cores with store buffers are stepped where no log is made.
 struct Runner;
 
 impl Stepping for Runner {
+    type Clerk = LoadClerk;
+
     type Machine = BufferedMachine<NoRider, NoCarry>;
 
-    type Clerk = LoadClerk;
+    ghost ready = { λ r. Unit {0} };
 
     ghost stands = { λ r image params schedule t.
         StandsAt image params schedule t (plain r.machine.state) r.clerk.lists r.choices };
 
-    ghost ready = { λ r. Unit {0} };
-
-    fn turn(run: &mut Running<Self::Machine, Self::Clerk>) -> Result<(), AllocError> {
+    fn turn(run: &mut Running<Self::Machine, Self::Clerk>) -> Made<()> {
         run.machine.make_room()?;
         run.clerk.make_room()?;
         run.machine.step(run.choices.next(), &mut run.clerk);

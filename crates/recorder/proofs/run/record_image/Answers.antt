@@ -1,15 +1,11 @@
-use Rattle.std.proofs.Common.{ap, sym, subst, ◌∙◌, arith}
-use Rattle.rtr_types.specs.declared.pairs.Which.TheVariants.{Reduced}
-use Rattle.conflict_edge.specs.Least.{IsLeast}
-use Rattle.edge_regulate.specs.Regulated.{regulated}
+use Rattle.std.proofs.Common.{refl, ap, sym, subst, ◌∙◌, arith}
 use Rattle.image_mem.specs.Contents.{Contents}
-use Rattle.race_log.specs.Sources.{log_edges}
-use Rattle.race_log.specs.Validity.{Valid}
 use Rattle.race_log.specs.declared.recording.Recording.{Recording}
 use Rattle.run_records.proofs.Ends.{recording_made}
 use Rattle.run_records.proofs.Recordings.{least, recording_valid_law, regulated_log_law}
-use Rattle.run_records.specs.Recordings.{run_accesses}
+use Rattle.run_records.specs.Recordings.{recording_of}
 use Rattle.run_steps.proofs.Starts.{under_way}
+use Rattle.recorder.specs.Promises.{IsRecordingOf}
 use Rattle.recorder.proofs.Ending.{recorded}
 use Rattle.recorder.proofs.Starting.{records_start}
 use Rattle.recorder.proofs.run.record_image.Goals as goal
@@ -44,15 +40,11 @@ returns c =
     (c.from_vec.ensures ∙ c.into_bytes.ensures ∙ ap (λ (i : Contents). i.bytes) (c.into_image.ensures ∙ image_is))
     (c.in_ok-totals.ensures ∙ it.totals) (c.finish-logs.ensures.reduced ∙ it.reduced)
     (c.finish-logs.ensures.vectors ∙ it.regulated) in
-    record {
-      recording = made;
-      valid = subst Valid (sym made) (recording_valid_law c.args.image c.args.params c.args.schedule c.requires.fits
-          c.requires.words
-          (omega (arith, c.words-words.ensures.value, c.words-words.ensures.room, c.requires.words)));
-      regulated = λ known counts. ap (λ (r : Recording). r.regulated) made
-          ∙ regulated_log_law c.args.image c.args.params c.args.schedule known c.requires.fits counts
-          ∙ ap (λ (r : Recording). regulated c.args.params.cores known r.reduced) (sym made);
-      least = subst (λ (r : Recording). IsLeast (run_accesses c.args.image c.args.params c.args.schedule)
-          (log_edges Reduced r)) (sym made)
-          (least c.args.image c.args.params c.args.schedule c.requires.fits);
-    }
+    let promised : IsRecordingOf a.image a.params a.schedule (recording_of a.image a.params a.schedule) = record {
+      recording = refl;
+      valid = recording_valid_law a.image a.params a.schedule c.requires.fits c.requires.words
+          (omega (arith, c.words-words.ensures.value, c.words-words.ensures.room, c.requires.words));
+      regulated = λ known counts. regulated_log_law a.image a.params a.schedule known c.requires.fits counts;
+      least = least a.image a.params a.schedule c.requires.fits;
+    } in
+    subst (λ (r : Recording). IsRecordingOf a.image a.params a.schedule r) (sym made) promised

@@ -1,26 +1,22 @@
 -- The run's clerk ends with the log and the values of what it was told, and the laws of recordings say that these are
 -- the run's.
-use Rattle.std.proofs.Common.{◌<◌, ◌*◌, ◌≤◌, ℕ, List, ap, sym, subst, ◌∙◌, arith, length}
+use Rattle.std.proofs.Common.{◌<◌, ◌*◌, ◌≤◌, ℕ, List, refl, ap, sym, subst, ◌∙◌, arith, length}
 use Rattle.std.proofs.lemmas.List.{length-map}
 use Rattle.std.proofs.lemmas.Simd.{map-map}
 use Rattle.std.specs.Prelude.{slice_index}
-use Rattle.conflict_edge.specs.Least.{IsLeast}
 use Rattle.image_mem.specs.Contents.{Contents}
-use Rattle.race_log.specs.Sources.{log_edges}
-use Rattle.rtr_types.specs.declared.pairs.Which.TheVariants.{Reduced}
 use Rattle.run_steps.proofs.Starts.{under_way}
 use Rattle.rv_core.specs.declared.core_state.Core.{Core}
 use Rattle.tso_recordings.proofs.Logged.{logged_law}
 use Rattle.tso_recordings.proofs.Schedules.{held, replayed}
-use Rattle.tso_recordings.specs.Logged.{AreLogged}
-use Rattle.tso_recordings.specs.Schedules.{tso_accesses_of, tso_order_of}
+use Rattle.tso_recordings.specs.Schedules.{tso_order_of, tso_recording_of}
 use Rattle.tso_codec.specs.declared.recording.TsoRecording.{TsoRecording}
-use Rattle.tso_codec.specs.Validity.{IsTso, plain_of}
 use Rattle.tso_outcome.specs.Outcomes.{tso_outcome_of}
 use Rattle.tso_recordings.specs.Recordings.{CanRun}
 use Rattle.tso_state.specs.States.{BufferedCore}
 use Rattle.tso_replay.specs.Laws.{ReplaysTold}
 use Rattle.tso_words.proofs.Opening.{opens_small}
+use Rattle.tso_record.specs.Promises.{IsTsoRecordingOf}
 use Rattle.tso_record.proofs.Standing.{lists_are, recording_made, records_same, records_start, totals_are, values_are}
 use Rattle.tso_record.proofs.run.tso_record_image.Goals as goal
 
@@ -80,13 +76,14 @@ returns c =
     ∙ totals_are _ _ _ _ _ _ _ c.requires.fits ok.done ended)
     (c.finish-logs.ensures.reduced ∙ lists_are _ _ _ _ _ _ _ c.requires.fits ok.done ended ∙ it.lists)
     (c.finish-logs.ensures.values ∙ values_are _ _ _ _ _ _ _ c.requires.fits ok.done ended) in
+    let promised : IsTsoRecordingOf image params schedule (tso_recording_of image params schedule) = record {
+      recording = refl;
+      valid = it.valid;
+      least = it.least;
+      logged = logged_law image params schedule c.requires.fits;
+    } in
     record {
-      recording = made;
-      valid = subst IsTso (sym made) it.valid;
-      least = subst (λ (r : TsoRecording). IsLeast (tso_accesses_of image params schedule)
-          (log_edges Reduced (plain_of r))) (sym made) it.least;
-      logged = subst (λ (r : TsoRecording). AreLogged image params schedule r.values) (sym made)
-          (logged_law image params schedule c.requires.fits);
+      recorded = subst (λ (r : TsoRecording). IsTsoRecordingOf image params schedule r) (sym made) promised;
       replayed = subst (λ (r : TsoRecording). ReplaysTold r (tso_order_of image params schedule)
           (tso_outcome_of image params schedule)) (sym made) (replayed image params schedule can);
     }

@@ -8,11 +8,6 @@ use Rattle.tso_plain.proofs.Steps.{plain_done}
 use Rattle.tso_state.specs.States.{BufferedCore}
 use Rattle.tso_run.proofs.run.tso_run.Goals as goal
 
-pub run_to_end-requires-clause-under_way : goal.run_to_end-requires-clause-under_way
-run_to_end-requires-clause-under_way c =
-    under_way _ c.args.image c.args.params c.args.schedule c.requires.fits
-    (stands_start _ _ _ _ _ c.in_ok-machine.ensures.plain c.in_ok-clerk.ensures)
-
 pub outcome_at_end-requires-clause-cores : goal.outcome_at_end-requires-clause-cores
 outcome_at_end-requires-clause-cores c =
     let a = c.args in
@@ -20,18 +15,22 @@ outcome_at_end-requires-clause-cores c =
     sym (c.in_ok-ended.ensures.stands _ _ _ _ start).1.runs.cores
     ∙ sym (length-map c.in_ok-ended.ended.machine.state.cores (λ (t : BufferedCore). t.core))
 
-pub returns-clause-outcome : goal.returns-clause-outcome
-returns-clause-outcome c =
-    let a = c.args in
-    let start = stands_start a.image a.params a.schedule _ _ c.in_ok-machine.ensures.plain c.in_ok-clerk.ensures in
-    let stands = c.in_ok-ended.ensures.stands _ _ _ _ start in
-    let s = c.in_ok-ended.ended.machine.state in
-    c.in_ok-outcome.ensures
-    ∙ ap (outcome_with (map (λ (t : BufferedCore). t.core) s.cores) (plain s).memory s.image.words)
-    c.into_loads-loads.ensures
-    ∙ outcome_is _ _ _ stands.0 (plain s) _ _ c.requires.fits
-    (sym (plain_done s) ∙ c.in_ok-ended.ensures.done) stands.1
+pub run_to_end-requires-clause-under_way : goal.run_to_end-requires-clause-under_way
+run_to_end-requires-clause-under_way c =
+    under_way _ c.args.image c.args.params c.args.schedule c.requires.fits
+    (stands_start _ _ _ _ _ c.in_ok-machine.ensures.plain c.in_ok-clerk.ensures)
 
 pub returns-clause-image : goal.returns-clause-image
 returns-clause-image c =
     c.into_image.ensures ∙ c.in_ok-ended.ensures.image ∙ ap (λ s. s.image) c.in_ok-machine.ensures.start
+
+pub returns-clause-outcome : goal.returns-clause-outcome
+returns-clause-outcome c =
+    let a = c.args in
+    let start = stands_start a.image a.params a.schedule _ _ c.in_ok-machine.ensures.plain c.in_ok-clerk.ensures in
+    let s = c.in_ok-ended.ended.machine.state in
+    c.in_ok-outcome.ensures
+    ∙ ap (outcome_with (map (λ (t : BufferedCore). t.core) s.cores) (plain s).memory s.image.words)
+    c.into_loads-loads.ensures
+    ∙ outcome_is _ _ _ _ (plain s) _ _ c.requires.fits (sym (plain_done s) ∙ c.in_ok-ended.ensures.done)
+    (c.in_ok-ended.ensures.stands _ _ _ _ start).1

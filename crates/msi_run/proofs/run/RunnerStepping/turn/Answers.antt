@@ -4,7 +4,7 @@ use Rattle.access_times.specs.declared.rider.NoRider.{NoRider}
 use Rattle.machine_plain.proofs.Shows.{plain_done}
 use Rattle.machine_plain.specs.Plain.{plain}
 use Rattle.msi_state.specs.Events.{Event}
-use Rattle.msi_state.specs.Runs.{chosen, plain_event}
+use Rattle.msi_state.specs.Runs.{plain_event}
 use Rattle.msi_state.specs.States.{State, all_done}
 use Rattle.msi_state.specs.Steps.{AcceptsNext}
 use Rattle.load_lists.specs.Lists.{LoadRooms}
@@ -12,7 +12,7 @@ use Rattle.rtr_types.specs.declared.instr.Instr.{Instr}
 use Rattle.run_outcome.proofs.Turns.{Steps, stands_next}
 use Rattle.run_outcome.specs.Loads.{lists_told}
 use Rattle.run_outcome.specs.Outcomes.{StandsAt}
-use Rattle.msi_run.proofs.Standing.{accepts_next, told_lists}
+use Rattle.msi_run.proofs.Standing.{accepts_next, steps_by, told_lists}
 use Rattle.run_steps.specs.Clerks.{Accepts}
 use Rattle.msi_run.proofs.run.RunnerStepping.turn.Goals as goal
 
@@ -30,11 +30,8 @@ returns-clause-stands c =
     let r = c.args.run.now in
     let s = c.make_room.new.self.state in
     let m = c.step.result.taken in
-    let steps : Steps (plain s) (plain c.step.new.self.state) r.choices c.next.new.self m = record {
-      taken = ap (chosen (plain s)) (sym c.next.ensures.choice) ∙ c.step.ensures.taken.plainly;
-      state = c.step.ensures.moved.plainly;
-      left = c.next.ensures.rest;
-    } in
+    let steps : Steps (plain s) (plain c.step.new.self.state) r.choices c.next.new.self m =
+    steps_by c.next.ensures.choice c.step.ensures.taken.plainly c.step.ensures.moved.plainly c.next.ensures.rest in
     let told : c.step.new.clerk.lists ≡ lists_told r.clerk.lists (plain_event (plain s) m) =
     told_lists _ _ c.make_room-2.new.self c.step.new.clerk _ _ c.step.ensures.told
     ∙ ap (λ (e : Event). lists_told c.make_room-2.new.self.lists e) c.step.ensures.moved.tells

@@ -9,7 +9,7 @@ use Rattle.tso_plain.proofs.Steps.{plain_done}
 use Rattle.tso_state.specs.Events.{Told}
 use Rattle.tso_state.specs.Runs.{chosen, plain_told}
 use Rattle.tso_state.specs.States.{State, all_done}
-use Rattle.tso_run.proofs.Telling.{IsRunning, accepts_next, all_told_loads}
+use Rattle.tso_run.proofs.Telling.{IsRunning, accepts_next, all_told_loads, steps_by}
 use Rattle.tso_run.proofs.run.RunnerStepping.turn.Goals as goal
 
 pub step-requires-clause-accepts : goal.step-requires-clause-accepts
@@ -27,11 +27,8 @@ returns-clause-stands c =
     let r = c.args.run.now in
     let s = c.make_room.new.self.state in
     let m = c.step.result in
-    let steps : Steps (plain s) (plain c.step.new.self.state) r.choices c.next.new.self m = record {
-      taken = ap (chosen (plain s)) (sym c.next.ensures.choice) ∙ c.step.ensures.taken.plainly;
-      state = c.step.ensures.moved.plainly;
-      left = c.next.ensures.rest;
-    } in
+    let steps : Steps (plain s) (plain c.step.new.self.state) r.choices c.next.new.self m =
+    steps_by c.next.ensures.choice c.step.ensures.taken.plainly c.step.ensures.moved.plainly c.next.ensures.rest in
     let told : c.step.new.clerk.lists ≡ loads_told r.clerk.lists (plain_told (plain s) m) =
     all_told_loads _ _ _ _ c.make_room-2.new.self c.step.new.clerk _ c.step.ensures.told
     ∙ ap (λ (list : List Told). loads_told c.make_room-2.new.self.lists list) c.step.ensures.moved.tells
