@@ -71,19 +71,23 @@ fn an_image_above_its_memory_is_refused(rt: HostRuntime) -> Result<(), Fail> {
 
 #[test]
 fn lanes_are_replaced_alone(rt: HostRuntime) {
-    let cases = [
-        (0, 1, 0x1122_33dd),
-        (1, 1, 0x1122_dd44),
-        (2, 1, 0x11dd_3344),
-        (7, 1, 0xdd22_3344),
-        (4, 2, 0x1122_ccdd),
-        (6, 2, 0xccdd_3344),
-        (8, 4, 0xaabb_ccdd),
-    ];
-    for (address, size, want) in cases {
-        assert!(rt; size == 1 || size == 2 || size == 4);
-        assert!(rt; address % size == 0);
-        let merged = merge_lanes(0x1122_3344, 0xaabb_ccdd, address, size);
-        assert_eq!(rt; merged, want, "at {address}, size {size}");
+    let (word, lanes) = (0x1122_3344, 0xaabb_ccdd);
+    let bytes = [0x1122_33dd, 0x1122_dd44, 0x11dd_3344, 0xdd22_3344];
+    for address in 0..8 {
+        let want = bytes[address as usize % 4];
+        assert_eq!(rt;
+            merge_lanes(word, lanes, address, 1),
+            want,
+            "a byte at {address}"
+        );
     }
+    for (address, want) in [(4, 0x1122_ccdd), (6, 0xccdd_3344)] {
+        assert!(rt; address % 2 == 0);
+        assert_eq!(rt;
+            merge_lanes(word, lanes, address, 2),
+            want,
+            "a half word at {address}"
+        );
+    }
+    assert_eq!(rt; merge_lanes(word, lanes, 8, 4), lanes);
 }

@@ -10,3 +10,4 @@ mod walks;
 
 pub use place::Place;
 pub use stops::Stops;
+pub use walks::Stopped;

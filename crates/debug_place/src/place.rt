@@ -12,7 +12,7 @@ ghost use Rattle.debug_place.specs.Stops.{GoesOn};
 
 use crate::looks::last_stop;
 use crate::stops::Stops;
-use crate::walks::{go_on, go_until, replay_at};
+use crate::walks::{Stopped, go_on, go_until, replay_at};
 use cut_moves::{step, step_back, timeline};
 use replay_audit::Audited;
 use replay_core::Replay;
@@ -162,12 +162,7 @@ impl<'a> Place<'a> {
     /// Goes on to a closed cut that contains the present one, place by place along the timeline, until the test stops
     /// it before a core takes its next instruction. It answers which core that is, or that it came to the cut. It is
     /// refused for want of memory alone, and then the place is at a closed cut between the two.
-    pub fn go_to<S: Stops>(
-        &mut self,
-        alloc: Global,
-        stops: &S,
-        to: &Cut,
-    ) -> Result<Option<u8>, AllocError>
+    pub fn go_to<S: Stops>(&mut self, alloc: Global, stops: &S, to: &Cut) -> Stopped
         requires closed { IsClosed self.old.which self.old.recording to.now }
         requires within { IsContained (cut_at self.old) to.now }
         ensures kept { IsKept self.old self.new }
@@ -189,12 +184,7 @@ impl<'a> Place<'a> {
     /// the last cut of the way from there to here at which it stops before a core takes its next instruction. It
     /// answers which core that is, or that it came to the cut. A refusal, which comes for want of memory alone, leaves
     /// the place as it was.
-    pub fn back<S: Stops>(
-        &mut self,
-        alloc: Global,
-        stops: &S,
-        to: &Cut,
-    ) -> Result<Option<u8>, AllocError>
+    pub fn back<S: Stops>(&mut self, alloc: Global, stops: &S, to: &Cut) -> Stopped
         requires closed { IsClosed self.old.which self.old.recording to.now }
         requires within { IsContained to.now (cut_at self.old) }
         ensures kept { IsKept self.old self.new }

@@ -22,7 +22,7 @@ const PLACES: usize = CORES_MAX as usize;
 
 /// Before which core's next instruction a move was stopped; none where it came to its cut. It is refused for want of
 /// memory alone.
-pub(crate) type Stopped = Result<Option<u8>, AllocError>;
+pub type Stopped = Result<Option<u8>, AllocError>;
 
 /// A replay from the beginning to a closed cut.
 pub(crate) fn replay_at<'a>(

@@ -188,24 +188,25 @@ fn put_stop(alloc: Global, out: &mut Vec<u8>, stop: &Stop) -> Result<(), AllocEr
     ensures { OnOk result (out.new.items ≡ out.old.items ++ stop_text stop.now) }
 {
     put(out, "T")?;
-    put(out, signal_number(stop.signal))?;
+    put_signal(out, stop.signal)?;
     put(out, "thread:")?;
     put_number(alloc, out, stop.core as u64 + 1)?;
     put(out, ";")?;
     put_why(alloc, out, stop.why)
 }
 
-/// The number of a signal.
-fn signal_number(signal: Signal) -> &'static str
-    ensures { result.now ≡ signal_number signal }
+/// Writes the number of a signal.
+fn put_signal(out: &mut Vec<u8>, signal: Signal) -> Result<(), AllocError>
+    ensures { OnOk result (out.new.items ≡ out.old.items ++ signal_number signal) }
 {
-    match signal {
+    let number = match signal {
         Signal::Interrupt => "02",
         Signal::Illegal => "04",
         Signal::Trap => "05",
         Signal::Misaligned => "0a",
         Signal::Segment => "0b",
-    }
+    };
+    put(out, number)
 }
 
 /// Writes why a program has stopped.

@@ -160,11 +160,11 @@ greets_some wire line next left mid left' got mid' got' count w hears =
     subst (λ (e : Event). Appends mid' got' (acknowledged w.behind e)) (sym hears.told_is) hears.given in
     let byte : ℕ = hears.byte in
     record {
+      byte = byte;
       heard = w.heard;
       said = w.said;
       before = w.behind;
       is_said = w.is_said;
-      byte = byte;
       ends = sym hears.told_is;
       shows = hears.shows;
       taken = Consumes-append left mid left' w.heard (byte ∷ []) w.taken hears.taken;

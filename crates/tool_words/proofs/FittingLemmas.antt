@@ -28,7 +28,7 @@ use Rattle.tool_words.specs.Choices.{are_choices}
 use Rattle.tool_words.specs.Options.{are_together_few, is_set, no_settings, params_of, put}
 use Rattle.tool_words.specs.Options.{put_new, which_of, whole_blocks, cores_default, limit_default}
 use Rattle.tool_words.specs.Options.{words_default, threads_max}
-use Rattle.tool_words.specs.Commands.{AreFewThreads, HasFittingParams, MayBe, command_of, instr, named_instr, shaped}
+use Rattle.tool_words.specs.Commands.{AreFewThreads, HasFittingParams, MayBe, command_of, named_instr, shaped}
 use Rattle.tool_words.specs.Commands.{verb_named}
 use Rattle.tool_words.specs.Reading.{Set, settings, settled, settled_by, few_together, FittingLaw}
 
@@ -150,18 +150,18 @@ put_new-fits s t Choices text h fit =
     put-one (record s { choices = Some text }) t (if-some (are_choices text) _ t h) fit
 put_new-fits s t Seed text h fit = put-some (λ n. record s { seed = Some n }) _ t h (λ n is. fit)
 put_new-fits s t Log text h fit = put-some (λ w. record s { log = Some w }) _ t h (λ w is. fit)
-put_new-fits s t Loads text h fit = put-one (record s { loads = true }) t h fit
-put_new-fits s t Elf text h fit = put-one (record s { elf = true }) t h fit
 put_new-fits s t Shape text h fit = put-some (λ shape. record s { shape = Some shape }) _ t h (λ shape is. fit)
 put_new-fits s t Number text h fit = put-some (λ n. record s { number = Some n }) _ t h (λ n is. fit)
 put_new-fits s t Core text h fit = put-some (λ n. record s { core = Some n }) _ t h
     (λ n is. let range = core_range n text is in search (rules, fit, range))
 put_new-fits s t Count text h fit = put-some (λ n. record s { count = Some n }) _ t h
     (λ n is. let range = number_between-range 1 LIMIT_MAX n text is in search (rules, fit, range))
-put_new-fits s t Latest text h fit = put-one (record s { latest = true }) t h fit
-put_new-fits s t Certified text h fit = put-one (record s { certify = true }) t h fit
 put_new-fits s t Threads text h fit = put-some (λ n. record s { threads = Some n }) _ t h
     (λ n is. let range = number_between-range 1 threads_max n text is in search (rules, fit, range))
+put_new-fits s t Loads text h fit = put-one (record s { loads = true }) t h fit
+put_new-fits s t Elf text h fit = put-one (record s { elf = true }) t h fit
+put_new-fits s t Latest text h fit = put-one (record s { latest = true }) t h fit
+put_new-fits s t Certified text h fit = put-one (record s { certify = true }) t h fit
 
 put-fits : (s t : Settings) (name : Name) (text : List ℕ) → put s name text ≡ Some t → AreFitting (ranged s)
     → AreFitting (ranged t)
@@ -233,6 +233,7 @@ shaped-takes s p h =
 -- an instruction whose core and count are in their ranges
 instr_may_be : (s : Settings) (at : Instr) → named_instr s ≡ Some at → AreFitting (ranged s) → MayBe at
 instr_may_be s at h fit =
+    let instr : ℕ → ℕ → Instr = λ core count. record { core = core; count = count } in
     let core = and_then-some (λ core. option_map (instr core) s.count) s.core at h in
     let count = map-some (instr core.0) s.count at core.2 in
     let below : CoreFits (Some core.0) = subst (λ (o : Option ℕ). CoreFits o) core.1 fit.core in

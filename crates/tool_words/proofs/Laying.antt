@@ -63,15 +63,15 @@ merge d s = record {
   choices = pick d.choices s.choices;
   seed = pick d.seed s.seed;
   log = pick d.log s.log;
-  loads = d.loads || s.loads;
-  elf = d.elf || s.elf;
   shape = pick d.shape s.shape;
   number = pick d.number s.number;
   core = pick d.core s.core;
   count = pick d.count s.count;
+  threads = pick d.threads s.threads;
+  loads = d.loads || s.loads;
+  elf = d.elf || s.elf;
   latest = d.latest || s.latest;
   certify = d.certify || s.certify;
-  threads = pick d.threads s.threads;
 }
 
 -- some option is set in both
@@ -80,11 +80,11 @@ overlaps d s =
     (is_some d.cores && is_some s.cores) || ((is_some d.limit && is_some s.limit)
     || ((is_some d.words && is_some s.words) || ((is_some d.choices && is_some s.choices)
     || ((is_some d.seed && is_some s.seed) || ((is_some d.log && is_some s.log)
-    || ((d.loads && s.loads) || ((d.elf && s.elf)
     || ((is_some d.shape && is_some s.shape) || ((is_some d.number && is_some s.number)
     || ((is_some d.core && is_some s.core) || ((is_some d.count && is_some s.count)
-    || ((d.latest && s.latest) || ((d.certify && s.certify)
-    || ((is_some d.threads && is_some s.threads)))))))))))))))
+    || ((is_some d.threads && is_some s.threads) || ((d.loads && s.loads)
+    || ((d.elf && s.elf) || ((d.latest && s.latest)
+    || ((d.certify && s.certify)))))))))))))))
 
 -- what a setting does to the others: it lays one option over them, and was set before where that option was
 abbrev pub Lays : Settings → Name → List ℕ → Type 0
@@ -127,8 +127,6 @@ lays s Seed text = lay Seed (λ s v. record s { seed = Some v }) s (λ v. refl) 
     (number_between 0 (2 ^ 64 - 1) text)
 lays s Log text = lay Log (λ s v. record s { log = Some v }) s (λ v. refl) (λ v. or-false (is_some s.log))
     (log_named text)
-lays s Loads text = lay-flag (record s { loads = true }) s.loads
-lays s Elf text = lay-flag (record s { elf = true }) s.elf
 lays s Shape text = lay Shape (λ s v. record s { shape = Some v }) s (λ v. refl) (λ v. or-false (is_some s.shape))
     (shape_named text)
 lays s Number text = lay Number (λ s v. record s { number = Some v }) s (λ v. refl) (λ v. or-false (is_some s.number))
@@ -137,10 +135,12 @@ lays s Core text = lay Core (λ s v. record s { core = Some v }) s (λ v. refl) 
     (number_between 0 (CORES_MAX - 1) text)
 lays s Count text = lay Count (λ s v. record s { count = Some v }) s (λ v. refl) (λ v. or-false (is_some s.count))
     (number_between 1 LIMIT_MAX text)
+lays s Threads text = lay Threads (λ s v. record s { threads = Some v }) s (λ v. refl)
+    (λ v. or-false (is_some s.threads)) (number_between 1 threads_max text)
+lays s Loads text = lay-flag (record s { loads = true }) s.loads
+lays s Elf text = lay-flag (record s { elf = true }) s.elf
 lays s Latest text = lay-flag (record s { latest = true }) s.latest
-lays s Certified text = lay-flag (record s { certify = true }) s.certify
-lays s Threads text = lay Threads (λ s v. record s { threads = Some v }) s (λ v. refl) (λ v. refl)
-    (number_between 1 threads_max text)
+lays s Certified text = (refl, refl)
 
 -- no option is set in both
 abbrev pub Apart : (d e : Settings) → Type 0
@@ -164,15 +164,15 @@ overlaps-before d e s h =
       is-some-pick e.choices d.choices s.choices (h Choices),
       is-some-pick e.seed d.seed s.seed (h Seed),
       is-some-pick e.log d.log s.log (h Log),
-      or-apart e.loads d.loads s.loads (h Loads),
-      or-apart e.elf d.elf s.elf (h Elf),
       is-some-pick e.shape d.shape s.shape (h Shape),
       is-some-pick e.number d.number s.number (h Number),
       is-some-pick e.core d.core s.core (h Core),
       is-some-pick e.count d.count s.count (h Count),
+      is-some-pick e.threads d.threads s.threads (h Threads),
+      or-apart e.loads d.loads s.loads (h Loads),
+      or-apart e.elf d.elf s.elf (h Elf),
       or-apart e.latest d.latest s.latest (h Latest),
       or-apart e.certify d.certify s.certify (h Certified),
-      is-some-pick e.threads d.threads s.threads (h Threads),
     ) refl
 
 pub merge-merge : (d e s : Settings) → Apart d e → merge e (merge d s) ≡ merge d (merge e s)
@@ -184,13 +184,13 @@ merge-merge d e s h =
       pick-pick e.choices d.choices s.choices (h Choices),
       pick-pick e.seed d.seed s.seed (h Seed),
       pick-pick e.log d.log s.log (h Log),
-      or-or e.loads d.loads s.loads,
-      or-or e.elf d.elf s.elf,
       pick-pick e.shape d.shape s.shape (h Shape),
       pick-pick e.number d.number s.number (h Number),
       pick-pick e.core d.core s.core (h Core),
       pick-pick e.count d.count s.count (h Count),
+      pick-pick e.threads d.threads s.threads (h Threads),
+      or-or e.loads d.loads s.loads,
+      or-or e.elf d.elf s.elf,
       or-or e.latest d.latest s.latest,
       or-or e.certify d.certify s.certify,
-      pick-pick e.threads d.threads s.threads (h Threads),
     ) refl

@@ -61,13 +61,9 @@ shaped s =
     (λ shape. option_and_then (λ number. if takes shape number then Some (shape, number) else None) s.number)
     s.shape
 
--- an instruction by its core and its count
-abbrev pub instr : (core count : ℕ) → Instr
-instr core count = record { core = core; count = count }
-
 -- the instruction whose core and count are set, both of them
 abbrev pub named_instr : Settings → Option Instr
-named_instr s = option_and_then (λ core. option_map (instr core) s.count) s.core
+named_instr s = option_and_then (λ core. option_map (λ count. record { core = core; count = count }) s.count) s.core
 
 -- the command with these settings, and its defaults for the others; none where it lacks one that it must have
 abbrev pub command_of : Verb → Settings → Option Command

@@ -3,7 +3,6 @@ use Rattle.std.specs.Prelude.{ℕ, ◌*◌, ◌%◌, ◌-◌, ◌^◌, ◌==◌,
 use Rattle.std.specs.Prelude.{true, false, List, [], ◌∷◌, Option, Some, None, is_some, codes}
 use Rattle.std.specs.Prelude.{unwrap_or, if◌then◌else◌}
 use Rattle.std.specs.Option.{option_and_then, option_map}
-use Rattle.std.specs.Str.{bytes_eq}
 use Rattle.rtr_types.specs.declared.params.Params.{Params}
 use Rattle.rtr_types.specs.declared.pairs.Which.{Which}
 use Rattle.rtr_types.specs.declared.pairs.Which.TheVariants.{Reduced, Regulated}
@@ -118,15 +117,15 @@ no_settings = record {
   choices = None;
   seed = None;
   log = None;
-  loads = false;
-  elf = false;
   shape = None;
   number = None;
   core = None;
   count = None;
+  threads = None;
+  loads = false;
+  elf = false;
   latest = false;
   certify = false;
-  threads = None;
 }
 
 -- the number of words of a memory: in range, and of whole blocks
@@ -136,15 +135,11 @@ whole_blocks text = option_and_then (λ n. if n % BLOCK_WORDS == 0 then Some n e
 
 -- the log that a word names, exactly
 abbrev pub log_named : List ℕ → Option Which
-log_named word =
-    if bytes_eq word (codes "reduced") then Some Reduced else
-    if bytes_eq word (codes "regulated") then Some Regulated else None
+log_named word = named_by ((codes "reduced", Reduced) ∷ (codes "regulated", Regulated) ∷ []) word
 
 -- the shape that a word names, exactly
 abbrev pub shape_named : List ℕ → Option shapes.Shape
-shape_named word =
-    if bytes_eq word (codes "mix") then Some Mix else
-    if bytes_eq word (codes "lock") then Some Lock else None
+shape_named word = named_by ((codes "mix", Mix) ∷ (codes "lock", Lock) ∷ []) word
 
 -- the option is set
 abbrev pub is_set : Settings → Name → Bool
@@ -154,15 +149,15 @@ is_set s Words = is_some s.words
 is_set s Choices = is_some s.choices
 is_set s Seed = is_some s.seed
 is_set s Log = is_some s.log
-is_set s Loads = s.loads
-is_set s Elf = s.elf
 is_set s Shape = is_some s.shape
 is_set s Number = is_some s.number
 is_set s Core = is_some s.core
 is_set s Count = is_some s.count
+is_set s Threads = is_some s.threads
+is_set s Loads = s.loads
+is_set s Elf = s.elf
 is_set s Latest = s.latest
 is_set s Certified = s.certify
-is_set s Threads = is_some s.threads
 
 -- the settings with this one; none where the text is no value of it
 abbrev pub put_new : Settings → Name → List ℕ → Option Settings
@@ -172,15 +167,15 @@ put_new s Words text = option_map (λ n. record s { words = Some n }) (whole_blo
 put_new s Choices text = if are_choices text then Some (record s { choices = Some text }) else None
 put_new s Seed text = option_map (λ n. record s { seed = Some n }) (number_between 0 (2 ^ 64 - 1) text)
 put_new s Log text = option_map (λ w. record s { log = Some w }) (log_named text)
-put_new s Loads text = Some (record s { loads = true })
-put_new s Elf text = Some (record s { elf = true })
 put_new s Shape text = option_map (λ shape. record s { shape = Some shape }) (shape_named text)
 put_new s Number text = option_map (λ n. record s { number = Some n }) (number_between 0 (2 ^ 64 - 1) text)
 put_new s Core text = option_map (λ n. record s { core = Some n }) (number_between 0 (CORES_MAX - 1) text)
 put_new s Count text = option_map (λ n. record s { count = Some n }) (number_between 1 LIMIT_MAX text)
+put_new s Threads text = option_map (λ n. record s { threads = Some n }) (number_between 1 threads_max text)
+put_new s Loads text = Some (record s { loads = true })
+put_new s Elf text = Some (record s { elf = true })
 put_new s Latest text = Some (record s { latest = true })
 put_new s Certified text = Some (record s { certify = true })
-put_new s Threads text = option_map (λ n. record s { threads = Some n }) (number_between 1 threads_max text)
 
 -- the settings with one more; none where that option was set before
 abbrev pub put : Settings → Name → List ℕ → Option Settings

@@ -13,15 +13,15 @@ pub record Settings : Type 0 where
   pub choices : Option (List ℕ)
   pub seed : Option ℕ
   pub log : Option Which
-  pub loads : Bool
-  pub elf : Bool
   pub shape : Option Shape
   pub number : Option ℕ
   pub core : Option ℕ
   pub count : Option ℕ
+  pub threads : Option ℕ
+  pub loads : Bool
+  pub elf : Bool
   pub latest : Bool
   pub certify : Bool
-  pub threads : Option ℕ
 
 -- the settings as the code holds them, with the choices' text borrowed from the words
 abbrev pub seen : Held → Settings
@@ -33,13 +33,13 @@ seen s =
       choices = option_map (λ text. text.now) s.choices;
       seed = s.seed;
       log = s.log;
-      loads = s.loads;
-      elf = s.elf;
       shape = s.shape;
       number = s.number;
       core = s.core;
       count = s.count;
+      threads = s.threads;
+      loads = s.loads;
+      elf = s.elf;
       latest = s.latest;
       certify = s.certify;
-      threads = s.threads;
     }

@@ -1,11 +1,11 @@
 //! The options, and what their settings come to.
-ghost use Rattle.std.specs.Prelude.{◌≡◌};
+ghost use Rattle.std.specs.Prelude.{◌≡◌, [], ◌∷◌};
 ghost use Rattle.std.specs.Option.{option_map};
 ghost use Rattle.tool_words.specs.Settings.{seen};
 ghost use Rattle.tool_words.specs.Commands.{named_instr, shaped};
-ghost use Rattle.tool_words.specs.Options.{are_together_few, is_set, log_named, no_settings, option_named, option_of};
-ghost use Rattle.tool_words.specs.Options.{params_of, put, put_new, shape_named, takes, takes_value, which_of};
-ghost use Rattle.tool_words.specs.Options.{whole_blocks};
+ghost use Rattle.tool_words.specs.Names.{named_by};
+ghost use Rattle.tool_words.specs.Options.{are_together_few, is_set, no_settings, option_named, option_of};
+ghost use Rattle.tool_words.specs.Options.{params_of, put, put_new, takes, takes_value, which_of, whole_blocks};
 
 use crate::choices::are_choices;
 use crate::command::Verb;
@@ -36,15 +36,15 @@ pub(crate) enum Name {
     Choices,
     Seed,
     Log,
-    Loads,
-    Elf,
     Shape,
     Number,
     Core,
     Count,
+    Threads,
+    Loads,
+    Elf,
     Latest,
     Certified,
-    Threads,
 }
 
 impl Name {
@@ -137,15 +137,15 @@ pub(crate) struct Settings<'a> {
     pub(crate) choices: Option<&'a str>,
     pub(crate) seed: Option<u64>,
     pub(crate) log: Option<Which>,
-    pub(crate) loads: bool,
-    pub(crate) elf: bool,
     pub(crate) shape: Option<Shape>,
     pub(crate) number: Option<u64>,
     pub(crate) core: Option<u8>,
     pub(crate) count: Option<u32>,
+    pub(crate) threads: Option<u32>,
+    pub(crate) loads: bool,
+    pub(crate) elf: bool,
     pub(crate) latest: bool,
     pub(crate) certify: bool,
-    pub(crate) threads: Option<u32>,
 }
 
 impl<'a> Settings<'a> {
@@ -160,15 +160,15 @@ impl<'a> Settings<'a> {
             choices: None,
             seed: None,
             log: None,
-            loads: false,
-            elf: false,
             shape: None,
             number: None,
             core: None,
             count: None,
+            threads: None,
+            loads: false,
+            elf: false,
             latest: false,
             certify: false,
-            threads: None,
         }
     }
 
@@ -194,15 +194,15 @@ impl<'a> Settings<'a> {
             Name::Choices => self.choices.is_some(),
             Name::Seed => self.seed.is_some(),
             Name::Log => self.log.is_some(),
-            Name::Loads => self.loads,
-            Name::Elf => self.elf,
             Name::Shape => self.shape.is_some(),
             Name::Number => self.number.is_some(),
             Name::Core => self.core.is_some(),
             Name::Count => self.count.is_some(),
+            Name::Threads => self.threads.is_some(),
+            Name::Loads => self.loads,
+            Name::Elf => self.elf,
             Name::Latest => self.latest,
             Name::Certified => self.certify,
-            Name::Threads => self.threads.is_some(),
         }
     }
 
@@ -216,18 +216,26 @@ impl<'a> Settings<'a> {
             Name::Limit => next.limit = Some(number_between(1, LIMIT_MAX as u64, text)? as u32),
             Name::Words => next.words = Some(whole_blocks(text)?),
             Name::Seed => next.seed = Some(number_between(0, u64::MAX, text)?),
-            Name::Log => next.log = Some(log_named(text)?),
-            Name::Loads => next.loads = true,
-            Name::Elf => next.elf = true,
-            Name::Shape => next.shape = Some(shape_named(text)?),
+            Name::Log => next.log = Some(one_of(
+                text,
+                ("reduced", Which::Reduced),
+                ("regulated", Which::Regulated),
+            )?),
+            Name::Shape => next.shape = Some(one_of(
+                text,
+                ("mix", Shape::Mix),
+                ("lock", Shape::Lock),
+            )?),
             Name::Number => next.number = Some(number_between(0, u64::MAX, text)?),
             Name::Core => next.core = Some(number_between(0, CORES_MAX as u64 - 1, text)? as u8),
             Name::Count => next.count = Some(number_between(1, LIMIT_MAX as u64, text)? as u32),
-            Name::Latest => next.latest = true,
-            Name::Certified => next.certify = true,
             Name::Threads => next.threads = Some(
                 number_between(1, THREADS_MAX as u64, text)? as u32,
             ),
+            Name::Loads => next.loads = true,
+            Name::Elf => next.elf = true,
+            Name::Latest => next.latest = true,
+            Name::Certified => next.certify = true,
             Name::Choices if are_choices(text.as_bytes()) => next.choices = Some(text),
             Name::Choices => return None,
         }
@@ -283,25 +291,17 @@ impl<'a> Settings<'a> {
     }
 }
 
-/// The shape that the text names, exactly.
-fn shape_named(text: &str) -> Option<Shape>
-    ensures { result ≡ shape_named text.now }
+/// What the text is of two words, exactly, by what each of them means.
+fn one_of<T: Copy>(text: &str, first: (&str, T), second: (&str, T)) -> Option<T>
+    ensures { result ≡ named_by
+        ((first.entry.0.now, first.entry.1) ∷ (second.entry.0.now, second.entry.1) ∷ []) text.now }
 {
-    match text {
-        "mix" => Some(Shape::Mix),
-        "lock" => Some(Shape::Lock),
-        _ => None,
-    }
-}
-
-/// The log that the text names, exactly.
-fn log_named(text: &str) -> Option<Which>
-    ensures { result ≡ log_named text.now }
-{
-    match text {
-        "reduced" => Some(Which::Reduced),
-        "regulated" => Some(Which::Regulated),
-        _ => None,
+    if text == first.0 {
+        Some(first.1)
+    } else if text == second.0 {
+        Some(second.1)
+    } else {
+        None
     }
 }
 

@@ -16,15 +16,15 @@ invariant-loop-next l = record {
         choices = option_map (λ text. text.now) l.settings.1.1.1.0;
         seed = l.settings.1.1.1.1.0;
         log = l.settings.1.1.1.1.1.0;
-        loads = l.settings.1.1.1.1.1.1.0;
-        elf = l.settings.1.1.1.1.1.1.1.0;
-        shape = l.settings.1.1.1.1.1.1.1.1.0;
-        number = l.settings.1.1.1.1.1.1.1.1.1.0;
-        core = l.settings.1.1.1.1.1.1.1.1.1.1.0;
-        count = l.settings.1.1.1.1.1.1.1.1.1.1.1.0;
-        latest = l.settings.1.1.1.1.1.1.1.1.1.1.1.1.0;
-        certify = l.settings.1.1.1.1.1.1.1.1.1.1.1.1.1.0;
-        threads = l.settings.1.1.1.1.1.1.1.1.1.1.1.1.1.1.0;
+        shape = l.settings.1.1.1.1.1.1.0;
+        number = l.settings.1.1.1.1.1.1.1.0;
+        core = l.settings.1.1.1.1.1.1.1.1.0;
+        count = l.settings.1.1.1.1.1.1.1.1.1.0;
+        threads = l.settings.1.1.1.1.1.1.1.1.1.1.0;
+        loads = l.settings.1.1.1.1.1.1.1.1.1.1.1.0;
+        elf = l.settings.1.1.1.1.1.1.1.1.1.1.1.1.0;
+        latest = l.settings.1.1.1.1.1.1.1.1.1.1.1.1.1.0;
+        certify = l.settings.1.1.1.1.1.1.1.1.1.1.1.1.1.1.0;
       }) (map string_bytes (drop l.next l.words));
 }
 
