@@ -23,12 +23,22 @@ use stride_vector::StrideVector;
 ///
 /// The regulated log is made from what is known at the instructions up to an edge's target. So the regulator
 /// is told of a retirement first, and of its edges by `tell`, after the step in which it retired.
-#[derive(Drop)]
 pub(crate) struct RunClerk {
     reducer: Reducer,
     /// The edges of the last retirement, until the regulator is told of them.
     untold: EdgePlaces,
     regulator: Regulator,
+}
+
+// One call lets the whole clerk go, at each way out of the functions that own one.
+impl Drop for RunClerk {
+    fn drop(self) {
+        let RunClerk {
+            reducer: _reducer,
+            untold: _untold,
+            regulator: _regulator,
+        } = self;
+    }
 }
 
 /// Both logs of a run, by pair of cores.

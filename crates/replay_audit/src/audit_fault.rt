@@ -1,6 +1,5 @@
 //! Why a recording isn't determinate by its log.
-ghost use Rattle.std.specs.Prelude.{◌≡◌, Some, None};
-ghost use Rattle.replay_audit.specs.Audits.{fault_by};
+ghost use Rattle.std.specs.Prelude.{◌≡◌};
 ghost use Rattle.replay_audit.specs.declared.audit_fault.AuditFault.TheVariants.{OutOfMemory};
 
 use rtr_types::{Cut, Instr};
@@ -18,18 +17,6 @@ pub enum AuditFault {
     Undetermined { first: Instr, second: Instr },
     /// Memory ran out.
     OutOfMemory,
-}
-
-impl AuditFault {
-    /// What it says of the recording: the fault itself, but nothing where memory ran out.
-    pub fn of_recording(self) -> Option<AuditFault>
-        ensures { result ≡ fault_by Some None self }
-    {
-        match self {
-            AuditFault::OutOfMemory => None,
-            _ => Some(self),
-        }
-    }
 }
 
 impl From<AllocError> for AuditFault {

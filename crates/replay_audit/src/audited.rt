@@ -21,11 +21,20 @@ use std::marker::Model;
 
 /// A recording that is determinate by one of its logs, with the outcome and the accesses of the low order,
 /// and with the clocks of its instructions by the log.
-#[derive(Drop)]
 pub struct Audited {
     recording: Recording,
     which: Which,
     pass: Pass,
+}
+
+impl Drop for Audited {
+    fn drop(self) {
+        let Audited {
+            recording: _recording,
+            which: _which,
+            pass: _pass,
+        } = self;
+    }
 }
 
 impl Model for Audited {
@@ -96,8 +105,7 @@ impl Audited {
             which: _which,
             pass,
         } = self;
-        let Pass { outcome, .. } = pass;
-        (recording, outcome)
+        (recording, pass.into_outcome())
     }
 }
 
@@ -120,11 +128,20 @@ pub fn audit(alloc: Global, recording: Recording, which: Which) -> Result<Audite
 }
 
 /// What one pass over the low order found.
-#[derive(Drop)]
 struct Pass {
     outcome: Outcome,
     accesses: Items<Access>,
     clocks: LogClocks,
+}
+
+impl Drop for Pass {
+    fn drop(self) {
+        let Pass {
+            outcome: _outcome,
+            accesses: _accesses,
+            clocks: _clocks,
+        } = self;
+    }
 }
 
 impl Pass {
@@ -167,6 +184,18 @@ impl Pass {
             accesses,
             clocks,
         })
+    }
+
+    /// The outcome alone.
+    fn into_outcome(self) -> Outcome
+        ensures { result ≡ self.outcome }
+    {
+        let Pass {
+            outcome,
+            accesses: _accesses,
+            clocks: _clocks,
+        } = self;
+        outcome
     }
 }
 

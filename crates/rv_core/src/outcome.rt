@@ -14,9 +14,18 @@ pub struct LoadNote {
 
 /// What a run or a replay leaves: the cores by number, the words of memory by index, and for each
 /// core what its loads and atomic memory operations read, in program order.
-#[derive(Drop)]
 pub struct Outcome {
     pub cores: Items<Core>,
     pub words: Items<u32>,
     pub loads: Items<Items<LoadNote>>,
+}
+
+impl Drop for Outcome {
+    fn drop(self) {
+        let Outcome {
+            cores: _cores,
+            words: _words,
+            loads: _loads,
+        } = self;
+    }
 }

@@ -15,13 +15,23 @@ use tso_clerk::TsoClerk;
 
 /// Makes the reduced log of the run, and keeps the words of the loads that are logged. It keeps no access. It accepts
 /// the next instruction of each core while one more ordered access and one more logged load need no memory.
-#[derive(Drop)]
 pub(crate) struct RunClerk {
     reducer: Reducer,
     /// Of each core the logged loads, each with its count and its word.
     values: RoomyLists<(u32, u32)>,
     /// The edges of the last ordered access. Nothing reads them.
     edges: EdgePlaces,
+}
+
+// One call lets the whole clerk go, at each way out of the functions that own one.
+impl Drop for RunClerk {
+    fn drop(self) {
+        let RunClerk {
+            reducer: _reducer,
+            values: _values,
+            edges: _edges,
+        } = self;
+    }
 }
 
 /// The reduced log of a run by pair of cores, and its logged loads by core.

@@ -8,7 +8,7 @@ use Rattle.replay_core.specs.Plans.{plan_of}
 use Rattle.replay_core.specs.Orders.{IsReplayOrder}
 use Rattle.replay_audit.specs.declared.audit_fault.AuditFault.{AuditFault}
 use Rattle.replay_audit.specs.declared.audit_fault.AuditFault.TheVariants as audits
-use Rattle.replay_audit.specs.Audits.{AuditRefuses}
+use Rattle.replay_audit.specs.Audits.{AuditRefuses, fault_by}
 use Rattle.replay_audit.specs.Determinate.{IsDeterminate}
 use Rattle.vector_reduce.specs.declared.answers.ThinFault.{ThinFault}
 use Rattle.vector_reduce.specs.declared.answers.ThinFault.TheVariants as thins
@@ -102,7 +102,4 @@ ThinCheckRefuses t checks.OutOfMemory = Unit {0}
 
 -- what a check tells of an audit that was refused
 abbrev pub fault_of_audit : AuditFault → ThinCheckFault
-fault_of_audit (audits.Stuck cut) = checks.Audit (audits.Stuck cut)
-fault_of_audit (audits.Short core count) = checks.Audit (audits.Short core count)
-fault_of_audit (audits.Undetermined first second) = checks.Audit (audits.Undetermined first second)
-fault_of_audit audits.OutOfMemory = checks.OutOfMemory
+fault_of_audit fault = fault_by checks.Audit checks.OutOfMemory fault
