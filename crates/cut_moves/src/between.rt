@@ -7,12 +7,10 @@ ghost use Rattle.cut_moves.specs.Rounds.{rounds_of};
 ghost use Rattle.cut_moves.specs.Ways.{LeadsTo, way_of};
 
 use crate::by_rounds::places_in;
+use crate::lattice::PLACES;
 use replay_audit::Audited;
-use rtr_types::{CORES_MAX, Cut, Items};
+use rtr_types::{Cut, Items};
 use std::alloc::{AllocError, Global};
-
-/// A place for each core, as the length of an array.
-const PLACES: usize = CORES_MAX as usize;
 
 /// The way from a cut to a closed cut that contains it: what the higher cut has beyond the lower one, in the
 /// order of the timeline by rounds, one core a place. From the lower cut on the core of each place is ready, so a

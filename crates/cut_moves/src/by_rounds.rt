@@ -5,14 +5,12 @@ ghost use Rattle.replay_core.specs.Plans.{plan_of};
 ghost use Rattle.replay_core.specs.Tallies.{count_of};
 ghost use Rattle.cut_moves.specs.Rounds.{AreReady, NoneAreReady, SomeAreReady, round, rounds_of};
 
+use crate::lattice::PLACES;
 use crate::moves::whole;
 use replay_audit::Audited;
 use replay_core::Tally;
-use rtr_types::{CORES_MAX, CoreSet, Cut, Items};
+use rtr_types::{CoreSet, Cut, Items};
 use std::alloc::{AllocError, Global};
-
-/// A place for each core, as the length of an array.
-const PLACES: usize = CORES_MAX as usize;
 
 /// The timeline by rounds: in each round every core that is ready when the round begins retires one
 /// instruction, lower cores first. Each place of it is a core, one byte a place. It is a whole replay order, and

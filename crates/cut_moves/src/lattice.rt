@@ -5,7 +5,7 @@ ghost use Rattle.cut_moves.specs.Unions.{chosen, intersection_of, merged_by, uni
 use rtr_types::{CORES_MAX, Cut};
 
 /// A place for each core, as the length of an array.
-const PLACES: usize = CORES_MAX as usize;
+pub(crate) const PLACES: usize = CORES_MAX as usize;
 
 /// The cut that has what either has: of each core the greater of the two counts. Where both are closed it is
 /// closed, and it is the least cut that contains both.

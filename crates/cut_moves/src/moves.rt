@@ -5,14 +5,11 @@ ghost use Rattle.replay_audit.specs.Audits.{IsInstrOf};
 ghost use Rattle.cut_replay.specs.ClosedCuts.{IsClosed, IsCutOf, IsGreatestWithout, IsLeastWith, count_in};
 ghost use Rattle.cut_moves.specs.Steps.{IsHull, IsStep, IsStepBack, IsWholeCut, last_in, next_in};
 
-use crate::lattice::{intersection, union};
+use crate::lattice::{PLACES, intersection, union};
 use cut_replay::{cut_with, cut_without};
 use replay_audit::Audited;
-use rtr_types::{CORES_MAX, Cut, Instr};
+use rtr_types::{Cut, Instr};
 use std::alloc::AllocError;
-
-/// A place for each core, as the length of an array.
-const PLACES: usize = CORES_MAX as usize;
 
 /// A step of one core: the least closed cut that contains this one and holds the core's next instruction. The
 /// core moves by exactly one instruction, and the others only as far as the log demands. It takes no memory,

@@ -20,7 +20,7 @@ use rtr_types::{CORES_MAX, CoreSet, Cut};
 use std::alloc::{AllocError, Global};
 
 /// A place for each core, as the length of an array.
-const PLACES: usize = CORES_MAX as usize;
+pub(crate) const PLACES: usize = CORES_MAX as usize;
 
 /// A direction along a recording.
 #[derive(Clone, Copy)]

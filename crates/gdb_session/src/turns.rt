@@ -10,17 +10,14 @@ ghost use Rattle.gdb_session.specs.Directions.{ahead_in};
 ghost use Rattle.gdb_session.specs.Moves.{GoesWith, StepsFree, StepsInto};
 ghost use Rattle.gdb_session.specs.Stopping.{stopping_of};
 
-use crate::direction::Direction;
+use crate::direction::{Direction, PLACES};
 use crate::hearing::Hearing;
 use crate::moves::{Moved, plain_stop};
 use cut_moves::whole;
 use debug_place::Place;
 use gdb_packets::{Stop, Why};
-use rtr_types::{CORES_MAX, CoreSet};
+use rtr_types::CoreSet;
 use std::alloc::{AllocError, Global};
-
-/// A place for each core, as the length of an array.
-const PLACES: usize = CORES_MAX as usize;
 
 impl Hearing<'_> {
     /// Only these cores go on, turn by turn, and others as the log demands. Where they have nothing left, `lead` is

@@ -143,6 +143,7 @@ impl<R: Rider, K: Carry> Parts<R, K> {
         ensures { result ≡ next_instr (core_at self.now.state.cores c) }
     {
         let core = &self.cores[c as usize];
+        // For the prover: what always holds of the program and a core gives the line below.
         let _program = &self.program;
         prove!(core.count < core.limit);
         Instr {
@@ -239,7 +240,7 @@ impl<R: Rider, K: Carry> Parts<R, K> {
 }
 
 /// So many cores at their start.
-#[tactic(auto, using(machine_ports::proofs::Counting::map_range_more))]
+#[tactic(auto, using(rtr_types::proofs::Ranges::map_range_more))]
 fn first_cores(alloc: Global, cores: u8, limit: u32) -> Result<Vec<Core>, AllocError>
     ensures { IfOk result (λ made. made.items ≡ map (λ id. starting id limit) (range_with_len 0 cores)) }
 {

@@ -20,7 +20,7 @@ use std::alloc::{AllocError, Global};
 use std::marker::Model;
 
 /// A place for each core, as the length of an array.
-const PLACES: usize = CORES_MAX as usize;
+pub(crate) const PLACES: usize = CORES_MAX as usize;
 
 /// The next edges into one core: from each other core the first one to the instruction with the count
 /// `from` or to a later one. None of these leads to a count below `due`. `places` has a guess of where the

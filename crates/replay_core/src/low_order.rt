@@ -8,15 +8,13 @@ ghost use Rattle.replay_core.specs.Orders.{Full, lowest, lowest_ready};
 ghost use Rattle.replay_core.specs.Sources.{sources_in};
 ghost use Rattle.replay_core.specs.Tallies.{AreAwaited, IsNextInstr, IsOneMore, count_of};
 
+use crate::coming::PLACES;
 use crate::sourced::Sourced;
 use crate::tally::Tally;
 use race_log::Recording;
-use rtr_types::{CORES_MAX, Which};
+use rtr_types::Which;
 use std::alloc::{AllocError, Global};
 use std::marker::Model;
-
-/// A place for each core, as the length of an array.
-const PLACES: usize = CORES_MAX as usize;
 
 /// A tally along the low order, with the lowest core that is ready. Which cores below it are ready is looked
 /// at again only where a core comes as far as one of them waits for.

@@ -13,18 +13,16 @@ ghost use Rattle.replay_core.specs.Answers.{TellsOrders, Advances, AdvancesGiven
 ghost use Rattle.replay_core.specs.Answers.{IsMet, RefusesValued, UsesWithin, cut_of};
 
 use crate::answers::{Advanced, ReplayFault};
+use crate::coming::PLACES;
 use crate::low_order::LowOrder;
 use crate::one_place::{access, found, heeded, leave, note, shared};
 use image_mem::{Image, Memory};
 use load_lists::LoadLists;
 use race_log::Recording;
-use rtr_types::{CORES_MAX, Cut, Instr, Items, Kind, Which};
+use rtr_types::{Cut, Instr, Items, Kind, Which};
 use rv_core::{Core, Need, Outcome, Program};
 use std::alloc::{AllocError, Global};
 use std::marker::Model;
-
-/// A place for each core, as the length of an array.
-const PLACES: usize = CORES_MAX as usize;
 
 /// A recording that is played by one of its logs, and how far the play has come. Each place of the play
 /// is a core, which retires its next instruction over one flat memory.

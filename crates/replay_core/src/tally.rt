@@ -10,26 +10,34 @@ ghost use Rattle.replay_core.specs.Orders.{Full, is_ready, is_sourced};
 ghost use Rattle.replay_core.specs.Sources.{AreSources, sources_in};
 ghost use Rattle.replay_core.specs.Tallies.{AreWanted, IsNextInstr, IsOneMore, count_of, next_of};
 
-use crate::coming::Sources;
+use crate::coming::{PLACES, Sources};
 use crate::sourced::Sourced;
 use clock_core::Clock;
 use race_log::Recording;
-use rtr_types::{CORES_MAX, Instr, Which};
+use rtr_types::{Instr, Which};
 use std::alloc::{AllocError, Global};
 use std::marker::Model;
 
-/// A place for each core, as the length of an array.
-const PLACES: usize = CORES_MAX as usize;
-
 /// How far each core has come along an order that obeys the log, and the logged sources of its next
 /// instruction, which are looked up once.
-#[derive(Drop)]
 pub struct Tally<'a> {
     recording: &'a Recording,
     which: Which,
     counts: Vec<u32>,
     wanted: Vec<Option<Clock>>,
     sources: Sources<'a>,
+}
+
+impl Drop for Tally<'_> {
+    fn drop(self) {
+        let Tally {
+            recording: _recording,
+            which: _which,
+            counts: _counts,
+            wanted: _wanted,
+            sources: _sources,
+        } = self;
+    }
 }
 
 impl<'a> Model for Tally<'a> {

@@ -39,7 +39,7 @@ fn is_hex_digit(byte: u8) -> bool
 }
 
 /// The bytes that the digits spell.
-#[tactic(auto, using(crate::proofs::ChoiceLemmas::map_range_more), unfolding(crate::specs::Choices::spelled_bytes))]
+#[tactic(auto, using(rtr_types::proofs::Ranges::map_range_more), unfolding(crate::specs::Choices::spelled_bytes))]
 fn spelled_bytes(alloc: Global, digits: &[u8]) -> Result<Items<u8>, AllocError>
     ensures { IfOk result (λ bytes. bytes ≡ spelled_bytes digits.now) }
 {

@@ -69,7 +69,7 @@ impl<R: Rider, K: Carry> Parts<R, K> {
 }
 
 /// So many cores at their start.
-#[tactic(auto, using(machine_ports::proofs::Counting::map_range_more))]
+#[tactic(auto, using(rtr_types::proofs::Ranges::map_range_more))]
 fn first_cores(alloc: Global, cores: u8, limit: u32) -> Result<Vec<Station>, AllocError>
     ensures { IfOk result (λ made. made.items ≡ map (λ id. buffered_start id limit) (range_with_len 0 cores)) }
 {

@@ -7,7 +7,7 @@ ghost use Rattle.vector_reduce.specs.Cuts.{Holds};
 use rtr_types::{CORES_MAX, Cut, Instr};
 
 /// A place for each core, as the length of an array.
-const PLACES: usize = CORES_MAX as usize;
+pub(crate) const PLACES: usize = CORES_MAX as usize;
 
 /// A cut that is being closed: for each core how many of its instructions lie in it, and how many of the
 /// core's arrivals were gone past.

@@ -8,16 +8,14 @@ ghost use Rattle.vector_reduce.specs.Spelling.{Spells};
 ghost use Rattle.vector_reduce.specs.Validity.{IsThin, cut_of};
 ghost use Rattle.vector_reduce.specs.declared.thinned.Thinned.{Thinned as SomeThinned};
 
+use crate::closing::PLACES;
 use crate::pair_vector::vectors_of;
 use crate::thinned::{END, SHOWN, Shown, Thinned};
 use log_codec::{CodecFault, HEADER, Reading, counts, number, read_all, read_front};
 use part_lists::{ReadsItems, read_items};
 use race_log::Recording;
-use rtr_types::{CORES_MAX, Cut, Items};
+use rtr_types::{Cut, Items};
 use std::alloc::Global;
-
-/// A place for each core, as the length of an array.
-const PLACES: usize = CORES_MAX as usize;
 
 /// The letters RTR, and version 2.
 const MAGIC: [u8; 4] = [0x52, 0x54, 0x52, 2];
