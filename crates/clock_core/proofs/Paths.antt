@@ -1,8 +1,9 @@
 -- Paths, over any relation.
-use Rattle.std.proofs.Common.{◌≡◌, ℕ, zero, suc, ◌⊎◌, ◌∙◌, ap, subst, refl, inl, inr, arith, true}
+use Rattle.std.proofs.Common.{◌≡◌, ℕ, zero, suc, ◌⊎◌, subst, refl, inl, inr, arith, true}
 use Rattle.std.proofs.lemmas.Bool.Decides.{nat_tests}
 use Rattle.rtr_types.specs.declared.instr.Instr.{Instr}
 use Rattle.rtr_types.specs.Accesses.{is_same}
+use Rattle.rtr_types.proofs.Instrs.{instr_eq}
 use Rattle.clock_core.specs.Order.{Relation, Step, Path, Before, Within}
 
 pub joined_at : (E : Relation) (n : ℕ) (x y z : Instr) → Path E n x y → Before E y z → Before E x z
@@ -45,10 +46,6 @@ last_at E (suc n) x y p = let r = last_at E n p.0 y p.2 in (r.0, inr (upto r.1),
 
 abbrev instr_of : ℕ → ℕ → Instr
 instr_of c n = record { core = c; count = n }
-
--- core and count name an instruction
-pub instr_eq : (x y : Instr) → x.core ≡ y.core → x.count ≡ y.count → x ≡ y
-instr_eq x y p q = ap (λ (c : ℕ). instr_of c x.count) p ∙ ap (λ (n : ℕ). instr_of y.core n) q
 
 pub same_instr : (x y : Instr) → is_same x y ≡ true → x ≡ y
 same_instr x y t = let a : x.core ≡ y.core = grind (arith, nat_tests) in let b : x.count ≡ y.count =

@@ -5,9 +5,10 @@ use Rattle.std.proofs.lemmas.Bool.Decides.{nat_tests}
 use Rattle.std.proofs.lemmas.Bool.{cases_eq, cases_lt, cases_order}
 use Rattle.std.proofs.Math.Nat.{eq-or-lt_of_le}
 use Rattle.rtr_types.specs.declared.instr.Instr.{Instr}
+use Rattle.rtr_types.proofs.Instrs.{instr_eq}
 use Rattle.clock_core.specs.Order.{Relation, ProgramOrder, Step, Before, IsOrLeads, Among, previous}
 use Rattle.clock_core.specs.Reach.{IsClock, merged_over, with_own, IsOneOf, MergeLaw, OneClockLaw}
-use Rattle.clock_core.proofs.Paths.{joined, one, instr_eq, last_at}
+use Rattle.clock_core.proofs.Paths.{joined, one, last_at}
 
 merged_over-up : (p : ℕ → ℕ) (clock : Instr → ℕ → ℕ) (zs : List Instr) (i : ℕ) → p i ≤ merged_over p clock zs i
 merged_over-up p clock [] i = omega arith

@@ -7,8 +7,9 @@ use Rattle.std.proofs.lemmas.Bool.Decides.{nat_tests}
 use Rattle.std.proofs.lemmas.Bool.{cases_Bool}
 use Rattle.rtr_types.specs.declared.instr.Instr.{Instr}
 use Rattle.rtr_types.specs.declared.instr.Edge.{Edge}
+use Rattle.rtr_types.proofs.Instrs.{instr_eq}
 use Rattle.clock_core.specs.Order.{Among}
-use Rattle.clock_core.proofs.Paths.{instr_eq, same_instr}
+use Rattle.clock_core.proofs.Paths.{same_instr}
 use Rattle.clock_entries.specs.Ends.{instr, is_same, is_end, IsEnd, ends_to, entry_at, entry_of, Clocks}
 use Rattle.clock_entries.specs.Entries.{Entry, IsLastEntry}
 use Rattle.clock_entries.specs.Laws.{IsLog, LastEntryLaw}

@@ -5,9 +5,10 @@ use Rattle.std.proofs.lemmas.Bool.{cases_eq, cases_lt}
 use Rattle.std.proofs.Math.Nat.{eq-or-lt_of_le, eq-zero-or-pos, lt_of_not-le}
 use Rattle.rtr_types.specs.declared.instr.Instr.{Instr}
 use Rattle.rtr_types.specs.declared.instr.Edge.{Edge}
+use Rattle.rtr_types.proofs.Instrs.{instr_eq}
 use Rattle.clock_core.specs.Order.{Relation, ProgramOrder, Step, Path, Before, IsOrLeads, Among, previous}
 use Rattle.clock_core.specs.Reach.{IsClock, with_own}
-use Rattle.clock_core.proofs.Paths.{joined, one, more, last_at, instr_eq}
+use Rattle.clock_core.proofs.Paths.{joined, one, more, last_at}
 use Rattle.clock_core.proofs.Reach.{own_same, own_other}
 use Rattle.conflict_edge.specs.Least.{Others}
 use Rattle.clock_entries.specs.Ends.{instr}

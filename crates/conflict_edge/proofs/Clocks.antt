@@ -4,8 +4,9 @@ use Rattle.std.proofs.Common.{arith, true, false, nat_eq, max}
 use Rattle.std.proofs.Math.Nat.{eq-or-lt_of_le}
 use Rattle.std.proofs.lemmas.Bool.{cases_Bool, cases_lt}
 use Rattle.std.proofs.lemmas.Bool.Decides.{nat_tests}
-use Rattle.clock_core.proofs.Paths.{joined, one, instr_eq}
+use Rattle.clock_core.proofs.Paths.{joined, one}
 use Rattle.clock_core.specs.Order.{Relation, Step, Path, Before}
+use Rattle.clock_core.proofs.Reach.{reached_by}
 use Rattle.conflict_edge.proofs.Ranks.{no_cycle}
 use Rattle.conflict_edge.proofs.History.{Pair, Rising, reaches-true, reaches-false, reaches-yes, reaches-no}
 use Rattle.conflict_edge.proofs.History.{do_conflict-true, do_conflict-yes, ends, older}
@@ -13,6 +14,7 @@ use Rattle.conflict_edge.specs.Clocks.{reaches, greatest, clock}
 use Rattle.conflict_edge.specs.Conflicts.{Conflicts, do_conflict, StandsIn}
 use Rattle.rtr_types.specs.declared.access.Access.{Access}
 use Rattle.rtr_types.specs.declared.instr.Instr.{Instr}
+use Rattle.rtr_types.proofs.Instrs.{instr_eq}
 
 -- the equations of the clock
 pub clock-newest : (a : Access) (h : List Access) (y : Instr) (i : ℕ) → reaches a y ≡ true →
@@ -49,7 +51,7 @@ greatest-is f a (d ∷ h) n pos le =
     elim (cases_Bool (do_conflict d a)) [
       | inl e ↦
           let le' : n ≤ max (f d) (greatest f a h) = rw e at le in
-          elim (split n (f d) (greatest f a h) le') [
+          elim (reached_by n (f d) (greatest f a h) le') [
             | inl p ↦ (d, inl refl, do_conflict-true d a e, p)
             | inr p ↦ let q = greatest-is f a h n pos p in (q.0, inr q.1, q.2, q.3)
           ]
@@ -57,9 +59,6 @@ greatest-is f a (d ∷ h) n pos le =
           let le' : n ≤ greatest f a h = rw e at le in
           let q = greatest-is f a h n pos le' in (q.0, inr q.1, q.2, q.3)
     ]
-  where
-    split : (n x y : ℕ) → n ≤ max x y → (n ≤ x) ⊎ (n ≤ y)
-    split n x y h = grind arith
 
 -- y is in its own clock
 pub clock-own : (h : List Access) (y : Instr) → y.count ≤ clock h y y.core
@@ -176,7 +175,7 @@ clock-up_to (a ∷ h) x y pos le =
     elim (cases_Bool (reaches a y)) [
       | inl e ↦
           let le' : x.count ≤ max (clock h y x.core) (greatest (λ b. clock h b.at x.core) a h) = rw e at le in
-          elim (split x.count (clock h y x.core) (greatest (λ b. clock h b.at x.core) a h) le') [
+          elim (reached_by x.count (clock h y x.core) (greatest (λ b. clock h b.at x.core) a h) le') [
             | inl p ↦ widen_up a h x y (clock-up_to h x y pos p)
             | inr p ↦
                 let g = greatest-is (λ b. clock h b.at x.core) a h x.count pos p in
@@ -184,9 +183,6 @@ clock-up_to (a ∷ h) x y pos le =
           ]
       | inr e ↦ let le' : x.count ≤ clock h y x.core = rw e at le in widen_up a h x y (clock-up_to h x y pos le')
     ]
-  where
-    split : (n x y : ℕ) → n ≤ max x y → (n ≤ x) ⊎ (n ≤ y)
-    split n x y h = grind arith
 
 -- at its own place the clock of y has the count of y
 pub own_clock : (h : List Access) (y : Instr) → Rising h → clock h y y.core ≡ y.count

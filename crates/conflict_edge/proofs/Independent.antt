@@ -1,11 +1,12 @@
 -- Pairs that none of the others imply are covering pairs, and a least set has no others.
 use Rattle.std.proofs.Common.{◌≡◌, ◌≢◌, ℕ, zero, suc, ◌⊎◌, List, [], ◌∷◌, sym, ◌∙◌, ap, subst, inl, inr}
 use Rattle.std.proofs.lemmas.Bool.{cases_eq}
-use Rattle.clock_core.proofs.Paths.{joined, one, mapped, instr_eq}
+use Rattle.clock_core.proofs.Paths.{joined, one, mapped}
 use Rattle.clock_core.specs.Order.{Relation, Within, Step, Path, Before, Among}
 use Rattle.conflict_edge.specs.Least.{Others}
 use Rattle.rtr_types.specs.declared.instr.Edge.{Edge}
 use Rattle.rtr_types.specs.declared.instr.Instr.{Instr}
+use Rattle.rtr_types.proofs.Instrs.{instr_eq}
 
 pub cases_instr : (x y : Instr) → (x ≡ y) ⊎ (x ≢ y)
 cases_instr x y = elim (cases_eq x.core y.core) [

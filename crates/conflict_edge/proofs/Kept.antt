@@ -163,51 +163,54 @@ stands_pos (b ∷ h) a rising (inr s) = stands_pos h a rising.2 s
 at_pos : (h : List Access) (a : Access) (x : Instr) → Rising h → StandsIn h a → a.at ≡ x → 1 ≤ x.count
 at_pos h a x rising stands e = subst (λ (z : Instr). 1 ≤ z.count) e (stands_pos h a rising stands)
 
-suffices_more : (h : List Access) → Rising h → (n : ℕ) → ((x y : Instr) → Pair h x y → rank h y ≤ rank h x + n →
-    Before (Cover h) x y) → (x y : Instr) →
-    Pair h x y → rank h y ≤ rank h x + suc n → Before (Cover h) x y
-suffices_more h rising n each x y p le = by (kept_or_blocked h x y p)
+suffices_more : (history : List Access) → Rising history → (n : ℕ) →
+    ((x y : Instr) → Pair history x y → rank history y ≤ rank history x + n →
+    Before (Cover history) x y) → (x y : Instr) →
+    Pair history x y → rank history y ≤ rank history x + suc n → Before (Cover history) x y
+suffices_more history rising n each x y pair le = by (kept_or_blocked history x y pair)
   where
     cores : x.core ≢ y.core
-    cores = pair_cores h x y p
+    cores = pair_cores history x y pair
 
-    target : Ends h x y
-    target = ends h x y p
+    target : Ends history x y
+    target = ends history x y pair
 
     pos_x : 1 ≤ x.count
-    pos_x = at_pos h target.first x rising target.first_stands target.first_at
+    pos_x = at_pos history target.first x rising target.first_stands target.first_at
 
     pos_y : 1 ≤ y.count
-    pos_y = at_pos h target.second y rising target.second_stands target.second_at
+    pos_y = at_pos history target.second y rising target.second_stands target.second_at
 
-    before_y : (z : Instr) → Before (Pair h) z y → rank h z < rank h y
-    before_y z q = rank-before h rising target.second z y target.second_stands target.second_at q
+    before_y : (z : Instr) → Before (Pair history) z y → rank history z < rank history y
+    before_y z q = rank-before history rising target.second z y target.second_stands target.second_at q
 
-    shorter : (u v : Instr) → Before (Pair h) u v → rank h v ≤ rank h u + n → Before (Cover h) u v
-    shorter u v q le' = short_at h rising n each q.0 u v q.1 le'
+    shorter : (u v : Instr) → Before (Pair history) u v → rank history v ≤ rank history u + n →
+        Before (Cover history) u v
+    shorter u v q le' = short_at history rising n each q.0 u v q.1 le'
 
     own_step : ProgramOrder (previous y) y
     own_step = (refl, let e = pos_y in omega arith)
 
-    own : UpTo h x (previous y) → Before (Cover h) x y
+    own : UpTo history x (previous y) → Before (Cover history) x y
     own (inl e) = absurd (cores (ap (λ (z : Instr). z.core) e))
     own (inr q) =
-        let lt = before_y (previous y) (one (Pair h) (previous y) y (inl own_step)) in
-        joined (Cover h) x (previous y) y (shorter x (previous y) q (omega arith)) (one (Cover h) (previous y) y
+        let lt = before_y (previous y) (one (Pair history) (previous y) y (inl own_step)) in
+        joined (Cover history) x (previous y) y (shorter x (previous y) q (omega arith))
+        (one (Cover history) (previous y) y
         (inl own_step))
 
-    other : (z : Instr) → Pair h z y → z ≢ x → UpTo h x z → Before (Cover h) x y
+    other : (z : Instr) → Pair history z y → z ≢ x → UpTo history x z → Before (Cover history) x y
     other z s d (inl e) = absurd (d (sym e))
     other z s d (inr q) =
-        let lt = rank-pair h z y rising s in
-        let source = ends h z y s in
-        let up = rank-before h rising source.first x z source.first_stands source.first_at q in
-        joined (Cover h) x z y (shorter x z q (omega arith)) (each z y s (omega arith))
+        let lt = rank-pair history z y rising s in
+        let source = ends history z y s in
+        let up = rank-before history rising source.first x z source.first_stands source.first_at q in
+        joined (Cover history) x z y (shorter x z q (omega arith)) (each z y s (omega arith))
 
-    by : Kept h x y ⊎ Blocked h x y → Before (Cover h) x y
-    by (inl k) = one (Cover h) x y (inr (kept_covers h x y rising k))
-    by (inr (inl le')) = own (clock-up_to h x (previous y) pos_x le')
-    by (inr (inr b)) = other b.0 b.1 b.2 (clock-up_to h x b.0 pos_x b.3)
+    by : Kept history x y ⊎ Blocked history x y → Before (Cover history) x y
+    by (inl k) = one (Cover history) x y (inr (kept_covers history x y rising k))
+    by (inr (inl le')) = own (clock-up_to history x (previous y) pos_x le')
+    by (inr (inr b)) = other b.0 b.1 b.2 (clock-up_to history x b.0 pos_x b.3)
 
 covering_suffices_at : (h : List Access) → Rising h → (n : ℕ) (x y : Instr) → Pair h x y → rank h y ≤ rank h x + n →
     Before (Cover h) x y

@@ -7,7 +7,6 @@ use Rattle.std.specs.List.{count_by, sum_by}
 use Rattle.std.specs.List.Sorted.{IsPermutation}
 use Rattle.std.proofs.lemmas.List.Sorted.{sum_by-IsPermutation}
 use Rattle.std.proofs.lemmas.List.Sums.{sum_by-append}
-use Rattle.clock_core.proofs.Paths.{instr_eq}
 use Rattle.clock_core.specs.Order.{Among}
 use Rattle.conflict_edge.proofs.History.{Rising}
 use Rattle.conflict_edge.proofs.Kept.{Cover}
@@ -20,6 +19,7 @@ use Rattle.rtr_types.specs.declared.TheConstants.{CORES_MAX}
 use Rattle.rtr_types.specs.declared.access.Access.{Access}
 use Rattle.rtr_types.specs.declared.instr.Edge.{Edge}
 use Rattle.rtr_types.specs.declared.instr.Instr.{Instr}
+use Rattle.rtr_types.proofs.Instrs.{instr_eq}
 
 is_edge-true : (e : Edge) (x y : Instr) → is_edge x y e ≡ true → (e.from ≡ x) × (e.to ≡ y)
 is_edge-true e x y h =

@@ -5,7 +5,7 @@ use Rattle.std.proofs.Common.{Bool}
 use Rattle.std.proofs.Math.Nat.{eq-or-lt_of_le}
 use Rattle.std.proofs.lemmas.Bool.{cases_eq, cases_lt}
 use Rattle.std.proofs.lemmas.Bool.Decides.{nat_tests}
-use Rattle.clock_core.proofs.Paths.{joined, one, instr_eq}
+use Rattle.clock_core.proofs.Paths.{joined, one}
 use Rattle.clock_core.specs.Order.{Before, previous}
 use Rattle.conflict_edge.proofs.Clocks.{clock-before, clock-up_to, clock-older, clock-own, UpTo, widen_up}
 use Rattle.conflict_edge.proofs.History.{Source, Pair, Rising, ends, older, reaches-no}
@@ -17,6 +17,7 @@ use Rattle.rtr_types.specs.Accesses.{is_write}
 use Rattle.rtr_types.specs.declared.access.Access.{Access}
 use Rattle.rtr_types.specs.declared.access.Kind.{Kind}
 use Rattle.rtr_types.specs.declared.instr.Instr.{Instr}
+use Rattle.rtr_types.proofs.Instrs.{instr_eq}
 
 pub cases_kind : (k : Kind) → (is_write k ≡ false) ⊎ (is_write k ≡ true)
 cases_kind k = by (is_write k)

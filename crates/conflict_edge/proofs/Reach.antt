@@ -74,62 +74,69 @@ online_law list a x rise = (λ k. same.0 (rule.0 k), λ c. rule.1 (same.1 c))
     rule = online_rule (reverse list) a x (rising_next list a rise)
 
 -- the clock of the newest access, by those of its candidates
-pub newest_clock : (h : List Access) (a : Access) (i n : ℕ) → Rising (a ∷ h) → i ≢ a.at.core → 1 ≤ n →
-    (n ≤ clock (a ∷ h) a.at i) ↔ ((n ≤ clock h (previous a.at) i) ⊎ ((z : Instr) × Candidate h a z × (n ≤ clock h z i)))
-newest_clock h a i n rising d pos = (λ le. to (clock-up_to (a ∷ h) x a.at pos le), back)
+pub newest_clock : (history : List Access) (access : Access) (i n : ℕ) → Rising (access ∷ history) →
+    i ≢ access.at.core → 1 ≤ n →
+    (n ≤ clock (access ∷ history) access.at i) ↔
+    ((n ≤ clock history (previous access.at) i) ⊎ ((z : Instr) × Candidate history access z × (n ≤ clock history z i)))
+newest_clock history access i n rising apart pos = (λ le. to (clock-up_to (access ∷ history) x access.at pos le), back)
   where
     x : Instr
     x = record { core = i; count = n }
 
     Right : Type 0
-    Right = (n ≤ clock h (previous a.at) i) ⊎ ((z : Instr) × Candidate h a z × (n ≤ clock h z i))
+    Right = (n ≤ clock history (previous access.at) i)
+        ⊎ ((z : Instr) × Candidate history access z × (n ≤ clock history z i))
 
     up : (h' : List Access) → Rising h' → (w : Instr) → UpTo h' x w → n ≤ clock h' w i
     up h' r w (inl e) = subst (λ (v : Instr). n ≤ clock h' v i) e (clock-own h' x)
     up h' r w (inr q) = clock-before h' x w r q
 
-    leads : (w : Instr) → n ≤ clock h w i → Leads h a w →
-        (n ≤ clock h (previous a.at) i) ⊎ ((z : Instr) × Candidate h a z × (n ≤ clock h z i))
+    leads : (w : Instr) → n ≤ clock history w i → Leads history access w →
+        (n ≤ clock history (previous access.at) i)
+        ⊎ ((z : Instr) × Candidate history access z × (n ≤ clock history z i))
     leads w le (itself c) = inr (w, c, le)
-    leads w le (onward c cand p) = inr (c, cand, up h rising.2 c (joins (clock-up_to h x w pos le) p))
+    leads w le (onward c cand p) = inr (c, cand, up history rising.2 c (joins (clock-up_to history x w pos le) p))
       where
-        joins : UpTo h x w → Before (Pair h) w c → UpTo h x c
-        joins (inl e) q = inr (subst (λ (v : Instr). Before (Pair h) v c) (sym e) q)
-        joins (inr r) q = inr (joined (Pair h) x w c r q)
-    leads w le (by_own u) = inl (up h rising.2 (previous a.at) (joins (clock-up_to h x w pos le) u))
+        joins : UpTo history x w → Before (Pair history) w c → UpTo history x c
+        joins (inl e) q = inr (subst (λ (v : Instr). Before (Pair history) v c) (sym e) q)
+        joins (inr r) q = inr (joined (Pair history) x w c r q)
+    leads w le (by_own u) = inl (up history rising.2 (previous access.at) (joins (clock-up_to history x w pos le) u))
       where
-        joins : UpTo h x w → UpTo h w (previous a.at) → UpTo h x (previous a.at)
-        joins (inl e) q = subst (λ (v : Instr). UpTo h v (previous a.at)) (sym e) q
-        joins (inr r) (inl e) = inr (subst (λ (v : Instr). Before (Pair h) x v) e r)
-        joins (inr r) (inr q) = inr (joined (Pair h) x w (previous a.at) r q)
+        joins : UpTo history x w → UpTo history w (previous access.at) → UpTo history x (previous access.at)
+        joins (inl e) q = subst (λ (v : Instr). UpTo history v (previous access.at)) (sym e) q
+        joins (inr r) (inl e) = inr (subst (λ (v : Instr). Before (Pair history) x v) e r)
+        joins (inr r) (inr q) = inr (joined (Pair history) x w (previous access.at) r q)
 
-    last : (w : Instr) → UpTo (a ∷ h) x w → Step (Pair (a ∷ h)) w a.at →
-        (n ≤ clock h (previous a.at) i) ⊎ ((z : Instr) × Candidate h a z × (n ≤ clock h z i))
+    last : (w : Instr) → UpTo (access ∷ history) x w → Step (Pair (access ∷ history)) w access.at →
+        (n ≤ clock history (previous access.at) i)
+        ⊎ ((z : Instr) × Candidate history access z × (n ≤ clock history z i))
     last w u (inl s) =
-        let le = up (a ∷ h) rising w u in
-        let t = clock-program (a ∷ h) w (previous a.at) i s.0 (let lt = s.1 in omega arith) in
-        let e = before_a a h i rising in
+        let le = up (access ∷ history) rising w u in
+        let t = clock-program (access ∷ history) w (previous access.at) i s.0 (let lt = s.1 in omega arith) in
+        let e = before_a access history i rising in
         inl (omega arith)
     last w u (inr s) =
-        let src = pair_source a h w rising s in
-        let le = up (a ∷ h) rising w u in
-        let e = source_clock a h w i rising src in
-        leads w (omega arith) (source_leads h a w rising src)
+        let src = pair_source access history w rising s in
+        let le = up (access ∷ history) rising w u in
+        let e = source_clock access history w i rising src in
+        leads w (omega arith) (source_leads history access w rising src)
 
-    to : UpTo (a ∷ h) x a.at → (n ≤ clock h (previous a.at) i) ⊎ ((z : Instr) × Candidate h a z × (n ≤ clock h z i))
-    to (inl e) = absurd (d (ap (λ (v : Instr). v.core) e))
-    to (inr q) = let l = last_at (Pair (a ∷ h)) q.0 x a.at q.1 in last l.0 l.1 l.2
+    to : UpTo (access ∷ history) x access.at → (n ≤ clock history (previous access.at) i)
+        ⊎ ((z : Instr) × Candidate history access z × (n ≤ clock history z i))
+    to (inl e) = absurd (apart (ap (λ (v : Instr). v.core) e))
+    to (inr q) = let l = last_at (Pair (access ∷ history)) q.0 x access.at q.1 in last l.0 l.1 l.2
 
-    back : (n ≤ clock h (previous a.at) i) ⊎ ((z : Instr) × Candidate h a z × (n ≤ clock h z i)) →
-        n ≤ clock (a ∷ h) a.at i
+    back : (n ≤ clock history (previous access.at) i)
+        ⊎ ((z : Instr) × Candidate history access z × (n ≤ clock history z i)) →
+        n ≤ clock (access ∷ history) access.at i
     back (inl le) =
-        let e = before_a a h i rising in
-        let t = clock-program (a ∷ h) (previous a.at) a.at i refl (omega arith) in
+        let e = before_a access history i rising in
+        let t = clock-program (access ∷ history) (previous access.at) access.at i refl (omega arith) in
         omega arith
     back (inr q) =
-        let src = candidate_source h a q.0 q.1 in
-        let e = source_clock a h q.0 i rising src in
-        let t = clock-pair (a ∷ h) q.0 a.at i rising (inl (refl, src)) in
+        let src = candidate_source history access q.0 q.1 in
+        let e = source_clock access history q.0 i rising src in
+        let t = clock-pair (access ∷ history) q.0 access.at i rising (inl (refl, src)) in
         let le = q.2 in
         omega arith
 

@@ -6,6 +6,7 @@ use Rattle.std.proofs.lemmas.Bool.{cases_eq, cases_lt}
 use Rattle.std.proofs.lemmas.List.{length-append}
 use Rattle.clock_core.proofs.Paths.{joined, one, last_at}
 use Rattle.clock_core.specs.Order.{Step, Path, Before, Among, previous}
+use Rattle.clock_core.proofs.Reach.{reached_by}
 use Rattle.conflict_edge.proofs.Clocks.{UpTo, clock-before, clock-up_to, clock-own, clock-program, clock-pair}
 use Rattle.conflict_edge.proofs.Clocks.{clock-older}
 use Rattle.conflict_edge.proofs.History.{Source, Pair, Rising, ends, older, reaches-yes}
@@ -211,9 +212,11 @@ kept_free newer b g a rising k r s direct = by direct
 
 -- ---- the clock of a, by what leads to it
 
-pub direct_clock : (h : List Access) (a : Access) (i n : ℕ) → Rising (a ∷ h) → i ≢ a.at.core → 1 ≤ n →
-    (n ≤ clock (a ∷ h) a.at i) ↔ ((r : Access) × StandsIn h r × Direct r a × (n ≤ clock h r.at i))
-direct_clock h a i n rising d pos = (λ le. to (clock-up_to (a ∷ h) x a.at pos le), back)
+pub direct_clock : (history : List Access) (access : Access) (i n : ℕ) → Rising (access ∷ history) →
+    i ≢ access.at.core → 1 ≤ n →
+    (n ≤ clock (access ∷ history) access.at i) ↔
+    ((r : Access) × StandsIn history r × Direct r access × (n ≤ clock history r.at i))
+direct_clock history access i n rising apart pos = (λ le. to (clock-up_to (access ∷ history) x access.at pos le), back)
   where
     x : Instr
     x = record { core = i; count = n }
@@ -222,39 +225,44 @@ direct_clock h a i n rising d pos = (λ le. to (clock-up_to (a ∷ h) x a.at pos
     up h' r w (inl e) = subst (λ (v : Instr). n ≤ clock h' v i) e (clock-own h' x)
     up h' r w (inr q) = clock-before h' x w r q
 
-    on_core : UpTo h x (previous a.at) → (r : Access) × StandsIn h r × Direct r a × (n ≤ clock h r.at i)
-    on_core (inl e) = absurd (d (ap (λ (v : Instr). v.core) e))
-    on_core (inr p) = let r = arrives h rising.2 x (previous a.at) p d in
-        (r.there, r.stands, inl r.core_is, clock-before h x r.there.at rising.2 r.before)
+    on_core : UpTo history x (previous access.at) → (r : Access) × StandsIn history r × Direct r access
+        × (n ≤ clock history r.at i)
+    on_core (inl e) = absurd (apart (ap (λ (v : Instr). v.core) e))
+    on_core (inr p) = let r = arrives history rising.2 x (previous access.at) p apart in
+        (r.there, r.stands, inl r.core_is, clock-before history x r.there.at rising.2 r.before)
 
-    last : (w : Instr) → UpTo (a ∷ h) x w → Step (Pair (a ∷ h)) w a.at →
-        (r : Access) × StandsIn h r × Direct r a × (n ≤ clock h r.at i)
+    last : (w : Instr) → UpTo (access ∷ history) x w → Step (Pair (access ∷ history)) w access.at →
+        (r : Access) × StandsIn history r × Direct r access × (n ≤ clock history r.at i)
     last w u (inl s) =
-        let le = up (a ∷ h) rising w u in
-        let t = clock-program (a ∷ h) w (previous a.at) i s.0 (let lt = s.1 in omega arith) in
-        let e = before_a a h i rising in
-        on_core (clock-up_to h x (previous a.at) pos (omega arith))
+        let le = up (access ∷ history) rising w u in
+        let t = clock-program (access ∷ history) w (previous access.at) i s.0 (let lt = s.1 in omega arith) in
+        let e = before_a access history i rising in
+        on_core (clock-up_to history x (previous access.at) pos (omega arith))
     last w u (inr s) =
-        let src = pair_source a h w rising s in
-        let le = up (a ∷ h) rising w u in
-        let e = source_clock a h w i rising src in
-        let f : clock h src.0.at i ≡ clock h w i = ap (λ (v : Instr). clock h v i) src.2 in
+        let src = pair_source access history w rising s in
+        let le = up (access ∷ history) rising w u in
+        let e = source_clock access history w i rising src in
+        let f : clock history src.0.at i ≡ clock history w i = ap (λ (v : Instr). clock history v i) src.2 in
         (src.0, src.1, inr src.3, omega arith)
 
-    to : UpTo (a ∷ h) x a.at → (r : Access) × StandsIn h r × Direct r a × (n ≤ clock h r.at i)
-    to (inl e) = absurd (d (ap (λ (v : Instr). v.core) e))
-    to (inr q) = let l = last_at (Pair (a ∷ h)) q.0 x a.at q.1 in last l.0 l.1 l.2
+    to : UpTo (access ∷ history) x access.at → (r : Access) × StandsIn history r × Direct r access
+        × (n ≤ clock history r.at i)
+    to (inl e) = absurd (apart (ap (λ (v : Instr). v.core) e))
+    to (inr q) = let l = last_at (Pair (access ∷ history)) q.0 x access.at q.1 in last l.0 l.1 l.2
 
-    old : (r : Access) → StandsIn h r → clock (a ∷ h) r.at i ≡ clock h r.at i
-    old r s = clock-older a h r.at i (older a h r r.at rising s refl)
+    old : (r : Access) → StandsIn history r → clock (access ∷ history) r.at i ≡ clock history r.at i
+    old r s = clock-older access history r.at i (older access history r r.at rising s refl)
 
-    back_by : (r : Access) → StandsIn h r → Direct r a → n ≤ clock h r.at i → n ≤ clock (a ∷ h) a.at i
+    back_by : (r : Access) → StandsIn history r → Direct r access → n ≤ clock history r.at i →
+        n ≤ clock (access ∷ history) access.at i
     back_by r s (inl e) le =
         let lt = rising.1 r s e in
-        omega (arith, old r s, clock-program (a ∷ h) r.at a.at i e (omega arith))
-    back_by r s (inr c) le = omega (arith, old r s, clock-pair (a ∷ h) r.at a.at i rising (inl (refl, (r, s, refl, c))))
+        omega (arith, old r s, clock-program (access ∷ history) r.at access.at i e (omega arith))
+    back_by r s (inr c) le =
+        omega (arith, old r s, clock-pair (access ∷ history) r.at access.at i rising (inl (refl, (r, s, refl, c))))
 
-    back : (r : Access) × StandsIn h r × Direct r a × (n ≤ clock h r.at i) → n ≤ clock (a ∷ h) a.at i
+    back : (r : Access) × StandsIn history r × Direct r access × (n ≤ clock history r.at i) →
+        n ≤ clock (access ∷ history) access.at i
     back q = back_by q.0 q.1 q.2 q.3
 
 -- ---- the steps of the scan
@@ -288,13 +296,10 @@ pub reached_merge : (h newer : List Access) (a b : Access) (m c w : ℕ → ℕ)
     ((i : ℕ) → i < CORES_MAX → c i ≡ clock h b.at i) → ((i : ℕ) → w i ≡ max (m i) (c i)) →
     Reached h (newer ++ (b ∷ [])) a w
 reached_merge h newer a b m c w direct reached exact merged i n lt pos = (
-  λ le. to (split n (m i) (c i) (let e = merged i in omega arith)),
+  λ le. to (reached_by n (m i) (c i) (let e = merged i in omega arith)),
   λ q. back q.0 (stands_which newer (b ∷ []) q.0 q.1) q.2 q.3,
 )
   where
-    split : (n x y : ℕ) → n ≤ max x y → (n ≤ x) ⊎ (n ≤ y)
-    split n x y h = grind arith
-
     to : (n ≤ m i) ⊎ (n ≤ c i) → (r : Access) × StandsIn (newer ++ (b ∷ [])) r × Direct r a × (n ≤ clock h r.at i)
     to (inl le) = let q = (reached i n lt pos).0 le in (q.0, stands_left newer (b ∷ []) q.0 q.1, q.2, q.3)
     to (inr le) = (b, stands_right newer (b ∷ []) b (inl refl), direct, omega (arith, exact i lt))

@@ -1,7 +1,7 @@
 -- The two forms of the least set.
 use Rattle.std.proofs.Common.{◌≢◌, ◌↔◌, List, reverse, refl, inr, ◌<◌, ◌⊎◌, inl, sym, ◌≡◌}
 use Rattle.std.proofs.lemmas.Bool.{cases_order}
-use Rattle.clock_core.proofs.Paths.{one, more, instr_eq}
+use Rattle.clock_core.proofs.Paths.{one, more}
 use Rattle.clock_core.specs.Order.{Within, Before, Among}
 use Rattle.conflict_edge.proofs.History.{Pair, pair_cores}
 use Rattle.conflict_edge.proofs.Independent.{implied, in_each, others_suffice, without}
@@ -14,6 +14,7 @@ use Rattle.conflict_edge.specs.Least.{SourceLaw}
 use Rattle.rtr_types.specs.declared.access.Access.{Access}
 use Rattle.rtr_types.specs.declared.instr.Edge.{Edge}
 use Rattle.rtr_types.specs.declared.instr.Instr.{Instr}
+use Rattle.rtr_types.proofs.Instrs.{instr_eq}
 
 pub acyclic : (list : List Access) → CountsRise list → (x : Instr) → Before (ConflictPair list) x x → ⊥
 acyclic list rise x p = no_cycle (reverse list) (rising_back list rise) x (more (ConflictPair list)

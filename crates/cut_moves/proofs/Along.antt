@@ -6,6 +6,7 @@ use Rattle.std.specs.Prelude.{nat_lt, nat_le}
 use Rattle.std.specs.List.{Contains}
 use Rattle.std.proofs.lemmas.Bool.{cases_lt}
 use Rattle.std.proofs.lemmas.Bool.Decides.{nat_tests}
+use Rattle.std.proofs.Math.Bool.{and-false}
 use native.Mathlib.Decide.{ℕ_discrete}
 use Rattle.rtr_types.specs.declared.instr.Edge.{Edge}
 use Rattle.replay_core.specs.Plans.{Plan}
@@ -109,12 +110,8 @@ on_is low high at le lt =
 off_low : (low high at : ℕ) → at < low → IsOn low high at ≡ false
 off_low low high at lt = let a : nat_le low at ≡ false = grind (arith, nat_tests) in rw a refl
 
-both_false : (b : Bool) → (b && false) ≡ false
-both_false true = refl
-both_false false = refl
-
 off_high : (low high at : ℕ) → high ≤ at → IsOn low high at ≡ false
-off_high low high at le = let a : nat_lt at high ≡ false = grind (arith, nat_tests) in rw a (both_false (nat_le low at))
+off_high low high at le = let a : nat_lt at high ≡ false = grind (arith, nat_tests) in rw a (and-false (nat_le low at))
 
 abbrev OrderedOn : Plan → (low high at : ℕ → ℕ) → ℕ → List ℕ → Type 0
 OrderedOn p low high at c cs =

@@ -21,7 +21,7 @@ use Rattle.cut_moves.proofs.Unions.{union_closed, union_least}
 abbrev pub empty_cut : ℕ → Cut
 empty_cut cores = record { cores = cores; counts = replicate CORES_MAX 0 }
 
-none_in : (cores i : ℕ) → count_in (empty_cut cores) i ≡ 0
+pub none_in : (cores i : ℕ) → count_in (empty_cut cores) i ≡ 0
 none_in cores i = zero_at CORES_MAX i
 
 pub empty_closed : (which : Which) (r : Recording) (cores : ℕ) → Valid r → cores ≡ r.params.cores →

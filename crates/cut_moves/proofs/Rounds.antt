@@ -2,14 +2,13 @@
 use Rattle.std.proofs.Common.{inl, inr, ◌⊎◌, ◌≡◌, ℕ, zero, suc, ◌+◌, ◌<◌, ◌≤◌, List, [], ◌∷◌, ◌++◌, length, refl, sym}
 use Rattle.std.proofs.Common.{subst, arith, true, false, Bool}
 use Rattle.std.specs.Prelude.{sum}
-use Rattle.std.proofs.lemmas.List.Sums.{sum_by-cons}
 use native.Mathlib.Decide.{ℕ_discrete}
 use Rattle.replay_core.specs.Plans.{Plan, plan_of}
 use Rattle.replay_core.specs.Orders.{bump, counts, nought, is_ready, Sourced, Ready, Ordered, IsWhole}
 use Rattle.replay_core.proofs.Ready.{ready_true, ready_is}
 use Rattle.replay_core.proofs.Counts.{bump_same, bump_else, counts_on}
 use Rattle.replay_core.proofs.Lists.{ordered_on}
-use Rattle.replay_core.proofs.Low.{left, left_step}
+use Rattle.replay_core.proofs.Low.{left, left_nought, left_step}
 use Rattle.replay_audit.specs.Determinate.{low_order_of}
 use Rattle.replay_audit.specs.Laws.{GoesOn}
 use Rattle.replay_audit.proofs.Agreed.{every_order_law}
@@ -135,14 +134,9 @@ ends p (suc n) f le =
         (subst (λ (l : List ℕ). NoneLeft p (counts f l)) (sym (no_rounds p n f none.0))
         (λ c r. none.1 c (omega arith) (let i = r.inside in omega arith) r))
 
-pub left_all : (ts : List ℕ) (i : ℕ) → left ts nought i ≡ sum ts
-left_all [] i = refl
-left_all (t ∷ ts) i = let a = left_all ts (i + 1) in let b : sum (t ∷ ts) ≡ t + sum ts =
-    sum_by-cons (λ (x : ℕ). x) t ts in omega arith
-
 pub rounds_end : RoundsEndLaw
 unfolding timeline_of
-rounds_end p = ends p (sum p.totals) nought (let a = left_all p.totals 0 in omega arith)
+rounds_end p = ends p (sum p.totals) nought (let a = left_nought p.totals 0 in omega arith)
 
 -- ---- whole
 

@@ -18,11 +18,11 @@ use Rattle.replay_core.specs.Orders.{bump, counts, nought, is_ready}
 use Rattle.replay_core.specs.Plans.{Plan}
 use Rattle.replay_core.specs.Tallies.{Tallied, count_of}
 use Rattle.replay_core.proofs.Counts.{bump_here, bump_else, counts_on}
-use Rattle.replay_core.proofs.Low.{left}
+use Rattle.replay_core.proofs.Low.{left, left_nought}
 use Rattle.replay_core.proofs.Ready.{ready_true}
 use Rattle.cut_moves.specs.Rounds.{ready_among, round, rounds_from, timeline_of, NoneAreReady, SomeAreReady}
 use Rattle.cut_moves.specs.Ways.{with_place}
-use Rattle.cut_moves.proofs.Rounds.{left_after, left_all, no_rounds, round_ordered}
+use Rattle.cut_moves.proofs.Rounds.{left_after, no_rounds, round_ordered}
 
 -- ---- a tally that goes on
 
@@ -195,7 +195,7 @@ so_far_start p t plan_is is =
       plan_is = plan_is;
       all = ap (λ (l : List ℕ). length l) is ∙ length-replicate (length p.totals) 0;
       rounds = sum p.totals;
-      enough = let a = left_all p.totals 0 in let e = ap (λ (f : ℕ → ℕ). left p.totals f 0) none in omega arith;
+      enough = let a = left_nought p.totals 0 in let e = ap (λ (f : ℕ → ℕ). left p.totals f 0) none in omega arith;
       made = ap (λ (f : ℕ → ℕ). rounds_from p (sum p.totals) f) none;
     }
   where

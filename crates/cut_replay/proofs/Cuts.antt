@@ -17,8 +17,9 @@ use Rattle.race_log.specs.declared.recording.Recording.{Recording}
 use Rattle.race_log.specs.Sources.{HasEdge, EdgeWithin, log_edges}
 use Rattle.race_log.specs.Validity.{Valid}
 use Rattle.replay_core.specs.Play.{instr}
+use Rattle.replay_core.proofs.Sources.{edge_within}
 use Rattle.replay_audit.specs.Audits.{IsInstrOf}
-use Rattle.replay_audit.proofs.Logs.{Closed, edge_within, leads_back}
+use Rattle.replay_audit.proofs.Logs.{Closed, leads_back}
 use Rattle.cut_replay.specs.ClosedCuts.{count_in, Holds, IsCutOf, IsClosed, IsLeastWith, IsGreatestWithout}
 use Rattle.cut_replay.specs.Frees.{IsNeededBy, AreBetween, AreFree}
 

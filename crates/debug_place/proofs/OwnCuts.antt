@@ -4,8 +4,6 @@ use Rattle.std.specs.Prelude.{IsTrue, nat_lt, slice_index, Result, Ok, Err, OnEr
 use Rattle.std.proofs.Math.Path.{fun_ext}
 use Rattle.std.proofs.lemmas.Bool.{cases_lt, lt-ltb, ltb-true}
 use Rattle.std.proofs.lemmas.List.{get_or_past}
-use Rattle.rtr_types.proofs.Ranges.{zero_at}
-use Rattle.rtr_types.specs.declared.TheConstants.{CORES_MAX}
 use Rattle.rtr_types.specs.declared.cut.Cut.{Cut}
 use Rattle.rtr_types.specs.declared.pairs.Which.{Which}
 use Rattle.rv_core.specs.declared.outcome.Outcome.{Outcome}
@@ -24,7 +22,7 @@ use Rattle.cut_replay.specs.Dues.{IsOnTheWay}
 use Rattle.cut_replay.proofs.Unique.{one_cut}
 use Rattle.cut_replay.proofs.Ways.{state_at, way_start}
 use Rattle.cut_moves.proofs.Fronts.{count_is, order_cut}
-use Rattle.cut_moves.proofs.Hulls.{empty_closed, empty_cut}
+use Rattle.cut_moves.proofs.Hulls.{empty_closed, empty_cut, none_in}
 use Rattle.cut_moves.specs.Steps.{last_in, next_in}
 use Rattle.debug_place.specs.Places.{IsReplayAt}
 
@@ -167,9 +165,6 @@ cut_wanted (Ok x) which r to u valid ok = own_is ok valid
 cut_wanted (Err e) which r to u valid ok = tt
 
 -- ---- the beginning
-
-pub none_in : (cores i : ℕ) → count_in (empty_cut cores) i ≡ 0
-none_in cores i = zero_at CORES_MAX i
 
 module _ (which : Which) (r : Recording) (u : UnderWay) (valid : Valid r) (plan_is : u.plan ≡ plan_of which r)
     (state_is : u.state ≡ start (plan_of which r)) where

@@ -91,8 +91,8 @@ pub awaited_opened : (knows : Knows) (noted : ℕ) (e : ℕ × ℕ) → IsAwaite
 awaited_opened knows noted e = record { idle = λ one. refl; goes_on = λ many. absurd (many refl) }
 
 -- the only position is the first
-first_is : (v : StrideVector) → v.n ≡ 1 → ((last_of v).0 ≡ v.a0) × ((last_of v).1 ≡ v.b0)
-first_is v one =
+pub only_is_first : (v : StrideVector) → v.n ≡ 1 → ((last_of v).0 ≡ v.a0) × ((last_of v).1 ≡ v.b0)
+only_is_first v one =
     let none : v.n - 1 ≡ 0 = omega arith in
     let a : (v.n - 1) * v.sa ≡ 0 = ap (λ (k : ℕ). k * v.sa) none ∙ (let z : 0 * v.sa ≡ 0 = omega arith in z) in
     let b : (v.n - 1) * v.sb ≡ 0 = ap (λ (k : ℕ). k * v.sb) none ∙ (let z : 0 * v.sb ≡ 0 = omega arith in z) in
@@ -102,7 +102,7 @@ first_is v one =
 awaited_second : (knows : Knows) (noted : ℕ) (v : StrideVector) (e : ℕ × ℕ) → v.n ≡ 1 → (last_of v).0 < e.0 →
     (last_of v).1 < e.1 → noted ≡ e.1 → IsAwaited knows noted (second v e) (begun (second v e) e)
 awaited_second knows noted v e one source target here =
-    let first = first_is v one in
+    let first = only_is_first v one in
     let a = first.0 in
     let b = first.1 in
     record {

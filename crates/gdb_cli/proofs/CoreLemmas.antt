@@ -1,5 +1,5 @@
 -- The state at a moment: it fits a core file, and there is one.
-use Rattle.std.proofs.Common.{◌≡◌, ◌∙◌, sym, ap, subst, ◌<◌, ◌≤◌, Bool, true, false, List, ℕ, length, Result, Ok}
+use Rattle.std.proofs.Common.{◌≡◌, ◌∙◌, sym, ap, subst, ◌<◌, ◌≤◌, List, ℕ, length, Result, Ok}
 use Rattle.std.proofs.Common.{Err, arith}
 use Rattle.core_file.specs.CoreFiles.{core_bytes_of}
 use Rattle.cut_replay.specs.ClosedCuts.{OneGreatestCutLaw, OneLeastCutLaw}
@@ -12,6 +12,7 @@ use Rattle.replay_audit.specs.Laws.{OutcomeFits, ReplayFitsLaw}
 use Rattle.replay_core.specs.Plans.{plan_of}
 use Rattle.replay_core.specs.Play.{played}
 use Rattle.rtr_cli.specs.Commands.{IsCutAt, SpellsSome}
+use Rattle.rtr_cli.proofs.CutLemmas.{one_cut}
 use Rattle.rtr_types.specs.declared.TheConstants.{CORES_MAX}
 use Rattle.rtr_types.specs.declared.cut.Cut.{Cut}
 use Rattle.rtr_types.specs.declared.instr.Instr.{Instr}
@@ -59,11 +60,6 @@ core_of_audited moment r a cut outcome out has audited is_cut is_state made =
     (has, cut, outcome, (cut_of, state_of), made)
 
 -- ---- there is one
-
-one_cut : OneLeastCutLaw → OneGreatestCutLaw → (which : Which) (r : Recording) (at : Instr) (latest : Bool)
-    (cut other : Cut) → IsCutAt which r at latest cut → IsCutAt which r at latest other → cut ≡ other
-one_cut least greatest which r at false cut other is also = least which r at cut other is also
-one_cut least greatest which r at true cut other is also = greatest which r at cut other is also
 
 one_file : OneLeastCutLaw → OneGreatestCutLaw → OneStateLaw → (moment : Moment) (r : Recording) (out other : List ℕ)
     → IsCoreAt moment r out → IsCoreAt moment r other → out ≡ other

@@ -20,12 +20,11 @@ use Rattle.replay_audit.specs.Determinate.{IsDeterminate}
 use Rattle.cut_replay.specs.ClosedCuts.{IsClosed, IsContained, count_in}
 use Rattle.cut_replay.specs.CutStates.{IsStateAt}
 use Rattle.cut_moves.proofs.Going.{leading_way, ordered_way}
-use Rattle.cut_moves.proofs.Hulls.{empty_cut}
+use Rattle.cut_moves.proofs.Hulls.{empty_cut, none_in}
 use Rattle.cut_moves.proofs.Unions.{IsLesser, intersection_closed, lesser}
 use Rattle.cut_moves.specs.Rounds.{rounds_of}
 use Rattle.cut_moves.specs.Unions.{intersection_of}
 use Rattle.cut_moves.specs.Ways.{LeadsTo, way_of}
-use Rattle.debug_place.proofs.OwnCuts.{none_in}
 use Rattle.gdb_monitor.specs.Pcs.{OnePcLaw}
 
 -- a core that takes no place stays

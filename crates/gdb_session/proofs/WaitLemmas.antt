@@ -1,11 +1,12 @@
 -- The source that a look-up answers is the first edge's: at most one edge leads from a core to an instruction.
-use Rattle.std.proofs.Common.{◌≡◌, ℕ, inl, inr, Bool, true, false, cond, ◌&&◌, List, [], ◌∷◌, refl, ap, ◌∙◌, arith}
+use Rattle.std.proofs.Common.{◌≡◌, ℕ, inl, inr, Bool, true, false, cond, ◌&&◌, List, [], ◌∷◌, refl, ap, arith}
 use Rattle.std.specs.Prelude.{nat_eq, Option, Some, None, IfSome}
 use Rattle.std.specs.List.{Contains}
 use Rattle.std.proofs.lemmas.Bool.Decides.{nat_tests}
 use Rattle.rtr_types.specs.Accesses.{is_same}
 use Rattle.rtr_types.specs.declared.instr.Edge.{Edge}
 use Rattle.rtr_types.specs.declared.instr.Instr.{Instr}
+use Rattle.rtr_types.proofs.Instrs.{instr_eq}
 use Rattle.clock_core.specs.Order.{Among}
 use Rattle.clock_core.proofs.Listed.{among_contains, contains_among}
 use Rattle.replay_core.specs.Play.{instr}
@@ -13,9 +14,6 @@ use Rattle.gdb_session.specs.Waits.{source_in}
 
 abbrev leads : Edge → ℕ → Instr → Bool
 leads e core at = is_same e.to at && nat_eq e.from.core core
-
-same_instr : (x y : Instr) → x.core ≡ y.core → x.count ≡ y.count → x ≡ y
-same_instr x y core count = ap (λ (c : ℕ). instr c x.count) core ∙ ap (λ (n : ℕ). instr y.core n) count
 
 leads_core : (e : Edge) (core : ℕ) (at : Instr) → leads e core at ≡ true → e.from.core ≡ core
 leads_core e core at so = grind (arith, nat_tests)
@@ -40,8 +38,8 @@ there_by : (e : Edge) (edges : List Edge) (core : ℕ) (at : Instr) (a : ℕ) (r
 there_by e edges core at a rest later true so is =
     let count : e.from.count ≡ a = cc in
     inl (
-      same_instr e.from (instr core a) (leads_core e core at so) count,
-      same_instr e.to at (leads_to_core e core at so) (leads_to_count e core at so),
+      instr_eq e.from (instr core a) (leads_core e core at so) count,
+      instr_eq e.to at (leads_to_core e core at so) (leads_to_count e core at so),
     )
 there_by e edges core at a rest later false so is = inr (later is)
 

@@ -10,14 +10,12 @@ use Rattle.image_elf.specs.Headers.{header, has, is_loaded, range_end}
 use Rattle.image_elf.specs.FlatImage.{loaded_byte, loaded_end, loaded_length, range_byte}
 use Rattle.image_elf.specs.Faults.{first_header_fault, header_fault, is_taken}
 use Rattle.image_elf.proofs.RangeLemmas.{taken}
+use Rattle.rtr_types.proofs.Ranges.{below_suc}
 
 -- neither of two has something
 both_none : {A : Type 0} (a b : Option A) → option_or a b ≡ None → (a ≡ None) × (b ≡ None)
 both_none None b e = (refl, e)
 both_none (Some x) b e = absurd (cc)
-
-pub below_suc : (k n : ℕ) → k < suc n → (k < n) ⊎ (k ≡ n)
-below_suc k n h = grind arith
 
 -- no header below n has a fault
 abbrev NoFaultBelow : List ℕ → (words n : ℕ) → Type 0

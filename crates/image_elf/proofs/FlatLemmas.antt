@@ -1,13 +1,11 @@
 -- The flat image of a file without a fault is one, case by case.
-use Rattle.std.proofs.Common.{◌≡◌, ◌≢◌, ◌⊎◌, inl, inr, ℕ, ◌+◌, ◌<◌, ◌≤◌, false, IsTrue, List, length, get_or, refl, ap}
+use Rattle.std.proofs.Common.{◌≡◌, ◌≢◌, ◌⊎◌, inl, inr, ℕ, ◌<◌, ◌≤◌, false, IsTrue, List, length, get_or, refl, ap}
 use Rattle.std.proofs.Common.{◌∙◌, arith, Some, None}
-use Rattle.std.proofs.Common.{zero-add, ◌++◌, ◌∷◌, []}
-use Rattle.std.specs.Prelude.{map, max, Option, is_some, unwrap_or}
-use Rattle.std.specs.List.{range_with_len}
+use Rattle.std.specs.Prelude.{max, Option, is_some, unwrap_or}
 use Rattle.std.specs.Int.{to_le_bytes, w32}
 use Rattle.std.proofs.Math.Nat.{le-max_left, le-max_right, max-le}
 use Rattle.std.proofs.lemmas.Bool.Decides.{nat_tests}
-use Rattle.std.proofs.lemmas.List.FromFn.{length-map-range_with_len, get_or-map-range_with_len, map-range_with_len_more}
+use Rattle.std.proofs.lemmas.List.FromFn.{length-map-range_with_len, get_or-map-range_with_len}
 use Rattle.std.proofs.lemmas.List.{get_or_past}
 use Rattle.std.proofs.lemmas.Bool.{both_ways, cases_lt, false_from_ne_true}
 use Rattle.image_elf.specs.Headers.{entry, header, header_count}
@@ -62,11 +60,6 @@ byte_is file address h =
 
 jump_at_most : (file : List ℕ) → jump_length file ≤ 4
 jump_at_most file = grind (arith, nat_tests)
-
--- one more byte
-pub map_range_more : {X : Type 0} (f : ℕ → X) (n : ℕ) → map f (range_with_len 0 (n + 1)) ≡ map f (range_with_len 0 n)
-    ++ f n ∷ []
-map_range_more f n = map-range_with_len_more f 0 n n (zero-add n)
 
 module _ (file : List ℕ) (words : ℕ) (ok : Passes file words) where
   loaded_there : (number address : ℕ) → IsLoadedBy file number address

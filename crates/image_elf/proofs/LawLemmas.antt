@@ -11,7 +11,8 @@ use Rattle.image_elf.specs.Headers.{header, has, has_some}
 use Rattle.image_elf.specs.Faults.{first_header_fault, header_fault, is_taken}
 use Rattle.image_elf.specs.Laws.{HasAddress, TakenLaw, IsFirstFault, FirstFaultLaw}
 use Rattle.image_elf.proofs.RangeLemmas.{has_some_at, has_first, first_before}
-use Rattle.image_elf.proofs.CaseLemmas.{below_suc, no_fault_below}
+use Rattle.image_elf.proofs.CaseLemmas.{no_fault_below}
+use Rattle.rtr_types.proofs.Ranges.{below_suc}
 
 -- one more header
 more : (file : List ℕ) (n first end : ℕ) → HasAddress file n first end → HasAddress file (suc n) first end

@@ -9,8 +9,8 @@ use Rattle.std.proofs.lemmas.List.{length-replicate}
 use Rattle.std.proofs.Math.Nat.{le-suc_iff}
 use Rattle.rtr_types.specs.declared.TheConstants.{CORES_MAX}
 use Rattle.rtr_types.specs.declared.instr.Instr.{Instr}
+use Rattle.rtr_types.proofs.Instrs.{instr_eq}
 use Rattle.clock_core.proofs.Merging.{get_or-merged, length-merged}
-use Rattle.clock_core.proofs.Paths.{instr_eq}
 use Rattle.clock_core.proofs.Reach.{reached_by}
 use Rattle.know_history.specs.declared.known.Known.{Known}
 use Rattle.know_history.specs.Knowledge.{count_in, known_carrying, known_joined}

@@ -5,8 +5,9 @@ use Rattle.std.specs.Prelude.{replicate, slice_index_or}
 use Rattle.std.proofs.lemmas.Bool.{cases_eq}
 use Rattle.rtr_types.specs.declared.TheConstants.{CORES_MAX}
 use Rattle.rtr_types.specs.declared.instr.Instr.{Instr}
+use Rattle.rtr_types.proofs.Instrs.{instr_eq}
 use Rattle.clock_core.specs.declared.clock.Clock.{Clock}
-use Rattle.clock_core.proofs.Paths.{instr_eq}
+use Rattle.clock_core.proofs.Reach.{reached_by}
 use Rattle.know_history.specs.Knowledge.{count_in}
 use Rattle.know_history.specs.Happenings.{Happening, IsKnownAt}
 use Rattle.know_history.specs.Laws.{HistoryKnows, HistoryLaw, HistoryStartLaw, SameHistoryLaw}
@@ -30,13 +31,10 @@ pub none_before : (h : Notes) (core of : ℕ) → known_at h core 0 «of» ≤ 0
 none_before h core «of» = zero_at CORES_MAX «of»
 
 pub history_law : HistoryLaw
-history_law event t y known old new orderly retires next counts noted h x z some within place other pos =
+history_law event time y known old new orderly retires next counts noted told x z some within place other pos =
     by (cases_eq z.core y.core)
   where
     -- the greater of the two counts is the one that is known
-    either : (n a b : ℕ) → n ≤ max a b → (n ≤ a) ⊎ (n ≤ b)
-    either n a b le = grind arith
-
     greater : (n m a b : ℕ) → m ≡ max a b → n ≤ b → n ≤ m
     greater n m a b e le = grind arith
 
@@ -50,12 +48,12 @@ history_law event t y known old new orderly retires next counts noted h x z some
         from (inl e) = absurd (let f : known_at old y.core (y.count - 1) x.core
             ≡ known_at old y.core 0 x.core = ap (λ (n : ℕ). known_at old y.core n x.core) e in let none =
             none_before old y.core x.core in omega arith)
-        from (inr f) = known_stays_law event x before y t orderly
-            ((h x before (grind arith) (omega arith) place apart pos).0 le) refl (grind arith) retires
+        from (inr f) = known_stays_law event x before y time orderly
+            ((told x before (grind arith) (omega arith) place apart pos).0 le) refl (grind arith) retires
 
     here : x.core ≢ y.core → (x.count ≤ known_at new y.core y.count x.core) ↔ IsKnownAt event x y
     here apart = (
-      λ le. to (either x.count (known_at old y.core (y.count - 1) x.core) (count_in known x.core) (let e =
+      λ le. to (reached_by x.count (known_at old y.core (y.count - 1) x.core) (count_in known x.core) (let e =
           noted.greater x.core apart in
           omega arith)),
       λ k. greater x.count (known_at new y.core y.count x.core) (known_at old y.core (y.count - 1) x.core)
@@ -70,7 +68,7 @@ history_law event t y known old new orderly retires next counts noted h x z some
 
     kept : z.count ≤ noted_count old z.core → (x.count ≤ known_at new z.core z.count x.core) ↔ IsKnownAt event x z
     kept le = subst (λ (n : ℕ). (x.count ≤ n) ↔ IsKnownAt event x z) (sym (noted.kept z.core z.count x.core other le))
-        (h x z some le place other pos)
+        (told x z some le place other pos)
 
     same : z ≡ y → (x.count ≤ known_at new z.core z.count x.core) ↔ IsKnownAt event x z
     same e = subst (λ (i : Instr). (x.count ≤ known_at new i.core i.count x.core) ↔ IsKnownAt event x i) (sym e)

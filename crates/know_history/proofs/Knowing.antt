@@ -9,7 +9,7 @@ use Rattle.std.proofs.lemmas.List.{get_or-set_same, get_or-set_other, length-set
 use Rattle.std.proofs.lemmas.Option.{same_Some}
 use Rattle.rtr_types.specs.declared.TheConstants.{CORES_MAX}
 use Rattle.rtr_types.specs.declared.instr.Instr.{Instr}
-use Rattle.clock_core.proofs.Paths.{instr_eq}
+use Rattle.rtr_types.proofs.Instrs.{instr_eq}
 use Rattle.know_history.specs.declared.known.Known.{Known}
 use Rattle.know_history.specs.Knowledge.{count_in, known_carrying, known_joined, known_retired}
 use Rattle.know_history.specs.Happenings.{Actor, AtCore, AtHome, Channel, Happening, Leads, is_channel, left_on}

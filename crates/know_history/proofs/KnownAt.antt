@@ -3,7 +3,7 @@ use Rattle.std.proofs.Common.{◌≡◌, ◌≢◌, ◌∙◌, ap, refl, sym, su
 use Rattle.std.proofs.lemmas.Option.{same_Some}
 use Rattle.std.proofs.lemmas.Bool.{cases_order}
 use Rattle.rtr_types.specs.declared.instr.Instr.{Instr}
-use Rattle.clock_core.proofs.Paths.{instr_eq}
+use Rattle.rtr_types.proofs.Instrs.{instr_eq}
 use Rattle.know_history.specs.declared.known.Known.{Known}
 use Rattle.know_history.specs.Knowledge.{count_in, known_carrying}
 use Rattle.know_history.specs.Happenings.{AtCore, Happening, IsKnownAt, Leads}

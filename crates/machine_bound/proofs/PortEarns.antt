@@ -1,6 +1,6 @@
 -- A core's own move, and the taking of a message at its port, pay for themselves.
-use Rattle.std.proofs.Common.{◌≡◌, ap, refl, sym, subst, ℕ, ◌+◌, ◌*◌, ◌≤◌, ◌==◌, ◌≢◌, ◌%◌, ◌/◌, Bool, true, false, List}
-use Rattle.std.proofs.Common.{[], ◌∷◌, ◌++◌, length, Option}
+use Rattle.std.proofs.Common.{◌≡◌, ap, refl, sym, subst, ℕ, ◌+◌, ◌*◌, ◌≤◌, ◌==◌, ◌%◌, ◌/◌, Bool, true, false, List}
+use Rattle.std.proofs.Common.{◌∷◌, length, Option}
 use Rattle.std.proofs.Common.{Some, None, arith, inl, inr, ◌⊎◌}
 use Rattle.std.proofs.Math.Nat.{mul-add}
 use Rattle.std.specs.Prelude.{if◌then◌else◌, slice_index_or, is_some}
@@ -17,9 +17,9 @@ use Rattle.rv_core.specs.declared.core_state.Need.{Need}
 use Rattle.rv_core.specs.Steps.{need, is_done, access_of as need_access}
 use Rattle.rv_core.proofs.OpLemmas.{access_goes}
 use Rattle.link_order.specs.Queue.{is_nil}
+use Rattle.link_order.proofs.Queues.{more_nil}
 use Rattle.msi_cache.specs.declared.line.Line.{Line}
 use Rattle.msi_cache.specs.declared.line.State.{State as LineState}
-use Rattle.msi_cache.specs.declared.line.State.TheVariants.{I}
 use Rattle.msi_cache.specs.declared.messages.FromHome.{FromHome}
 use Rattle.msi_cache.specs.declared.messages.Response.{Response}
 use Rattle.msi_cache.specs.Table.{row, is_transient}
@@ -30,10 +30,11 @@ use Rattle.msi_memory.specs.declared.port.Mail.{Mail}
 use Rattle.msi_memory.specs.declared.port.Port.{Port}
 use Rattle.msi_memory.specs.Acts.{allows, is_data, port_asking, port_hearing, port_answering, port_taking, answer_to}
 use Rattle.msi_laws.specs.Holds.{PortHolds}
-use Rattle.msi_laws.specs.Waits.{WaitsFor, serves}
+use Rattle.msi_laws.specs.Waits.{WaitsFor}
 use Rattle.msi_laws.specs.Waits.{Awaited}
 use Rattle.machine_bound.specs.Bound.{debt, debts, owed, line_base, block_base, base_in, earned}
 use Rattle.msi_laws.proofs.Lines.{set_at, waits_none}
+use Rattle.msi_laws.proofs.PortWaits.{waiting_place}
 use Rattle.machine_bound.proofs.Owed.{answers, owed_answering}
 
 retire_pays : (cores c b e : ℕ) → b ≤ 2 * cores + 3 → (2 * cores + 4) * c + b + 1 ≤ (2 * cores + 4) * (c + 1) + e
@@ -82,10 +83,6 @@ asks_base : {R : Type 0} (l : Line R) (block : ℕ) (kind : Kind) (taken : Bool)
     ((line_asking l block kind).block == block) false cores
 asks_base l block kind taken cores still needs = grind (arith, nat_tests)
 
-not_nil : {X : Type 0} (xs : List X) (x : X) → is_nil (xs ++ x ∷ []) ≡ false
-not_nil [] x = refl
-not_nil (y ∷ ys) x = refl
-
 module _ {R K : Type 0} where
   asking_block : (riding : Riding R) (cores : ℕ) (p : Port R K) (block : ℕ) (kind : Kind) → length p.cache ≡ LINES →
       waits p.cache ≡ false →
@@ -98,7 +95,7 @@ module _ {R K : Type 0} where
       let here : line_for riding.fresh (port_asking riding p block kind).cache block ≡ line_asking l block kind =
       get_or-set_same p.cache (block % LINES) (line_asking l block kind) (empty_line riding.fresh)
       (rw long (omega arith)) in
-      rw (here, not_nil p.requests.items _)
+      rw (here, more_nil p.requests.items _)
       (asks_base l block kind (is_nil p.requests.items) cores (waits_none p.cache riding.fresh still (block % LINES))
       needs)
 
@@ -120,10 +117,10 @@ module _ {R K : Type 0} where
 
 -- ---- the taking of a message
 
-data_debt : {R : Type 0} (m : FromHome R) → is_data m ≡ true → debt m ≡ 0
+pub data_debt : {R : Type 0} (m : FromHome R) → is_data m ≡ true → debt m ≡ 0
 data_debt m e = grind arith
 
-data_silent : {R : Type 0} (l : Line R) (m : FromHome R) → is_data m ≡ true →
+pub data_silent : {R : Type 0} (l : Line R) (m : FromHome R) → is_data m ≡ true →
     answers (answer_by (row (signal m) l.state) l) ≡ 0
 data_silent l m d = grind arith
 
@@ -150,12 +147,6 @@ message_debt_or l m d e = by_test (is_transient l.state) refl
         ⊎ (is_transient l.state ≡ true)
     by_test true is = inr is
     by_test false is = inl (message_debt l m d e is)
-
--- a line that waits for an access is at the place of its block
-pub waiting_place : (s : LineState) (writes : Bool) (l i b : ℕ) → serves s writes l i b ≡ true → is_transient s ≡ true →
-    (s ≢ I → l % LINES ≡ i) →
-    i ≡ b % LINES
-waiting_place s writes l i b is waits place = grind (arith, nat_tests, place)
 
 module _ {R K : Type 0} where
   answering_base : (used : Option (Kind × ℕ)) (done : Bool) (riding : Riding R) (cores : ℕ) (p : Port R K)

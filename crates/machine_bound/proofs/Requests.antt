@@ -46,8 +46,8 @@ use Rattle.msi_laws.proofs.Lines.{waits_none}
 use Rattle.msi_laws.proofs.Ready.{memory_ready, links_hold}
 use Rattle.msi_laws.proofs.Standing.{view_waits}
 use Rattle.msi_laws.proofs.Waiting.{phase_asks}
+use Rattle.msi_laws.proofs.PortWaits.{waiting_place}
 use Rattle.machine_bound.proofs.Owed.{members, answer_debt, members-without, no_members}
-use Rattle.machine_bound.proofs.PortEarns.{waiting_place}
 
 -- ---- what an answer brings to others, by its kind alone
 

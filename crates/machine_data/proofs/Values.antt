@@ -1,12 +1,13 @@
 -- Accesses made one after the other: each finds the last value of its word, which the memory then has.
 use Rattle.std.proofs.Common.{◌≡◌, ◌∙◌, ap, refl, sym, subst, ℕ, ◌<◌, ◌==◌, ◌&&◌, Bool, true, false, List, [], ◌∷◌}
-use Rattle.std.proofs.Common.{◌++◌, inl, inr, ◌⊎◌, arith, eqb-true}
+use Rattle.std.proofs.Common.{◌++◌, inl, inr, ◌⊎◌, eqb-true}
 use Rattle.std.specs.Prelude.{All, if◌then◌else◌}
 use Rattle.std.proofs.lemmas.List.Elements.{All-push, All-nil}
 use Rattle.std.proofs.lemmas.List.{append-nil}
 use Rattle.image_mem.specs.Contents.{Contents, opening_word}
 use Rattle.rtr_types.specs.Accesses.{is_write}
 use Rattle.rtr_types.specs.declared.access.Access.{Access}
+use Rattle.rtr_types.proofs.Lists.{cons-head, cons-rest}
 use Rattle.msi_state.specs.Events.{Event, Nothing, Retires, Accesses}
 use Rattle.machine_data.specs.Coherent.{memory_after, Finds, WordsFit, word_of}
 use Rattle.msi_state.specs.Runs.{accesses_in}
@@ -26,29 +27,23 @@ none_there : {X : Type 0} (earlier later : List X) (x : X) → [] ≡ earlier ++
 none_there [] later x is = cc
 none_there (y ∷ earlier) later x is = cc
 
-first_same : {X : Type 0} (x y : X) (xs ys : List X) → x ∷ xs ≡ y ∷ ys → x ≡ y
-first_same x y xs ys is = grind arith
-
-rest_same : {X : Type 0} (x y : X) (xs ys : List X) → x ∷ xs ≡ y ∷ ys → xs ≡ ys
-rest_same x y xs ys is = grind arith
-
 split-snoc : {X : Type 0} (list earlier later : List X) (a x : X) → list ++ a ∷ [] ≡ earlier ++ x ∷ later →
     ((earlier ≡ list) × (x ≡ a))
     ⊎ ((rest : List X) × (list ≡ earlier ++ x ∷ rest))
-split-snoc [] [] later a x is = inl (refl, sym (first_same a x [] later is))
+split-snoc [] [] later a x is = inl (refl, sym (cons-head a x [] later is))
 split-snoc [] (y ∷ earlier) later a x is =
-    absurd (none_there earlier later x (rest_same a y [] (earlier ++ x ∷ later) is))
-split-snoc (z ∷ list) [] later a x is = inr (list, ap (λ w. w ∷ list) (first_same z x (list ++ a ∷ []) later is))
+    absurd (none_there earlier later x (cons-rest a y [] (earlier ++ x ∷ later) is))
+split-snoc (z ∷ list) [] later a x is = inr (list, ap (λ w. w ∷ list) (cons-head z x (list ++ a ∷ []) later is))
 split-snoc (z ∷ list) (y ∷ earlier) later a x is =
-    elim (split-snoc list earlier later a x (rest_same z y (list ++ a ∷ []) (earlier ++ x ∷ later) is)) [
+    elim (split-snoc list earlier later a x (cons-rest z y (list ++ a ∷ []) (earlier ++ x ∷ later) is)) [
       | inl p ↦ inl (
-        ap (λ xs. y ∷ xs) p.0 ∙ sym (ap (λ w. w ∷ list) (first_same z y (list ++ a ∷ [])
+        ap (λ xs. y ∷ xs) p.0 ∙ sym (ap (λ w. w ∷ list) (cons-head z y (list ++ a ∷ [])
             (earlier ++ x ∷ later) is)),
         p.1,
       )
       | inr p ↦ inr (
         p.0,
-        ap (λ w. w ∷ list) (first_same z y (list ++ a ∷ []) (earlier ++ x ∷ later) is)
+        ap (λ w. w ∷ list) (cons-head z y (list ++ a ∷ []) (earlier ++ x ∷ later) is)
             ∙ ap (λ xs. y ∷ xs) p.1,
       )
     ]

@@ -145,54 +145,57 @@ module _ {R K : Type 0} where
           ((carries_of carrying s).sent link))) (tests link)
 
   -- a core's own move, or the receipt of a message, which change one port
-  port_moved : (carrying : Carrying K) (s t : State R K) (c : ℕ) (takes : Option Channel) (o : Option Instr)
-      (q : Port R K) → c < length s.memory.ports →
-      t.memory ≡ with_port s.memory c q → carry_taken carrying takes
-      (λ link. carries_at link (port_at carrying s.memory.ports c))
-      (port_at carrying s.memory.ports c).carry
-      ≡ carry_taken carrying takes (carries_of carrying s).sent (port_at carrying s.memory.ports c).carry →
+  port_moved : (carrying : Carrying K) (before after : State R K) (c : ℕ) (takes : Option Channel)
+      (retired : Option Instr)
+      (port : Port R K) → c < length before.memory.ports →
+      after.memory ≡ with_port before.memory c port → carry_taken carrying takes
+      (λ link. carries_at link (port_at carrying before.memory.ports c))
+      (port_at carrying before.memory.ports c).carry
+      ≡ carry_taken carrying takes (carries_of carrying before).sent (port_at carrying before.memory.ports c).carry →
       ((link : Channel) → port_of link ≢ c → is_channel takes link ≡ false) →
-      PortActs carrying c takes o (port_at carrying s.memory.ports c) q →
-      StateActs carrying takes o (AtCore c) s t
-  port_moved carrying s t c takes o q lc is taken_here elsewhere acts =
+      PortActs carrying c takes retired (port_at carrying before.memory.ports c) port →
+      StateActs carrying takes retired (AtCore c) before after
+  port_moved carrying before after c takes retired port lc is taken_here elsewhere acts =
       record {
-        acting = mine ∙ (acts.carry ∙ ap (carry_retired carrying o) taken_here);
+        acting = mine ∙ (acts.carry ∙ ap (carry_retired carrying retired) taken_here);
         resting = resting;
         links = λ link. by_core link (cases_eq (port_of link) c);
       }
     where
-      here : port_at carrying t.memory.ports c ≡ q
-      here = ap (λ (m : Memory R K). port_at carrying m.ports c) is ∙ port_there carrying s.memory c q lc
+      here : port_at carrying after.memory.ports c ≡ port
+      here = ap (λ (m : Memory R K). port_at carrying m.ports c) is ∙ port_there carrying before.memory c port lc
 
-      there : (d : ℕ) → d ≢ c → port_at carrying t.memory.ports d ≡ port_at carrying s.memory.ports d
+      there : (d : ℕ) → d ≢ c → port_at carrying after.memory.ports d ≡ port_at carrying before.memory.ports d
       there d apart =
           ap (λ (m : Memory R K). port_at carrying m.ports d) is
-          ∙ (let other : (d == c) ≡ false = grind (arith, nat_tests) in port_elsewhere carrying s.memory c q d other lc)
+          ∙ (let other : (d == c) ≡ false =
+          grind (arith, nat_tests) in port_elsewhere carrying before.memory c port d other lc)
 
-      mine : own_carry carrying t (AtCore c) ≡ q.carry
+      mine : own_carry carrying after (AtCore c) ≡ port.carry
       mine = ap (λ (p : Port R K). p.carry) here
 
-      resting : (other : Actor) → (other ≡ AtCore c → ⊥) → own_carry carrying t other ≡ own_carry carrying s other
+      resting : (other : Actor) → (other ≡ AtCore c → ⊥) →
+          own_carry carrying after other ≡ own_carry carrying before other
       resting AtHome apart = ap (λ (m : Memory R K). m.carry) is
       resting (AtCore d) apart = ap (λ (p : Port R K). p.carry) (there d (λ (e : d ≡ c). apart (ap AtCore e)))
 
       by_core : (link : Channel) → (port_of link ≡ c) ⊎ (port_of link ≢ c) →
-          Goes (is_channel takes link) (carries_at link (port_at carrying s.memory.ports (port_of link)))
-          (own_carry carrying t (AtCore c))
-          (carries_at link (port_at carrying t.memory.ports (port_of link)))
+          Goes (is_channel takes link) (carries_at link (port_at carrying before.memory.ports (port_of link)))
+          (own_carry carrying after (AtCore c))
+          (carries_at link (port_at carrying after.memory.ports (port_of link)))
       by_core link (inl e) =
           subst (λ (k : K). Goes (is_channel takes link)
-          (carries_at link (port_at carrying s.memory.ports (port_of link))) k
-          (carries_at link (port_at carrying t.memory.ports (port_of link)))) (sym mine)
+          (carries_at link (port_at carrying before.memory.ports (port_of link))) k
+          (carries_at link (port_at carrying after.memory.ports (port_of link)))) (sym mine)
           (subst (λ (ks : List K). Goes (is_channel takes link)
-          (carries_at link (port_at carrying s.memory.ports (port_of link))) q.carry ks)
-          (sym (ap (λ (d : ℕ). carries_at link (port_at carrying t.memory.ports d)) e ∙ ap (carries_at link) here))
-          (subst (λ (ks : List K). Goes (is_channel takes link) ks q.carry (carries_at link q))
-          (ap (λ (d : ℕ). carries_at link (port_at carrying s.memory.ports d)) (sym e)) (acts.links link e)))
+          (carries_at link (port_at carrying before.memory.ports (port_of link))) port.carry ks)
+          (sym (ap (λ (d : ℕ). carries_at link (port_at carrying after.memory.ports d)) e ∙ ap (carries_at link) here))
+          (subst (λ (ks : List K). Goes (is_channel takes link) ks port.carry (carries_at link port))
+          (ap (λ (d : ℕ). carries_at link (port_at carrying before.memory.ports d)) (sym e)) (acts.links link e)))
       by_core link (inr apart) =
-          subst (λ (b : Bool). Goes b (carries_at link (port_at carrying s.memory.ports (port_of link)))
-          (own_carry carrying t (AtCore c))
-          (carries_at link (port_at carrying t.memory.ports (port_of link)))) (sym (elsewhere link apart))
+          subst (λ (b : Bool). Goes b (carries_at link (port_at carrying before.memory.ports (port_of link)))
+          (own_carry carrying after (AtCore c))
+          (carries_at link (port_at carrying after.memory.ports (port_of link)))) (sym (elsewhere link apart))
           (inl (ap (carries_at link) (there (port_of link) apart)))
 
   core_acts : (riding : Riding R) (carrying : Carrying K) (s : State R K) (c : ℕ) (rider : R) →
@@ -272,77 +275,82 @@ module _ {R K : Type 0} where
       ∙ ap (λ (b : Bool). if b then drop 1 before else before) (quiet d)))))
 
   -- the home took a message of core c, whose port it left so, and answered
-  home_moved : (carrying : Carrying K) (s t : State R K) (c : ℕ) (takes : Option Channel) (q : Port R K)
+  home_moved : (carrying : Carrying K) (before after : State R K) (c : ℕ) (takes : Option Channel) (port : Port R K)
       (answer : HomeAnswer R) (block : ℕ)
-      (home : List (Entry R)) (k : K) → c < length s.memory.ports →
-      t.memory ≡ record {
-        ports = delivered carrying answer block k (with_port s.memory c q).ports;
+      (home : List (Entry R)) (carry_left : K) → c < length before.memory.ports →
+      after.memory ≡ record {
+        ports = delivered carrying answer block carry_left (with_port before.memory c port).ports;
         home = home;
         carry =
-            k;
+            carry_left;
       } →
-      k ≡ carry_taken carrying takes (carries_of carrying s).sent s.memory.carry →
-      q.carry ≡ (port_at carrying s.memory.ports c).carry →
-      ((link : Channel) → port_of link ≡ c → carries_at link q ≡ left_on takes link
-      (carries_at link (port_at carrying s.memory.ports c))) →
+      carry_left ≡ carry_taken carrying takes (carries_of carrying before).sent before.memory.carry →
+      port.carry ≡ (port_at carrying before.memory.ports c).carry →
+      ((link : Channel) → port_of link ≡ c → carries_at link port ≡ left_on takes link
+      (carries_at link (port_at carrying before.memory.ports c))) →
       ((link : Channel) → port_of link ≢ c → is_channel takes link ≡ false) →
       ((d : ℕ) → is_channel takes (Messages d) ≡ false) →
-      StateActs carrying takes None AtHome s t
-  home_moved carrying s t c takes q answer block home k lc is joins same left elsewhere quiet =
+      StateActs carrying takes None AtHome before after
+  home_moved carrying before after c takes port answer block home carry_left lc is joins same left elsewhere quiet =
       record {
         acting = mine ∙ joins;
         resting = resting;
         links = λ link. subst (λ (own : K).
-            Goes (is_channel takes link) (carries_at link (port_at carrying s.memory.ports (port_of link))) own
-            (carries_at link (port_at carrying t.memory.ports (port_of link)))) (sym mine)
-            (told_goes takes link (carries_at link (port_at carrying s.memory.ports (port_of link))) k
+            Goes (is_channel takes link) (carries_at link (port_at carrying before.memory.ports (port_of link))) own
+            (carries_at link (port_at carrying after.memory.ports (port_of link)))) (sym mine)
+            (told_goes takes link (carries_at link (port_at carrying before.memory.ports (port_of link))) carry_left
             (port_at carrying ns (port_of link))
-            (port_at carrying t.memory.ports (port_of link)) quiet (taken link (cases_eq (port_of link) c))
+            (port_at carrying after.memory.ports (port_of link)) quiet (taken link (cases_eq (port_of link) c))
             (told (port_of link)));
       }
     where
       ns : List (Port R K)
-      ns = (with_port s.memory c q).ports
+      ns = (with_port before.memory c port).ports
 
-      mine : own_carry carrying t AtHome ≡ k
+      mine : own_carry carrying after AtHome ≡ carry_left
       mine = ap (λ (m : Memory R K). m.carry) is
 
-      told : (d : ℕ) → IsTold k (port_at carrying ns d) (port_at carrying t.memory.ports d)
-      told d = subst (λ (m : Memory R K). IsTold k (port_at carrying ns d) (port_at carrying m.ports d)) (sym is)
-          (delivered_tells carrying answer block k ns d)
+      told : (d : ℕ) → IsTold carry_left (port_at carrying ns d) (port_at carrying after.memory.ports d)
+      told d = subst (λ (m : Memory R K). IsTold carry_left (port_at carrying ns d) (port_at carrying m.ports d))
+          (sym is)
+          (delivered_tells carrying answer block carry_left ns d)
 
-      here : port_at carrying ns c ≡ q
-      here = port_there carrying s.memory c q lc
+      here : port_at carrying ns c ≡ port
+      here = port_there carrying before.memory c port lc
 
-      there : (d : ℕ) → d ≢ c → port_at carrying ns d ≡ port_at carrying s.memory.ports d
+      there : (d : ℕ) → d ≢ c → port_at carrying ns d ≡ port_at carrying before.memory.ports d
       there d apart = let other : (d == c) ≡ false = grind (arith, nat_tests) in
-          port_elsewhere carrying s.memory c q d other lc
+          port_elsewhere carrying before.memory c port d other lc
 
       carry_same : (d : ℕ) → (d ≡ c) ⊎ (d ≢ c) →
-          (port_at carrying ns d).carry ≡ (port_at carrying s.memory.ports d).carry
+          (port_at carrying ns d).carry ≡ (port_at carrying before.memory.ports d).carry
       carry_same d (inl e) =
           ap (λ (x : ℕ). (port_at carrying ns x).carry) e
-          ∙ (ap (λ (p : Port R K). p.carry) here ∙ (same ∙ ap (λ (x : ℕ). (port_at carrying s.memory.ports x).carry)
+          ∙ (ap (λ (p : Port R K). p.carry) here
+          ∙ (same ∙ ap (λ (x : ℕ). (port_at carrying before.memory.ports x).carry)
           (sym e)))
       carry_same d (inr apart) = ap (λ (p : Port R K). p.carry) (there d apart)
 
-      resting : (other : Actor) → (other ≡ AtHome → ⊥) → own_carry carrying t other ≡ own_carry carrying s other
+      resting : (other : Actor) → (other ≡ AtHome → ⊥) →
+          own_carry carrying after other ≡ own_carry carrying before other
       resting AtHome apart = absurd (apart refl)
-      resting (AtCore d) apart = told_carry k (port_at carrying ns d) (port_at carrying t.memory.ports d) (told d)
+      resting (AtCore d) apart = told_carry carry_left (port_at carrying ns d) (port_at carrying after.memory.ports d)
+          (told d)
           ∙ carry_same d (cases_eq d c)
 
       taken : (link : Channel) → (port_of link ≡ c) ⊎ (port_of link ≢ c) →
           carries_at link (port_at carrying ns (port_of link))
-          ≡ left_on takes link (carries_at link (port_at carrying s.memory.ports (port_of link)))
+          ≡ left_on takes link (carries_at link (port_at carrying before.memory.ports (port_of link)))
       taken link (inl e) =
           ap (λ (d : ℕ). carries_at link (port_at carrying ns d)) e
           ∙ (ap (carries_at link) here ∙ (left link e
-          ∙ ap (λ (d : ℕ). left_on takes link (carries_at link (port_at carrying s.memory.ports d))) (sym e)))
+          ∙ ap (λ (d : ℕ). left_on takes link (carries_at link (port_at carrying before.memory.ports d))) (sym e)))
       taken link (inr apart) =
           ap (carries_at link) (there (port_of link) apart)
-          ∙ ap (λ (b : Bool). if b then drop 1 (carries_at link (port_at carrying s.memory.ports (port_of link))) else
+          ∙ ap (λ (b : Bool). if b then drop 1
+          (carries_at link (port_at carrying before.memory.ports (port_of link))) else
           carries_at link
-          (port_at carrying s.memory.ports (port_of link))) (sym (elsewhere link apart))
+          (port_at carrying before.memory.ports (port_of link))) (sym (elsewhere link apart))
 
   -- where the home can take the oldest of these requests, there is one
   free_there : (riding : Riding R) (home : List (Entry R)) (q : List (Mail (Request R) K)) →

@@ -98,43 +98,46 @@ module _ {R K : Type 0} where
       core : x.core ≡ core_of m
       core = ap (λ (i : Instr). i.core) (sym next) ∙ h.numbers (core_of m) lc
 
-  pub counts_step : (riding : Riding R) (carrying : Carrying K) (event_at : ℕ → Happening) (t : ℕ) (s : State R K)
-      (m : Move) (rider : R) →
-      IsTrue (enabled riding carrying s m) → event_at t ≡ happening_of (plain s) m → CountsRetired event_at t s →
-      CountsRetired event_at (suc t) (step riding carrying rider s m)
-  counts_step riding carrying event_at t s m rider e is h =
+  pub counts_step : (riding : Riding R) (carrying : Carrying K) (event_at : ℕ → Happening) (t : ℕ) (state : State R K)
+      (move : Move) (rider : R) →
+      IsTrue (enabled riding carrying state move) → event_at t ≡ happening_of (plain state) move →
+      CountsRetired event_at t state →
+      CountsRetired event_at (suc t) (step riding carrying rider state move)
+  counts_step riding carrying event_at t state move rider can is stands =
       record {
-        ports = ports_stay riding carrying rider s m h.ports;
-        few = rw moved.long h.few;
+        ports = ports_stay riding carrying rider state move stands.ports;
+        few = rw moved.long stands.few;
         numbers = λ d ld. number d (rw moved.long at ld) (cases_eq d c);
         counts = λ d ld. count d (rw moved.long at ld) (cases_eq d c);
       }
     where
       c : ℕ
-      c = core_of m
+      c = core_of move
 
-      lc : core_of m < length s.cores
-      lc = at_core riding carrying s m e h.ports
+      lc : core_of move < length state.cores
+      lc = at_core riding carrying state move can stands.ports
 
       o : Option Instr
-      o = instr_of (event riding carrying s m)
+      o = instr_of (event riding carrying state move)
 
       core : Core
-      core = core_at s.cores (core_of m)
+      core = core_at state.cores (core_of move)
 
       after : State R K
-      after = step riding carrying rider s m
+      after = step riding carrying rider state move
 
-      moved : StateCounts (instr_of (event riding carrying s m)) (core_of m) s (step riding carrying rider s m)
-      moved = state_counts riding carrying s m rider lc
+      moved : StateCounts (instr_of (event riding carrying state move)) (core_of move) state
+          (step riding carrying rider state move)
+      moved = state_counts riding carrying state move rider lc
 
       retires : (event_at t).retires ≡ o
-      retires = ap (λ (p : Happening). p.retires) is ∙ sym (ap instr_of (forgetting.plain_event riding carrying s m))
+      retires = ap (λ (p : Happening). p.retires) is
+          ∙ sym (ap instr_of (forgetting.plain_event riding carrying state move))
 
-      number : (d : ℕ) → d < length s.cores → (d ≡ c) ⊎ (d ≢ c) → (core_at after.cores d).id ≡ d
+      number : (d : ℕ) → d < length state.cores → (d ≡ c) ⊎ (d ≢ c) → (core_at after.cores d).id ≡ d
       number d ld (inl f) = ap (λ (x : ℕ). (core_at after.cores x).id) f
-          ∙ (moved.here.number ∙ (h.numbers c lc ∙ sym f))
-      number d ld (inr apart) = ap (λ (k : Core). k.id) (moved.there d apart) ∙ h.numbers d ld
+          ∙ (moved.here.number ∙ (stands.numbers c lc ∙ sym f))
+      number d ld (inr apart) = ap (λ (k : Core). k.id) (moved.there d apart) ∙ stands.numbers d ld
 
       counted : (d k : ℕ) (p : Option Instr) → (event_at t).retires ≡ p → is_of d p ≡ true →
           k ≡ retired_in event_at t d + 1 → k ≡ retired_in event_at (suc t) d
@@ -153,23 +156,23 @@ module _ {R K : Type 0} where
       here : ((o ≡ None) × ((core_at after.cores c).count ≡ core.count))
           ⊎ ((o ≡ Some (next_instr core)) × ((core_at after.cores c).count ≡ core.count + 1)) →
           (core_at after.cores c).count ≡ retired_in event_at (suc t) c
-      here (inl f) = uncounted c (core_at after.cores c).count None (retires ∙ f.0) refl (f.1 ∙ h.counts c lc)
+      here (inl f) = uncounted c (core_at after.cores c).count None (retires ∙ f.0) refl (f.1 ∙ stands.counts c lc)
       here (inr f) = counted c (core_at after.cores c).count (Some (next_instr core)) (retires
-          ∙ f.0) (same_core core.id c (h.numbers c lc))
-          (f.1 ∙ ap (λ (k : ℕ). k + 1) (h.counts c lc))
+          ∙ f.0) (same_core core.id c (stands.numbers c lc))
+          (f.1 ∙ ap (λ (k : ℕ). k + 1) (stands.counts c lc))
 
-      there : (d : ℕ) → d < length s.cores → d ≢ c → ((o ≡ None) × ((core_at after.cores c).count ≡ core.count))
+      there : (d : ℕ) → d < length state.cores → d ≢ c → ((o ≡ None) × ((core_at after.cores c).count ≡ core.count))
           ⊎ ((o ≡ Some (next_instr core)) × ((core_at after.cores c).count ≡ core.count + 1)) →
           (core_at after.cores d).count ≡ retired_in event_at (suc t) d
       there d ld apart (inl f) =
           uncounted d (core_at after.cores d).count None (retires
-          ∙ f.0) refl (ap (λ (k : Core). k.count) (moved.there d apart) ∙ h.counts d ld)
+          ∙ f.0) refl (ap (λ (k : Core). k.count) (moved.there d apart) ∙ stands.counts d ld)
       there d ld apart (inr f) =
           uncounted d (core_at after.cores d).count (Some (next_instr core)) (retires
-          ∙ f.0) (other_core core.id c d (h.numbers c lc) apart)
-          (ap (λ (k : Core). k.count) (moved.there d apart) ∙ h.counts d ld)
+          ∙ f.0) (other_core core.id c d (stands.numbers c lc) apart)
+          (ap (λ (k : Core). k.count) (moved.there d apart) ∙ stands.counts d ld)
 
-      count : (d : ℕ) → d < length s.cores → (d ≡ c) ⊎ (d ≢ c) → (core_at after.cores d).count ≡ retired_in event_at
+      count : (d : ℕ) → d < length state.cores → (d ≡ c) ⊎ (d ≢ c) → (core_at after.cores d).count ≡ retired_in event_at
           (suc t) d
       count d ld (inl f) = ap (λ (x : ℕ). (core_at after.cores x).count) f
           ∙ (here moved.here.count ∙ ap (retired_in event_at (suc t)) (sym f))

@@ -1,7 +1,6 @@
 -- Forgetting riders and carries leaves the moves that can be made as they are.
-use Rattle.std.proofs.Common.{◌≡◌, ◌∙◌, ap, refl, sym, ◌*◌, List, [], ◌∷◌, length, Bool, nat_lt}
+use Rattle.std.proofs.Common.{◌≡◌, ◌∙◌, ap, sym, ◌*◌, length, Bool, nat_lt}
 use Rattle.std.specs.Prelude.{not, ◌&&◌}
-use Rattle.std.specs.List.{filter}
 use Rattle.access_times.specs.Riding.{Riding, Carrying, none_riding, none_carrying}
 use Rattle.rv_core.specs.Steps.{need, is_done}
 use Rattle.msi_cache.proofs.Forgets.{plain_waits}
@@ -18,10 +17,7 @@ use Rattle.msi_state.specs.Steps.{enabled, moves}
 use Rattle.machine_plain.specs.Plain.{plain}
 use Rattle.machine_plain.proofs.Plains.{plain_port_at}
 use Rattle.machine_plain.proofs.PlainActs.{plain_can}
-
-filter_same : {X : Type 0} (f g : X → Bool) → ((x : X) → f x ≡ g x) → (xs : List X) → filter f xs ≡ filter g xs
-filter_same f g same [] = refl
-filter_same f g same (x ∷ xs) = rw (same x, filter_same f g same xs)
+use Rattle.rtr_types.proofs.Lists.{filter_same}
 
 module _ {R K : Type 0} where
   pub plain_enabled : (riding : Riding R) (carrying : Carrying K) (s : State R K) (m : Move) →

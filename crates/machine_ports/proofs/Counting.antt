@@ -1,14 +1,9 @@
 -- The lists that are made for each core of a range.
-use Rattle.std.proofs.Common.{◌≡◌, ◌∙◌, ℕ, ◌+◌, List, [], ◌∷◌, ◌++◌, ap, length, zero-add}
+use Rattle.std.proofs.Common.{◌≡◌, ◌∙◌, ℕ, List, ap, length}
 use Rattle.std.specs.Prelude.{map}
 use Rattle.std.specs.List.{range_with_len}
 use Rattle.std.proofs.lemmas.List.{length-map}
-use Rattle.std.proofs.lemmas.List.FromFn.{length-map-range_with_len, map-range_with_len_more}
-
--- one more
-pub map_range_more : {X : Type 0} (f : ℕ → X) (n : ℕ) → map f (range_with_len 0 (n + 1)) ≡ map f (range_with_len 0 n)
-    ++ f n ∷ []
-map_range_more f n = map-range_with_len_more f 0 n n (zero-add n)
+use Rattle.std.proofs.lemmas.List.FromFn.{length-map-range_with_len}
 
 -- what is kept of each of so many cores, as it is read
 pub kept_long : {C S : Type 0} (first : ℕ → C) (kept_of : C → S) (many : ℕ) {cores : List C} {kept read : List S} →

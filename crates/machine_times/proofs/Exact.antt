@@ -142,54 +142,61 @@ found_still {X} r n d c line b e f =
 allows_write : (k : Kind) (p : Phase) → allows k p ≡ true → is_write k ≡ true → writes_in p ≡ true
 allows_write k p e w = grind arith
 
-pub exact_access : {X : Type 0} (t : WordTimes X) (h : List NotedAccess) (word : ℕ) (n : NotedAccess) (line : X)
-    (b : FullBlock X) → MayAccess h word b n →
-    HasNoted t n word (b.seats (core_of n)).line line → Exact t h word b →
-    Exact t (n ∷ h) word (accessing (core_of n) line b)
-exact_access {X} t h word n line b may noted e =
+pub exact_access : {X : Type 0} (times : WordTimes X) (history : List NotedAccess) (word : ℕ) (n : NotedAccess)
+    (line : X)
+    (block : FullBlock X) → MayAccess history word block n →
+    HasNoted times n word (block.seats (core_of n)).line line → Exact times history word block →
+    Exact times (n ∷ history) word (accessing (core_of n) line block)
+exact_access {X} times history word n line block may noted exact =
     record {
-      stands = stands_access c line b e.stands;
+      stands = stands_access c line block exact.stands;
       holders = by (is_write n.access.kind) refl;
-      found = λ d ld. found d ld (read_cases n word d (t.read s.line d) (last_noted_read h word d));
+      found = λ d ld. found d ld (read_cases n word d (times.read s.line d) (last_noted_read history word d));
     }
   where
     c : ℕ
     c = core_of n
 
     s : Seat X
-    s = b.seats c
+    s = block.seats c
 
     reads : reads_in s.phase ≡ true
     reads = allows_read n.access.kind s.phase may.allowed
 
-    old : IsPast t h word s.line
-    old = (e.holders.seats c may.core).line (reads_line s.phase reads)
+    old : IsPast times history word s.line
+    old = (exact.holders.seats c may.core).line (reads_line s.phase reads)
 
-    new : IsPast t (n ∷ h) word line
-    new = noted_past t n h word s.line line noted old
+    new : IsPast times (n ∷ history) word line
+    new = noted_past times n history word s.line line noted old
 
-    by : (w : Bool) → is_write n.access.kind ≡ w → HoldersHave (IsPast t (n ∷ h) word) (accessing c line b)
-    by true w = has_store (IsPast t (n ∷ h) word) c line b may.core (allows_write n.access.kind s.phase may.allowed w)
-        new e.stands
-    by false w = has_load (IsPast t h word) (IsPast t (n ∷ h) word) c line b reads
-        (λ (x : X) (p : IsPast t h word x). others_past t n h word x w may.later p) new e.holders
+    by : (w : Bool) → is_write n.access.kind ≡ w →
+        HoldersHave (IsPast times (n ∷ history) word) (accessing c line block)
+    by true w = has_store (IsPast times (n ∷ history) word) c line block may.core
+        (allows_write n.access.kind s.phase may.allowed w)
+        new exact.stands
+    by false w = has_load (IsPast times history word) (IsPast times (n ∷ history) word) c line block reads
+        (λ (x : X) (p : IsPast times history word x). others_past times n history word x w may.later p) new
+        exact.holders
 
-    found : (d : ℕ) → d < CORES_MAX → (rank (last_noted_read (n ∷ h) word d) ≡ 0)
-        ⊎ (((rank (last_noted_read (n ∷ h) word d) ≡ rank (last_noted_read h word d))
-        × (rank (read_after n word d (t.read s.line d)) ≡ rank (t.read s.line d)))
-        ⊎ ((d ≡ c) × (rank (read_after n word d (t.read s.line d)) ≡ rank (last_noted_read (n ∷ h) word d)))) →
-        Found (read_rank t d) (rank (last_noted_read (n ∷ h) word d)) d (accessing c line b)
+    found : (d : ℕ) → d < CORES_MAX → (rank (last_noted_read (n ∷ history) word d) ≡ 0)
+        ⊎ (((rank (last_noted_read (n ∷ history) word d) ≡ rank (last_noted_read history word d))
+        × (rank (read_after n word d (times.read s.line d)) ≡ rank (times.read s.line d)))
+        ⊎ ((d ≡ c) × (rank (read_after n word d (times.read s.line d)) ≡ rank (last_noted_read (n ∷ history) word d))))
+        →
+        Found (read_rank times d) (rank (last_noted_read (n ∷ history) word d)) d (accessing c line block)
     found d ld (inl none) lt = absurd (omega arith)
     found d ld (inr (inl same)) lt =
         let k = ap rank (noted.read d ld) ∙ same.1 in
-        subst (λ (m : ℕ). Found (read_rank t d) m d (accessing c line b)) (sym same.0)
-        (found_still (read_rank t d) (rank (last_noted_read h word d)) d c line b k (e.found d ld)) lt
+        subst (λ (m : ℕ). Found (read_rank times d) m d (accessing c line block)) (sym same.0)
+        (found_still (read_rank times d) (rank (last_noted_read history word d)) d c line block k (exact.found d ld)) lt
     found d ld (inr (inr mine)) lt =
-        let k : read_rank t d line ≡ rank (last_noted_read (n ∷ h) word d) = ap rank (noted.read d ld) ∙ mine.1 in
-        let at_c : Found (read_rank t d) (read_rank t d line) c (accessing c line b) =
-        found_mine (read_rank t d) c line b may.core reads e.stands in
-        subst (λ (m : ℕ). Found (read_rank t d) m d (accessing c line b)) k
-        (subst (λ (x : ℕ). Found (read_rank t d) (read_rank t d line) x (accessing c line b)) (sym mine.0) at_c) lt
+        let k : read_rank times d line ≡ rank (last_noted_read (n ∷ history) word d) =
+        ap rank (noted.read d ld) ∙ mine.1 in
+        let at_c : Found (read_rank times d) (read_rank times d line) c (accessing c line block) =
+        found_mine (read_rank times d) c line block may.core reads exact.stands in
+        subst (λ (m : ℕ). Found (read_rank times d) m d (accessing c line block)) k
+        (subst (λ (x : ℕ). Found (read_rank times d) (read_rank times d line) x (accessing c line block))
+        (sym mine.0) at_c) lt
 
 -- ---- what an access finds
 

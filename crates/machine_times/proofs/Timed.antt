@@ -130,50 +130,56 @@ module _ {R K : Type 0} where
       }
 
   step_times : (parts : TimesParts R) (carrying : Carrying K) → AbsorbsAll parts →
-      (h : List Retirement) (s : State R K) (m : Move) (rider : R)
-      (clock : Clock) → MachineHolds parts.riding carrying s → IsTrue (enabled parts.riding carrying s m) →
-      RiderFits parts clock rider (event parts.riding carrying s m) (retiring parts.riding carrying s m) →
-      StandsAfter parts carrying h s →
-      HaveTimes parts carrying (noted_after (event parts.riding carrying s m) clock (noted_accesses h))
-      (step parts.riding carrying rider s m).memory
-  step_times parts carrying well h s (CoreMove c) rider clock holds e notes f =
-      let lc = enabled_core parts.riding carrying s (CoreMove c) e holds in
-      working_times parts carrying well (noted_accesses h) s.memory c (core_at s.cores c) rider clock
-      (need_access (need s.image (core_at s.cores c)))
-      (event parts.riding carrying s (CoreMove c)) (core_port parts.riding carrying s c holds lc)
-      (is_at parts carrying h s c lc holds f)
-      (event_next parts.riding carrying s (CoreMove c)) notes (acts_can parts.riding carrying s (CoreMove c) rider e
-      holds) holds.memory f.all
-  step_times parts carrying well h s (RequestMove c) rider clock holds e notes f =
-      other_times parts carrying well (noted_accesses h) s.memory (TakeRequest c) e refl holds.memory f.all
-  step_times parts carrying well h s (ResponseMove c) rider clock holds e notes f =
-      other_times parts carrying well (noted_accesses h) s.memory (TakeResponse c) e refl holds.memory f.all
-  step_times parts carrying well h s (MessageMove c) rider clock holds e notes f =
-      told_times parts carrying well (noted_accesses h) taken c (core_at s.cores c) rider clock told
+      (history : List Retirement) (state : State R K) (m : Move) (rider : R)
+      (clock : Clock) → MachineHolds parts.riding carrying state → IsTrue (enabled parts.riding carrying state m) →
+      RiderFits parts clock rider (event parts.riding carrying state m) (retiring parts.riding carrying state m) →
+      StandsAfter parts carrying history state →
+      HaveTimes parts carrying (noted_after (event parts.riding carrying state m) clock (noted_accesses history))
+      (step parts.riding carrying rider state m).memory
+  step_times parts carrying well history state (CoreMove c) rider clock holds allowed notes times =
+      let lc = enabled_core parts.riding carrying state (CoreMove c) allowed holds in
+      working_times parts carrying well (noted_accesses history) state.memory c (core_at state.cores c) rider clock
+      (need_access (need state.image (core_at state.cores c)))
+      (event parts.riding carrying state (CoreMove c)) (core_port parts.riding carrying state c holds lc)
+      (is_at parts carrying history state c lc holds times)
+      (event_next parts.riding carrying state (CoreMove c)) notes
+      (acts_can parts.riding carrying state (CoreMove c) rider allowed
+      holds) holds.memory times.all
+  step_times parts carrying well history state (RequestMove c) rider clock holds allowed notes times =
+      other_times parts carrying well (noted_accesses history) state.memory
+      (TakeRequest c) allowed refl holds.memory times.all
+  step_times parts carrying well history state (ResponseMove c) rider clock holds allowed notes times =
+      other_times parts carrying well (noted_accesses history) state.memory
+      (TakeResponse c) allowed refl holds.memory times.all
+  step_times parts carrying well history state (MessageMove c) rider clock holds allowed notes times =
+      told_times parts carrying well (noted_accesses history) taken c (core_at state.cores c) rider clock told
       (subst (λ (n : ℕ). c < n) (sym length-taken) lp)
-      (is_at parts carrying h s c lc holds f) (event_next parts.riding carrying s (MessageMove c))
+      (is_at parts carrying history state c lc holds times) (event_next parts.riding carrying state (MessageMove c))
       (subst (λ (p : Port R K). RiderFits parts clock rider told p)
-      (sym (taken_there parts.riding carrying s.memory c lp)) notes)
-      (second_true (can parts.riding carrying s.memory (TakeMessage c)) (can_all parts.riding carrying taken
+      (sym (taken_there parts.riding carrying state.memory c lp)) notes)
+      (second_true (can parts.riding carrying state.memory (TakeMessage c)) (can_all parts.riding carrying taken
       (acts_of c rider told))
-      (acts_can parts.riding carrying s (MessageMove c) rider e holds)) (memory_kept parts.riding carrying s.memory
-      (TakeMessage c) e holds.memory)
-      (other_times parts carrying well (noted_accesses h) s.memory (TakeMessage c) e refl holds.memory f.all)
+      (acts_can parts.riding carrying state (MessageMove c) rider allowed holds))
+      (memory_kept parts.riding carrying state.memory
+      (TakeMessage c) allowed holds.memory)
+      (other_times parts carrying well (noted_accesses history) state.memory
+      (TakeMessage c) allowed refl holds.memory times.all)
     where
       taken : Memory R K
-      taken = after_act parts.riding carrying s.memory (TakeMessage c)
+      taken = after_act parts.riding carrying state.memory (TakeMessage c)
 
       told : Event
-      told = event parts.riding carrying s (MessageMove c)
+      told = event parts.riding carrying state (MessageMove c)
 
-      lc : c < length s.cores
-      lc = enabled_core parts.riding carrying s (MessageMove c) e holds
+      lc : c < length state.cores
+      lc = enabled_core parts.riding carrying state (MessageMove c) allowed holds
 
-      lp : c < length s.memory.ports
-      lp = core_port parts.riding carrying s c holds lc
+      lp : c < length state.memory.ports
+      lp = core_port parts.riding carrying state c holds lc
 
-      length-taken : length taken.ports ≡ length s.memory.ports
-      length-taken = length-set s.memory.ports c (port_taken parts.riding carrying (port_at carrying s.memory.ports c))
+      length-taken : length taken.ports ≡ length state.memory.ports
+      length-taken = length-set state.memory.ports c
+          (port_taken parts.riding carrying (port_at carrying state.memory.ports c))
 
   -- the core of an enabled move is one that there may be
   pub mover_below : (parts : TimesParts R) (carrying : Carrying K) (s : State R K) (m : Move) →

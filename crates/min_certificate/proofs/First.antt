@@ -17,13 +17,14 @@ use Rattle.race_log.specs.Validity.{Valid}
 use Rattle.clock_entries.specs.Ends.{instr, is_end, IsEnd, ends_to}
 use Rattle.clock_entries.proofs.Ends.{ends_more, end_counts}
 use Rattle.clock_entries.proofs.Numbers.{few, at_low, ends_rise, fronted, longer}
-use Rattle.replay_audit.proofs.Logs.{edge_within, recorded_log}
+use Rattle.replay_audit.proofs.Logs.{recorded_log}
 use Rattle.certificate_codec.specs.declared.certificate.Certificate.{Certificate}
 use Rattle.certificate_codec.specs.Ends.{reduced_edges, IsWithin}
 use Rattle.certificate_codec.proofs.Marks.{one_more}
 use Rattle.min_certificate.specs.Places.{IsGoodIn, LeadsTo}
 use Rattle.min_certificate.specs.Firsts.{FailsFirst, IsFirstBadOf, AreGoodOf}
 use Rattle.min_certificate.proofs.Shown.{end_within}
+use Rattle.replay_core.proofs.Sources.{edge_within}
 
 -- ---- edges
 

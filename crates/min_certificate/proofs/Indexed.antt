@@ -13,12 +13,14 @@ use Rattle.rtr_types.specs.declared.instr.Instr.{Instr}
 use Rattle.rtr_types.specs.declared.access.Access.{Access}
 use Rattle.rtr_types.specs.declared.access.Kind.TheVariants.{Load}
 use Rattle.clock_core.specs.Order.{Before, Among}
-use Rattle.clock_core.proofs.Paths.{joined, one, instr_eq}
+use Rattle.clock_core.proofs.Paths.{joined, one}
 use Rattle.conflict_edge.specs.Conflicts.{StandsIn, Conflicts, ConflictPair, CountsRise}
 use Rattle.conflict_edge.specs.Least.{Suffices}
 use Rattle.conflict_edge.proofs.Standing.{one_first, positive, stands_which}
 use Rattle.conflict_edge.proofs.Steps.{stands_at}
+use Rattle.conflict_edge.proofs.Next.{rise-left}
 use Rattle.rtr_types.specs.declared.instr.Edge.{Edge}
+use Rattle.rtr_types.proofs.Instrs.{instr_eq}
 use Rattle.clock_entries.specs.Ends.{instr}
 use Rattle.least_lists.specs.LeastLists.{AreOf}
 use Rattle.min_certificate.specs.Conflicting.{BothConflict, AreIndexed, IsAccessAt, IsPlaceOf, IsPut}
@@ -74,15 +76,6 @@ rises_past (x ∷ list) a b rise (inl p) e =
     last [] z = inl refl
     last (y ∷ l) z = inr (last l z)
 rises_past (x ∷ list) a b rise (inr s) e = rises_past list a b rise.2 s e
-
-front_rises : (list more : List Access) → CountsRise (list ++ more) → CountsRise list
-front_rises [] more h = tt
-front_rises (x ∷ list) more h = (h.0, (λ b s e. h.1 b (left list b s) e), front_rises list more h.2)
-  where
-    left : (l : List Access) (b : Access) → StandsIn l b → StandsIn (l ++ more) b
-    left [] b s = absurd s
-    left (y ∷ l) b (inl p) = inl p
-    left (y ∷ l) b (inr s) = inr (left l b s)
 
 pub stands_front : (list : List Access) (a b : Access) → StandsIn list b → StandsIn (list ++ a ∷ []) b
 stands_front [] a b s = absurd s
@@ -267,7 +260,7 @@ longer accesses i d lt = let e : i + 1 ≡ suc i = omega arith in
 
 taken_rises : (accesses : List Access) (i : ℕ) → CountsRise accesses → CountsRise (take i accesses)
 taken_rises accesses i rise =
-    front_rises (take i accesses) (drop i accesses) (subst CountsRise (sym (take-append-drop i accesses)) rise)
+    rise-left (take i accesses) (drop i accesses) (subst CountsRise (sym (take-append-drop i accesses)) rise)
 
 next_rises : (accesses : List Access) (i : ℕ) (d : Access) → i < length accesses → CountsRise accesses →
     CountsRise (take i accesses ++ get_or accesses i d ∷ [])

@@ -5,19 +5,19 @@ use Rattle.std.proofs.Common.{IsTrue, true}
 use Rattle.std.specs.Prelude.{slice_index, IfSome, Option}
 use Rattle.rtr_types.specs.declared.instr.Instr.{Instr}
 use Rattle.rtr_types.specs.declared.pairs.Which.TheVariants.{Reduced}
+use Rattle.rtr_types.proofs.Instrs.{instr_eq}
 use Rattle.clock_core.specs.Order.{Among}
 use Rattle.clock_core.proofs.Listed.{among_contains, contains_among}
-use Rattle.clock_core.proofs.Paths.{instr_eq}
 use Rattle.race_log.specs.declared.recording.Recording.{Recording}
 use Rattle.race_log.specs.Sources.{HasEdge}
 use Rattle.race_log.specs.Validity.{Valid}
 use Rattle.race_log.proofs.SourceLaws.{edges-within, one-source}
 use Rattle.clock_entries.specs.Ends.{instr, Clocks, entry_at, last_entry}
-use Rattle.replay_audit.proofs.Logs.{edge_within}
 use Rattle.certificate_codec.specs.declared.certificate.Certificate.{Certificate}
 use Rattle.certificate_codec.specs.Ends.{reduced_edges, IsWithin}
 use Rattle.min_certificate.specs.Places.{entry_in, IsBelow, AreSourcesBelow, AreAllBelow, IsUnknownThere}
 use Rattle.min_certificate.specs.Places.{IsSourceOn, on_core}
+use Rattle.replay_core.proofs.Sources.{edge_within}
 
 pub entry_none : (clocks : Clocks) (c k : ℕ) → k ≡ 0 → [] ≡ entry_at clocks c k
 entry_none clocks c k e = ap (λ (j : ℕ). entry_at clocks c j) (sym e)

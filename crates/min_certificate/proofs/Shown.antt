@@ -12,12 +12,13 @@ use Rattle.clock_entries.proofs.Ends.{last_entry_law, end_edge}
 use Rattle.clock_entries.proofs.Exact.{exact_is_good, implied_law}
 use Rattle.clock_entries.proofs.Least.{good_shows_least, least_is_needed, amiss_law}
 use Rattle.replay_audit.specs.Determinate.{low_accesses}
-use Rattle.replay_audit.proofs.Logs.{recorded_log, edge_within, leads_back}
+use Rattle.replay_audit.proofs.Logs.{recorded_log, leads_back}
 use Rattle.certificate_codec.specs.Ends.{reduced_edges, IsWithin}
 use Rattle.min_certificate.specs.Places.{entry_in, IsKnownOtherwiseIn}
 use Rattle.min_certificate.specs.Laws.{IsConflictIn, IsAmissIn, PassedIsLeastLaw, LeastPassesLaw, NotLeastLaw}
 use Rattle.min_certificate.specs.Laws.{AmissByEntriesLaw, ExactFitsLaw}
 use Rattle.min_certificate.proofs.Lows.{low_rise, low_acyclic}
+use Rattle.replay_core.proofs.Sources.{edge_within}
 
 pub passed_is_least : PassedIsLeastLaw
 passed_is_least c valid d p =

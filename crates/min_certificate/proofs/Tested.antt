@@ -15,8 +15,9 @@ use Rattle.race_log.proofs.InTurn.{stand-all, stand-places}
 use Rattle.replay_core.specs.Orders.{bump, counts, nought, Ordered, Ready}
 use Rattle.replay_core.specs.Plans.{plan_of}
 use Rattle.replay_core.proofs.Counts.{bump_same, bump_else}
+use Rattle.replay_core.proofs.Sources.{edge_within}
 use Rattle.replay_audit.specs.Determinate.{IsDeterminate, low_order_of}
-use Rattle.replay_audit.proofs.Logs.{edge_within, recorded_log, sourced_among, next_or_before}
+use Rattle.replay_audit.proofs.Logs.{recorded_log, sourced_among, next_or_before}
 use Rattle.clock_entries.specs.Ends.{entry_at, ends_to, IsEnd}
 use Rattle.clock_entries.specs.Tests.{HasPlaces, is_exact_at}
 use Rattle.clock_entries.proofs.Ends.{end_counts, end_edge, end_source, last_entry_law}

@@ -4,6 +4,7 @@ use Rattle.std.proofs.Common.{List, [], ◌∷◌, length, get_or, nat_lt}
 use Rattle.std.proofs.Common.{◌&&◌}
 use Rattle.std.specs.Prelude.{map, slice_set}
 use Rattle.std.proofs.lemmas.List.{get_or-map, get_or_past, get_or-set_other, length-map, map-set}
+use Rattle.std.proofs.lemmas.Bool.{cases_lt}
 use Rattle.access_times.specs.Riding.{Riding, Carrying}
 use Rattle.msi_cache.specs.Lines.{waits}
 use Rattle.msi_cache.specs.declared.messages.Request.{Request}
@@ -12,7 +13,7 @@ use Rattle.msi_memory.specs.declared.port.Port.{Port}
 use Rattle.msi_memory.specs.Acts.{Act, can, can_at, port_of}
 use Rattle.msi_memory.specs.Memories.{Memory, no_port, port_at}
 use Rattle.msi_memory.specs.Rests.{requests_at}
-use Rattle.move_marks.proofs.Delivered.{below_is, past_is, split}
+use Rattle.move_marks.proofs.Delivered.{below_is, past_is}
 
 module _ {R K : Type 0} where
   -- what is read of a port, in the list of what is read of all
@@ -77,7 +78,7 @@ module _ {R K : Type 0} where
       (port_of act < length m.ports → can_at riding n.home (port_at carrying n.ports (port_of act)) act
       ≡ can_at riding m.home (port_at carrying m.ports (port_of act))
       act) → can riding carrying n act ≡ can riding carrying m act
-  can_by riding carrying m n act count same = by (split (port_of act) (length m.ports))
+  can_by riding carrying m n act count same = by (cases_lt (port_of act) (length m.ports))
     where
       by : (port_of act < length m.ports) ⊎ (length m.ports ≤ port_of act) →
           can riding carrying n act ≡ can riding carrying m act

@@ -38,7 +38,7 @@ flag_at set k within =
 flag_past : (set : CoreSet) (k : ℕ) → CORES_MAX ≤ k → get_or (flags set) k false ≡ false
 flag_past set k past = get_or_past (flags set) k false (omega (arith, flags_long set))
 
-as_digit : (x : ℕ) → x < 2 → x ≡ cond (x == 1) 1 0
+pub as_digit : (x : ℕ) → x < 2 → x ≡ cond (x == 1) 1 0
 as_digit x within = grind (arith, nat_tests)
 
 bit_is : (set : CoreSet) (k : ℕ) → bit_at set.bits k ≡ cond (has set k) 1 0

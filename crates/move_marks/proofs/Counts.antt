@@ -12,6 +12,7 @@ use Rattle.std.proofs.lemmas.List.Sums.{length-filter}
 use Rattle.std.proofs.lemmas.Nat.{zero_from_ones}
 use Rattle.std.proofs.lemmas.Nat.Bits.{bit_at-lt, bit_at_above, same_from_bits}
 use Rattle.std.proofs.lemmas.Simd.{bit_mask_l, ones-mask_l}
+use Rattle.std.proofs.lemmas.Bool.{cases_lt}
 use lib.Lanes.{mask_l}
 use Rattle.move_marks.specs.declared.marks.MarkedMove.{MarkedMove}
 use Rattle.move_marks.specs.declared.marks.MoveKind.{MoveKind}
@@ -21,14 +22,12 @@ use Rattle.move_marks.specs.Kinds.{marked, marked_at_ports, marked_of, place_of,
 use Rattle.move_marks.specs.Members.{members}
 use Rattle.move_marks.proofs.KindBits.{in_set}
 use Rattle.move_marks.proofs.Listing.{kind_and_others, kind_listed}
-use Rattle.move_marks.proofs.SetBits.{is_bit, split}
-
-as_digit : (x : ℕ) → x < 2 → x ≡ cond (x == 1) 1 0
-as_digit x within = grind (arith, nat_tests)
+use Rattle.move_marks.proofs.SetBits.{is_bit}
+use Rattle.move_marks.proofs.Bits.{as_digit}
 
 -- the bits of a word, in order
 bits_listed : (n : ℕ) → n < 2 ^ 64 → n ≡ mask_l (map (is_bit n) (range_with_len 0 64))
-bits_listed n fits = same_from_bits n (mask_l (map (is_bit n) (range_with_len 0 64))) (λ i. by i (split i 64))
+bits_listed n fits = same_from_bits n (mask_l (map (is_bit n) (range_with_len 0 64))) (λ i. by i (cases_lt i 64))
   where
     long : length (range_with_len 0 64) ≡ 64
     long = length-range_with_len 0 64

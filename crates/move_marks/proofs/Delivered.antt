@@ -1,6 +1,6 @@
 -- What the home's answer changes at the ports, and tests.
 use Rattle.std.proofs.Common.{◌≡◌, ◌∙◌, ◌⊎◌, inl, inr, refl, sym, ap, ℕ, zero}
-use Rattle.std.proofs.Common.{suc, ◌<◌, ◌≤◌, Bool, true, false, cond, List, [], ◌∷◌, ◌++◌}
+use Rattle.std.proofs.Common.{suc, ◌<◌, ◌≤◌, Bool, true, false, cond, List}
 use Rattle.std.proofs.Common.{length, nat_lt, arith, ◌&&◌, ◌||◌, ◌==◌, Option, Some, None}
 use Rattle.std.specs.Prelude.{map, not}
 use Rattle.std.proofs.Math.Seq.{map-set_same}
@@ -11,6 +11,7 @@ use Rattle.access_times.specs.Riding.{Carrying}
 use Rattle.rtr_types.specs.CoreSets.{has}
 use Rattle.rtr_types.specs.declared.core_set.CoreSet.{CoreSet}
 use Rattle.link_order.specs.Queue.{is_nil}
+use Rattle.link_order.proofs.Queues.{more_nil}
 use Rattle.msi_cache.specs.declared.messages.FromHome.{FromHome}
 use Rattle.msi_cache.specs.declared.messages.FromHome.TheVariants.{Inv}
 use Rattle.msi_laws.proofs.Views.{port_at-told}
@@ -25,26 +26,15 @@ below_is d n within = grind (arith, nat_tests)
 pub past_is : (d n : ℕ) → n ≤ d → nat_lt d n ≡ false
 past_is d n past = grind (arith, nat_tests)
 
-pub split : (a b : ℕ) → (a < b) ⊎ (b ≤ a)
-split a b = grind arith
-
 pub eq_is : (d n : ℕ) → d ≡ n → (d == n) ≡ true
 eq_is d n same = grind (arith, nat_tests, same)
 
 pub ne_is : (d n : ℕ) → (d ≡ n → ⊥) → (d == n) ≡ false
 ne_is d n other = grind (arith, nat_tests, other)
 
-pub and_false : (a : Bool) → (a && false) ≡ false
-and_false true = refl
-and_false false = refl
-
 pub and_true : (a : Bool) → (a && true) ≡ a
 and_true true = refl
 and_true false = refl
-
-pub more_nil : {X : Type 0} (xs : List X) (x : X) → is_nil (xs ++ x ∷ []) ≡ false
-more_nil [] x = refl
-more_nil (y ∷ ys) x = refl
 
 pub told_or : (b x : Bool) → (not x || b) ≡ not (cond b false x)
 told_or true true = refl

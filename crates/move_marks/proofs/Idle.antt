@@ -1,6 +1,7 @@
 -- At the start nothing is under way at the ports: nothing is marked there, and no block is asked for.
 use Rattle.std.proofs.Common.{◌≡◌, ◌≢◌, ◌∙◌, ◌⊎◌, inl, inr, refl, sym, ap, ℕ, zero, suc, ◌<◌, ◌≤◌, Bool, false}
 use Rattle.std.proofs.Common.{List, [], length, replicate}
+use Rattle.std.proofs.lemmas.Bool.{cases_lt}
 use Rattle.access_times.specs.Riding.{Riding, Carrying}
 use Rattle.image_mem.specs.Contents.{Contents}
 use Rattle.rtr_types.specs.CoreSets.{has}
@@ -14,7 +15,6 @@ use Rattle.move_marks.specs.declared.marks.MoveMarks.{MoveMarks}
 use Rattle.move_marks.specs.Kinds.{set_of}
 use Rattle.move_marks.specs.Ports.{PortsNoted}
 use Rattle.move_marks.proofs.Acts.{can_here, can_past}
-use Rattle.move_marks.proofs.Delivered.{split}
 use Rattle.move_marks.proofs.Lateness.{all_noted}
 
 module _ {R K : Type 0} (riding : Riding R) (carrying : Carrying K) where
@@ -35,7 +35,7 @@ module _ {R K : Type 0} (riding : Riding R) (carrying : Carrying K) where
         can_at riding (memory_start riding carrying image cores).home
         (port_at carrying (replicate cores (port_start riding carrying)) (port_of act)) act ≡ false →
         can riding carrying (memory_start riding carrying image cores) act ≡ false
-    idle act none = by (split (port_of act) (length (memory_start riding carrying image cores).ports))
+    idle act none = by (cases_lt (port_of act) (length (memory_start riding carrying image cores).ports))
       where
         by : (port_of act < length (memory_start riding carrying image cores).ports)
             ⊎ (length (memory_start riding carrying image cores).ports ≤ port_of act) →

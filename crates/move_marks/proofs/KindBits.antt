@@ -7,6 +7,7 @@ use Rattle.std.specs.Int.{bit_at, bit_not, w64}
 use Rattle.std.proofs.lemmas.Nat.{and_mask, shr-shr}
 use Rattle.std.proofs.lemmas.Nat.Bits.{bit_at-zero, bit_at_above, bit_at_cat_high, bit_at_cat_low, bit_at_clear_other}
 use Rattle.std.proofs.lemmas.Nat.Bits.{bit_at_clear_same, bit_at_set_other, bit_at_set_same}
+use Rattle.std.proofs.lemmas.Bool.{cases_lt}
 use Rattle.rtr_types.specs.CoreSets.{has}
 use Rattle.rtr_types.specs.declared.TheConstants.{CORES_MAX}
 use Rattle.rtr_types.specs.declared.core_set.CoreSet.{CoreSet}
@@ -14,7 +15,7 @@ use Rattle.move_marks.specs.declared.marks.MoveKind.{MoveKind}
 use Rattle.move_marks.specs.declared.marks.MoveKind.TheVariants.{Own, Request, Response, FromHome}
 use Rattle.move_marks.specs.declared.marks.MoveMarks.{MoveMarks}
 use Rattle.move_marks.specs.Kinds.{place_of, set_of}
-use Rattle.move_marks.proofs.SetBits.{bit_and_is, bit_not_is, bit_or_is, has_is, is_bit, none_past, split}
+use Rattle.move_marks.proofs.SetBits.{bit_and_is, bit_not_is, bit_or_is, has_is, is_bit, none_past}
 
 -- ---- places
 number : MoveKind → ℕ
@@ -80,7 +81,7 @@ unfolding set_of
 past_set kind marks c past = none_past (set_of kind marks) c (omega arith) past
 
 pub none_set : (kind : MoveKind) (c : ℕ) → has (set_of kind (record { bits = 0 })) c ≡ false
-none_set kind c = by (split c CORES_MAX)
+none_set kind c = by (cases_lt c CORES_MAX)
   where
     by : (c < CORES_MAX) ⊎ (CORES_MAX ≤ c) → has (set_of kind (record { bits = 0 })) c ≡ false
     by (inl at) = in_set kind (record { bits = 0 }) c at ∙ ap (λ (x : ℕ). x == 1) (bit_at-zero (place_of kind + c))
@@ -110,7 +111,7 @@ module _ (kind : MoveKind) (bits core : ℕ) (here : core < CORES_MAX) where
   pub mark_others : (k : MoveKind) (c : ℕ) → (k ≡ kind → c ≢ core) →
       has (set_of k (record { bits = bit_or bits (1 * 2 ^ (place_of kind + core) % 2 ^ 64) })) c
       ≡ has (set_of k (record { bits = bits })) c
-  mark_others k c other = by (split c CORES_MAX)
+  mark_others k c other = by (cases_lt c CORES_MAX)
     where
       by : (c < CORES_MAX) ⊎ (CORES_MAX ≤ c) →
           has (set_of k (record { bits = bit_or bits (1 * 2 ^ (place_of kind + core) % 2 ^ 64) })) c
@@ -134,7 +135,7 @@ module _ (kind : MoveKind) (bits core : ℕ) (here : core < CORES_MAX) where
   pub clear_others : (k : MoveKind) (c : ℕ) → (k ≡ kind → c ≢ core) →
       has (set_of k (record { bits = bit_and bits (bit_not w64 (1 * 2 ^ (place_of kind + core) % 2 ^ 64)) })) c
       ≡ has (set_of k (record { bits = bits })) c
-  clear_others k c other = by (split c CORES_MAX)
+  clear_others k c other = by (cases_lt c CORES_MAX)
     where
       by : (c < CORES_MAX) ⊎ (CORES_MAX ≤ c) →
           has (set_of k (record { bits = bit_and bits (bit_not w64 (1 * 2 ^ (place_of kind + core) % 2 ^ 64)) })) c
@@ -178,7 +179,7 @@ bit_own kind s c =
 
 bit_other : (kind k : MoveKind) (s c : ℕ) → s < 65536 → c < CORES_MAX → k ≢ kind →
     is_bit (s * 2 ^ place_of kind) (place_of k + c) ≡ false
-bit_other kind k s c fits within other = ap (λ (x : ℕ). x == 1) (by (split (place_of k + c) (place_of kind)))
+bit_other kind k s c fits within other = ap (λ (x : ℕ). x == 1) (by (cases_lt (place_of k + c) (place_of kind)))
   where
     by : (place_of k + c < place_of kind) ⊎ (place_of kind ≤ place_of k + c) →
         bit_at (s * 2 ^ place_of kind) (place_of k + c) ≡ 0
@@ -203,7 +204,7 @@ module _ (kind : MoveKind) (bits : ℕ) (set : CoreSet) (fits : set.bits < 65536
   pub join_these : (c : ℕ) →
       has (set_of kind (record { bits = bit_or bits (set.bits * 2 ^ place_of kind % 2 ^ 64) })) c
       ≡ (has (set_of kind (record { bits = bits })) c || has set c)
-  join_these c = by (split c CORES_MAX)
+  join_these c = by (cases_lt c CORES_MAX)
     where
       by : (c < CORES_MAX) ⊎ (CORES_MAX ≤ c) →
           has (set_of kind (record { bits = bit_or bits (set.bits * 2 ^ place_of kind % 2 ^ 64) })) c
@@ -220,7 +221,7 @@ module _ (kind : MoveKind) (bits : ℕ) (set : CoreSet) (fits : set.bits < 65536
   pub join_others : (k : MoveKind) (c : ℕ) → k ≢ kind →
       has (set_of k (record { bits = bit_or bits (set.bits * 2 ^ place_of kind % 2 ^ 64) })) c
       ≡ has (set_of k (record { bits = bits })) c
-  join_others k c other = by (split c CORES_MAX)
+  join_others k c other = by (cases_lt c CORES_MAX)
     where
       or_none : (b : Bool) → (b || false) ≡ b
       or_none true = refl
@@ -253,7 +254,7 @@ module _ (kind : MoveKind) (bits : ℕ) (set : CoreSet) (fits : set.bits < 65536
   pub but_these : (c : ℕ) →
       has (set_of kind (record { bits = bit_and bits (bit_not w64 (set.bits * 2 ^ place_of kind % 2 ^ 64)) })) c
       ≡ (has (set_of kind (record { bits = bits })) c && not (has set c))
-  but_these c = by (split c CORES_MAX)
+  but_these c = by (cases_lt c CORES_MAX)
     where
       by : (c < CORES_MAX) ⊎ (CORES_MAX ≤ c) →
           has (set_of kind (record { bits = bit_and bits (bit_not w64 (set.bits * 2 ^ place_of kind % 2 ^ 64)) })) c
@@ -270,7 +271,7 @@ module _ (kind : MoveKind) (bits : ℕ) (set : CoreSet) (fits : set.bits < 65536
   pub but_others : (k : MoveKind) (c : ℕ) → k ≢ kind →
       has (set_of k (record { bits = bit_and bits (bit_not w64 (set.bits * 2 ^ place_of kind % 2 ^ 64)) })) c
       ≡ has (set_of k (record { bits = bits })) c
-  but_others k c other = by (split c CORES_MAX)
+  but_others k c other = by (cases_lt c CORES_MAX)
     where
       and_all : (b : Bool) → (b && true) ≡ b
       and_all true = refl

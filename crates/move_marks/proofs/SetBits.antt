@@ -4,7 +4,7 @@ use Rattle.std.proofs.Common.{◌≡◌, ◌∙◌, ◌≢◌, ◌⊎◌, inl, i
 use Rattle.std.proofs.Common.{false, nat_lt, arith, ◌&&◌, ◌||◌, ◌==◌}
 use Rattle.std.specs.Prelude.{bit_and, bit_or, not}
 use Rattle.std.specs.Int.{bit_at, bit_not, w64}
-use Rattle.std.proofs.lemmas.Bool.{cases_eq}
+use Rattle.std.proofs.lemmas.Bool.{cases_eq, cases_lt}
 use Rattle.std.proofs.lemmas.Bool.Decides.{nat_tests}
 use Rattle.std.proofs.lemmas.Nat.Bits.{bit_at_above, bit_at-lt, bit_at_and, bit_at_not, bit_at_ones, bit_at_ones_above}
 use Rattle.std.proofs.lemmas.Nat.Bits.{bit_at_or}
@@ -13,12 +13,10 @@ use Rattle.rtr_types.specs.CoreSets.{has, no_cores, with_core, without_core}
 use Rattle.rtr_types.specs.declared.TheConstants.{CORES_MAX}
 use Rattle.rtr_types.specs.declared.core_set.CoreSet.{CoreSet}
 use Rattle.rtr_types.proofs.Members.{has-no_cores, has-with_other, has-with_same, has-without_other}
+use Rattle.move_marks.proofs.Delivered.{below_is, past_is}
 
 digit : (x : ℕ) → x < 2 → (x ≡ 0) ⊎ (x ≡ 1)
 digit x within = grind arith
-
-pub split : (a b : ℕ) → (a < b) ⊎ (b ≤ a)
-split a b = grind arith
 
 or_digit : (x y : ℕ) → x < 2 → y < 2 → (max x y == 1) ≡ ((x == 1) || (y == 1))
 or_digit x y p q = by (digit x p) (digit y q)
@@ -78,17 +76,11 @@ none_past set c fits past = ap (λ (x : ℕ). x == 1) (bit_at_above set.bits COR
 -- the bits of the first so many
 has_first : (cores c : ℕ) → has (record { bits = 2 ^ cores - 1 }) c ≡ nat_lt c cores
 unfolding has
-has_first cores c = by (split c cores)
+has_first cores c = by (cases_lt c cores)
   where
     by : (c < cores) ⊎ (cores ≤ c) → (bit_at (2 ^ cores - 1) c == 1) ≡ nat_lt c cores
     by (inl within) = rw (bit_at_ones cores c within, below_is c cores within)
-      where
-        below_is : (d n : ℕ) → d < n → nat_lt d n ≡ true
-        below_is d n within = grind (arith, nat_tests)
     by (inr past) = rw (bit_at_ones_above cores c past, past_is c cores past)
-      where
-        past_is : (d n : ℕ) → n ≤ d → nat_lt d n ≡ false
-        past_is d n past = grind (arith, nat_tests)
 
 pub first_common : (a cores c : ℕ) → cores ≤ CORES_MAX →
     has (record { bits = bit_and a (1 * 2 ^ cores % 4294967296 - 1) }) c
@@ -102,7 +94,7 @@ first_common a cores c few =
 pub others_left : (set : CoreSet) (core c : ℕ) → set.bits < 2 ^ CORES_MAX →
     (without_core set core).bits < 2 ^ CORES_MAX → core < CORES_MAX → c ≢ core →
     has (without_core set core) c ≡ has set c
-others_left set core c fits left within other = by (split c CORES_MAX)
+others_left set core c fits left within other = by (cases_lt c CORES_MAX)
   where
     by : (c < CORES_MAX) ⊎ (CORES_MAX ≤ c) → has (without_core set core) c ≡ has set c
     by (inl here) = has-without_other set core c within here other
@@ -127,7 +119,7 @@ one_heard set to cores c here few is = ap (λ (s : CoreSet). has s c) is ∙ by 
 
 -- or of none, where it isn't
 pub none_heard : (to cores c : ℕ) → cores ≤ to → false ≡ ((c == to) && nat_lt c cores)
-none_heard to cores c past = by (split c cores)
+none_heard to cores c past = by (cases_lt c cores)
   where
     by : (c < cores) ⊎ (cores ≤ c) → false ≡ ((c == to) && nat_lt c cores)
     by (inl within) = grind (arith, nat_tests, within, past)

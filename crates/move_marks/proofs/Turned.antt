@@ -4,8 +4,9 @@ use Rattle.std.proofs.Common.{List, [], ◌∷◌, arith}
 use Rattle.std.proofs.Common.{length, get_or, nat_lt, ◌&&◌, ◌||◌, ◌==◌}
 use Rattle.std.specs.Prelude.{map, not, slice_set}
 use Rattle.std.proofs.Math.Seq.{map-set_same}
-use Rattle.std.proofs.lemmas.Bool.{cases_eq}
+use Rattle.std.proofs.lemmas.Bool.{cases_eq, cases_lt}
 use Rattle.std.proofs.lemmas.List.{get_or-set_other, get_or-set_same, length-set}
+use Rattle.std.proofs.Math.Bool.{and-false}
 use Rattle.access_times.specs.Riding.{Riding, Carrying}
 use Rattle.link_order.specs.Queue.{is_nil}
 use Rattle.msi_cache.specs.Messages.{request_block, response_block}
@@ -36,9 +37,9 @@ use Rattle.move_marks.specs.declared.marks.MoveMarks.{MoveMarks}
 use Rattle.move_marks.specs.Kinds.{set_of}
 use Rattle.move_marks.specs.Turns.{IsAfterTurn, differ}
 use Rattle.move_marks.proofs.Acts.{can_by, can_here, can_past, requests_past, requests_within, same_at, set_elsewhere}
-use Rattle.move_marks.proofs.Delivered.{and_false, and_true, below_is, delivered_same, delivered_silent, eq_is}
+use Rattle.move_marks.proofs.Delivered.{and_true, below_is, delivered_same, delivered_silent, eq_is}
 use Rattle.move_marks.proofs.Delivered.{false_true}
-use Rattle.move_marks.proofs.Delivered.{ne_is, past_is, right_of, silent, split, told_or}
+use Rattle.move_marks.proofs.Delivered.{ne_is, past_is, right_of, silent, told_or}
 
 module _ {R : Type 0} where
   busy_is : (stage : Stage) (c : ℕ) (m : Response R) → has_response_row stage c m ≡ true → is_free stage ≡ false
@@ -115,10 +116,10 @@ module _ {R K : Type 0} where
           is_free (entry_at riding.fresh old block).stage ≡ was →
           cond (head_is block items && differ free was) free (head_free items riding old) ≡ head_free items riding new
       by true true is before = ap (λ (b : Bool). cond b true (head_free items riding old))
-          (and_false (head_is block items))
+          (and-false (head_is block items))
           ∙ free_same riding old new block items home (before ∙ sym is)
       by false false is before = ap (λ (b : Bool). cond b false (head_free items riding old))
-          (and_false (head_is block items))
+          (and-false (head_is block items))
           ∙ free_same riding old new block items home (before ∙ sym is)
       by true false is before =
           ap (λ (b : Bool). cond b true (head_free items riding old)) (and_true (head_is block items))
@@ -143,7 +144,7 @@ module _ {R K : Type 0} where
       ∙ (λ i. cond (head_is (about i) (requests_at n.ports d) && differ
       (is_free (entry_at riding.fresh n.home (about i)).stage) was)
       (is_free (entry_at riding.fresh n.home (about i)).stage) (marked i))
-      ∙ by (split d (length m.ports))
+      ∙ by (cases_lt d (length m.ports))
     where
       by : (d < length m.ports) ⊎ (length m.ports ≤ d) →
           cond (head_is block (requests_at n.ports d)
@@ -181,7 +182,7 @@ module _ {R K : Type 0} where
   message_marked riding carrying m n c block cores hearing turn was old new turned heard long after d marked =
       after.messages d
       ∙ (λ i. marked i || (heard d i && nat_lt d (long i)))
-      ∙ by (split d (length m.ports))
+      ∙ by (cases_lt d (length m.ports))
     where
       by : (d < length m.ports) ⊎ (length m.ports ≤ d) →
           (can riding carrying m (TakeMessage d) || (hearing d && nat_lt d (length m.ports)))
@@ -195,7 +196,7 @@ module _ {R K : Type 0} where
           ∙ sym (can_here riding carrying n (TakeMessage d) (subst (λ (k : ℕ). d < k) (sym turned.count) within))
       by (inr past) =
           (λ i. can_past riding carrying m (TakeMessage d) past i || (hearing d && past_is d (length m.ports) past i))
-          ∙ and_false (hearing d)
+          ∙ and-false (hearing d)
           ∙ sym (can_past riding carrying n (TakeMessage d) (subst (λ (k : ℕ). k ≤ d) (sym turned.count) past))
 
   -- the other ports have the responses that they had
@@ -432,7 +433,7 @@ module _ {R K : Type 0} where
   -- where no request is left the home can take none
   pub none_left : (riding : Riding R) (carrying : Carrying K) (m : Memory R K) (c : ℕ) →
       requests_at m.ports c ≡ [] → can riding carrying m (TakeRequest c) ≡ false
-  none_left riding carrying m c none = by (split c (length m.ports))
+  none_left riding carrying m c none = by (cases_lt c (length m.ports))
     where
       by : (c < length m.ports) ⊎ (length m.ports ≤ c) → can riding carrying m (TakeRequest c) ≡ false
       by (inl within) =

@@ -103,64 +103,69 @@ module _ {R K : Type 0} where
           same false = refl
 
   -- the block that the message is of shows as `moved` says, and the others what they did
-  all_taken : (riding : Riding R) (carrying : Carrying K) (Q : ℕ → FullBlock (Payload R) → Type 0) (m : Memory R K)
-      (c : ℕ) (t : Taken R K) (pop : ℕ → Bool → Sight R → Sight R) → c < length m.ports → t.block < length m.home →
-      Sends t.answer t.block m.ports → ((b : ℕ) (v : Sight R) → pop b false v ≡ v) →
-      ((b : ℕ) → port_sight riding b t.left ≡ (if t.block == b then pop b true (port_sight riding b
-      (port_at carrying m.ports c)) else port_sight riding b (port_at carrying m.ports c))) →
-      ((d : ℕ) → d < CORES_MAX → length m.ports ≤ d → sight_answered t.answer t.block d (pop t.block (d == c)
-      (port_sight riding t.block (port_at carrying m.ports d))) ≡ port_sight riding t.block
-      (port_at carrying m.ports d)) →
-      Shows (Q t.block) t.block t.entry (λ d. sight_answered t.answer t.block d (pop t.block (d == c)
-      (port_sight riding t.block (port_at carrying m.ports d)))) →
-      AllShow riding carrying Q m → AllShow riding carrying Q (after_taken carrying m c t)
-  all_taken riding carrying Q m c t pop lc lb sends stays left blank moved f =
-      record { blocks = λ b. by_block b (cases_eq b t.block) }
+  all_taken : (riding : Riding R) (carrying : Carrying K) (Q : ℕ → FullBlock (Payload R) → Type 0) (memory : Memory R K)
+      (c : ℕ) (taken : Taken R K) (pop : ℕ → Bool → Sight R → Sight R) → c < length memory.ports →
+      taken.block < length memory.home →
+      Sends taken.answer taken.block memory.ports → ((b : ℕ) (v : Sight R) → pop b false v ≡ v) →
+      ((b : ℕ) → port_sight riding b taken.left ≡ (if taken.block == b then pop b true (port_sight riding b
+      (port_at carrying memory.ports c)) else port_sight riding b (port_at carrying memory.ports c))) →
+      ((d : ℕ) → d < CORES_MAX → length memory.ports ≤ d →
+      sight_answered taken.answer taken.block d (pop taken.block (d == c)
+      (port_sight riding taken.block (port_at carrying memory.ports d))) ≡ port_sight riding taken.block
+      (port_at carrying memory.ports d)) →
+      Shows (Q taken.block) taken.block taken.entry
+      (λ d. sight_answered taken.answer taken.block d (pop taken.block (d == c)
+      (port_sight riding taken.block (port_at carrying memory.ports d)))) →
+      AllShow riding carrying Q memory → AllShow riding carrying Q (after_taken carrying memory c taken)
+  all_taken riding carrying Q memory c taken pop lc lb sends stays left blank moved shown =
+      record { blocks = λ b. by_block b (cases_eq b taken.block) }
     where
       new : Memory R K
-      new = after_taken carrying m c t
+      new = after_taken carrying memory c taken
 
       old_sight : ℕ → ℕ → Sight R
-      old_sight b d = port_sight riding b (port_at carrying m.ports d)
+      old_sight b d = port_sight riding b (port_at carrying memory.ports d)
 
       -- and where no port is nothing shows
-      past : (b d : ℕ) → length m.ports ≤ d → old_sight b d ≡ port_sight riding b (port_at carrying new.ports d)
-      past b d le = past_same riding carrying m.ports new.ports b d le (rw (length_taken carrying m c t) le)
+      past : (b d : ℕ) → length memory.ports ≤ d → old_sight b d ≡ port_sight riding b (port_at carrying new.ports d)
+      past b d le = past_same riding carrying memory.ports new.ports b d le
+          (rw (length_taken carrying memory c taken) le)
 
-      within : (b d : ℕ) → d < length m.ports → (u : Bool) → (t.block == b) ≡ u →
-          (if u then sight_answered t.answer t.block d (pop b (d == c) (old_sight b d)) else old_sight b d)
+      within : (b d : ℕ) → d < length memory.ports → (u : Bool) → (taken.block == b) ≡ u →
+          (if u then sight_answered taken.answer taken.block d (pop b (d == c) (old_sight b d)) else old_sight b d)
           ≡ port_sight riding b (port_at carrying new.ports d)
-      within b d ld u is = sym (sight-taken riding carrying m c t (pop b) b d lc ld sends (stays b) (left b)
+      within b d ld u is = sym (sight-taken riding carrying memory c taken (pop b) b d lc ld sends (stays b) (left b)
           ∙ ap (λ (u : Bool).
-          if u then sight_answered t.answer t.block d (pop b (d == c) (old_sight b d)) else old_sight b d) is)
+          if u then sight_answered taken.answer taken.block d (pop b (d == c) (old_sight b d)) else old_sight b d) is)
 
-      here : Shows (Q t.block) t.block (entry_at riding.fresh new.home t.block) (λ d. port_sight riding t.block
+      here : Shows (Q taken.block) taken.block (entry_at riding.fresh new.home taken.block)
+          (λ d. port_sight riding taken.block
           (port_at carrying new.ports d))
       here =
-          same_sights (Q t.block) t.block t.entry (entry_at riding.fresh new.home t.block)
-          (λ d. sight_answered t.answer t.block d (pop t.block (d == c) (old_sight t.block d)))
-          (λ d. port_sight riding t.block (port_at carrying new.ports d))
-          (sym (get_or-set_same m.home t.block t.entry (no_entry riding.fresh) lb))
-          (λ d ld. at d ld (cases_lt d (length m.ports))) moved
+          same_sights (Q taken.block) taken.block taken.entry (entry_at riding.fresh new.home taken.block)
+          (λ d. sight_answered taken.answer taken.block d (pop taken.block (d == c) (old_sight taken.block d)))
+          (λ d. port_sight riding taken.block (port_at carrying new.ports d))
+          (sym (get_or-set_same memory.home taken.block taken.entry (no_entry riding.fresh) lb))
+          (λ d ld. at d ld (cases_lt d (length memory.ports))) moved
         where
-          at : (d : ℕ) → d < CORES_MAX → (d < length m.ports) ⊎ (length m.ports ≤ d) →
-              sight_answered t.answer t.block d (pop t.block (d == c) (old_sight t.block d))
-              ≡ port_sight riding t.block (port_at carrying new.ports d)
-          at d ld (inr le) = blank d ld le ∙ past t.block d le
-          at d ld (inl lt) = within t.block d lt true (eq-eqb t.block t.block refl)
+          at : (d : ℕ) → d < CORES_MAX → (d < length memory.ports) ⊎ (length memory.ports ≤ d) →
+              sight_answered taken.answer taken.block d (pop taken.block (d == c) (old_sight taken.block d))
+              ≡ port_sight riding taken.block (port_at carrying new.ports d)
+          at d ld (inr le) = blank d ld le ∙ past taken.block d le
+          at d ld (inl lt) = within taken.block d lt true (eq-eqb taken.block taken.block refl)
 
-      by_block : (b : ℕ) → (b ≡ t.block) ⊎ (b ≢ t.block) → Shows (Q b) b (entry_at riding.fresh new.home b)
+      by_block : (b : ℕ) → (b ≡ taken.block) ⊎ (b ≢ taken.block) → Shows (Q b) b (entry_at riding.fresh new.home b)
           (λ d. port_sight riding b (port_at carrying new.ports d))
       by_block b (inl e) = subst (λ (x : ℕ). Shows (Q x) x (entry_at riding.fresh new.home x) (λ d. port_sight riding x
           (port_at carrying new.ports d)))
           (sym e) here
       by_block b (inr other) =
-          same_sights (Q b) b (entry_at riding.fresh m.home b) (entry_at riding.fresh new.home b) (old_sight b)
+          same_sights (Q b) b (entry_at riding.fresh memory.home b) (entry_at riding.fresh new.home b) (old_sight b)
           (λ d. port_sight riding b (port_at carrying new.ports d))
-          (sym (get_or-set_other m.home t.block b t.entry (no_entry riding.fresh) other))
-          (λ d ld. at d (cases_lt d (length m.ports))) (f.blocks b)
+          (sym (get_or-set_other memory.home taken.block b taken.entry (no_entry riding.fresh) other))
+          (λ d ld. at d (cases_lt d (length memory.ports))) (shown.blocks b)
         where
-          at : (d : ℕ) → (d < length m.ports) ⊎ (length m.ports ≤ d) →
+          at : (d : ℕ) → (d < length memory.ports) ⊎ (length memory.ports ≤ d) →
               old_sight b d ≡ port_sight riding b (port_at carrying new.ports d)
           at d (inr le) = past b d le
           at d (inl lt) = within b d lt false (grind (arith, nat_tests))

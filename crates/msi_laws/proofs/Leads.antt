@@ -196,58 +196,65 @@ module _ {R K : Type 0} where
 
   -- an access of the port's core
   pub leads_touch : (riding : Riding R) (Q P : ℕ → FullBlock (Payload R) → Type 0) →
-      ((b : ℕ) → KeptBy (payload_absorbed riding) (P b)) → (c : ℕ) (p : Port R K)
-      (k slot : ℕ) (kind : Kind) (value : ℕ) (rider : R) → c < CORES_MAX → length p.cache ≡ LINES →
-      is_allowed (line_for riding.fresh p.cache k) k kind ≡ true
-      → TouchGives Q P c k kind (payload_at riding p k) (record {
+      ((b : ℕ) → KeptBy (payload_absorbed riding) (P b)) → (core : ℕ) (port : Port R K)
+      (touched slot : ℕ) (kind : Kind) (value : ℕ) (rider : R) → core < CORES_MAX → length port.cache ≡ LINES →
+      is_allowed (line_for riding.fresh port.cache touched) touched kind ≡ true
+      → TouchGives Q P core touched kind (payload_at riding port touched) (record {
         words =
-            words_left kind (line_for riding.fresh p.cache k).words slot value;
+            words_left kind (line_for riding.fresh port.cache touched).words slot value;
         rider = rider;
       })
-      → Leads riding Q P c p (port_touched riding p k slot kind value rider)
-  leads_touch riding Q P well c p k slot kind value rider lc long allowed gives =
-      leads_at riding Q P well c p m k here elsewhere (λ b block other has. gives.elsewhere b block other has)
+      → Leads riding Q P core port (port_touched riding port touched slot kind value rider)
+  leads_touch riding Q P well core port touched slot kind value rider lc long allowed gives =
+      leads_at riding Q P well core port m touched here elsewhere
+      (λ b block other has. gives.elsewhere b block other has)
     where
       m : Port R K
-      m = port_touched riding p k slot kind value rider
+      m = port_touched riding port touched slot kind value rider
 
       l : Line R
-      l = line_for riding.fresh p.cache k
+      l = line_for riding.fresh port.cache touched
 
       words : List ℕ
       words = words_left kind l.words slot value
 
-      at : l.block ≡ k
+      at : l.block ≡ touched
       at = grind (arith, nat_tests)
 
-      holds : line_here k l ≡ l
-      holds = let t : (l.block == k) ≡ true = grind (arith, nat_tests) in ap (λ (u : Bool). line_if u k l) t
+      holds : line_here touched l ≡ l
+      holds = let t : (l.block == touched) ≡ true = grind (arith, nat_tests) in ap (λ (u : Bool). line_if u touched l) t
 
-      new_line : line_here k (line_for riding.fresh m.cache k) ≡ record (line_here k l) { words = words; rider = rider }
+      new_line : line_here touched (line_for riding.fresh m.cache touched)
+          ≡ record (line_here touched l) { words = words; rider = rider }
       new_line =
-          let left : line_for riding.fresh m.cache k ≡ record l { words = words; rider = rider } =
-          left_line riding p.cache k slot kind value rider long in
-          let t : (l.block == k) ≡ true = grind (arith, nat_tests) in
-          ap (line_here k) left ∙ (ap (λ (u : Bool). line_if u k (record l { words = words; rider = rider })) t
+          let left : line_for riding.fresh m.cache touched ≡ record l { words = words; rider = rider } =
+          left_line riding port.cache touched slot kind value rider long in
+          let t : (l.block == touched) ≡ true = grind (arith, nat_tests) in
+          ap (line_here touched) left
+          ∙ (ap (λ (u : Bool). line_if u touched (record l { words = words; rider = rider })) t
           ∙ ap (λ (x : Line R). (let y : Line R = record x { words = words; rider = rider } in y)) (sym holds))
 
-      here : (entry : Entry R) (sights : ℕ → Sight R) → sights c ≡ port_sight riding k p → Shows (Q k) k entry sights →
-          Shows (P k) k entry
-          (sight_at c (port_sight riding k m) sights)
+      here : (entry : Entry R) (sights : ℕ → Sight R) → sights core ≡ port_sight riding touched port →
+          Shows (Q touched) touched entry sights →
+          Shows (P touched) touched entry
+          (sight_at core (port_sight riding touched m) sights)
       here entry sights shows s =
-          let line : (sights c).line ≡ l = ap (λ (x : Sight R). x.line) shows ∙ holds in
+          let line : (sights core).line ≡ l = ap (λ (x : Sight R). x.line) shows ∙ holds in
           let new : Payload R = record { words = words; rider = rider } in
-          let moved = for_touch (Q k) (P k) k c kind (payload_at riding p k) new lc (λ bl. gives.here bl lc) entry
+          let moved = for_touch (Q touched) (P touched) touched core kind (payload_at riding port touched) new lc
+          (λ bl. gives.here bl lc) entry
           sights (ap copy_in line)
-          (ap (λ (x : Line R). is_allowed x k kind) line ∙ allowed) s in
-          let e : sight_accessed words rider (sights c) ≡ port_sight riding k m =
+          (ap (λ (x : Line R). is_allowed x touched kind) line ∙ allowed) s in
+          let e : sight_accessed words rider (sights core) ≡ port_sight riding touched m =
           ap (λ (x : Sight R). sight_accessed words rider x) shows
-          ∙ ap (λ (x : Line R). (let y : Sight R = record (port_sight riding k p) { line = x } in y)) (sym new_line) in
-          subst (λ (x : Sight R). Shows (P k) k entry (sight_at c x sights)) e moved
+          ∙ ap (λ (x : Line R). (let y : Sight R = record (port_sight riding touched port) { line = x } in y))
+          (sym new_line) in
+          subst (λ (x : Sight R). Shows (P touched) touched entry (sight_at core x sights)) e moved
 
-      elsewhere : (b : ℕ) → b ≢ k → SameSight (port_sight riding b p) (port_sight riding b m)
+      elsewhere : (b : ℕ) → b ≢ touched → SameSight (port_sight riding b port) (port_sight riding b m)
       elsewhere b other =
-          let line = left_other riding p.cache k slot kind value rider b long (λ (e : l.block ≡ b). other (sym e
+          let line = left_other riding port.cache touched slot kind value rider b long
+          (λ (e : l.block ≡ b). other (sym e
           ∙ at)) in
           record {
             requests = refl;

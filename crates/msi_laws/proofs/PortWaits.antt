@@ -47,7 +47,7 @@ asked_transient : {R : Type 0} (l : Line R) (block : ℕ) (kind : Kind) → is_t
 asked_transient l block kind still needed = grind (arith, nat_tests)
 
 -- a line that waits for an access is at the place of its block, and doesn't allow the access yet
-waiting_place : (s : LineState) (writes : Bool) (l i b : ℕ) → serves s writes l i b ≡ true → is_transient s ≡ true →
+pub waiting_place : (s : LineState) (writes : Bool) (l i b : ℕ) → serves s writes l i b ≡ true → is_transient s ≡ true →
     (s ≢ I → l % LINES ≡ i) →
     i ≡ b % LINES
 waiting_place s writes l i b is waits place = grind (arith, nat_tests, place)

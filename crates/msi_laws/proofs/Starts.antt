@@ -1,6 +1,6 @@
 -- At the start the memory system keeps all that it keeps.
 use Rattle.std.proofs.Common.{◌≡◌, ◌∙◌, ap, refl, sym, subst, ℕ, ◌<◌, ◌≤◌, ◌==◌, ◌%◌, Bool, true, false, List, [], ◌∷◌}
-use Rattle.std.proofs.Common.{length, get_or, replicate, arith, inl}
+use Rattle.std.proofs.Common.{length, replicate, arith, inl}
 use Rattle.std.proofs.Common.{inr, ◌⊎◌}
 use Rattle.std.proofs.lemmas.List.{get_or_past, get_or-replicate, length-replicate}
 use Rattle.std.proofs.lemmas.List.FromFn.{get_or-map-range_with_len}
@@ -11,6 +11,7 @@ use Rattle.image_mem.specs.Contents.{Contents}
 use Rattle.msi_cache.specs.declared.line.Line.{Line}
 use Rattle.msi_cache.specs.declared.line.State.TheVariants.{I}
 use Rattle.rtr_types.specs.declared.TheConstants.{LINES}
+use Rattle.rtr_types.proofs.Ranges.{replicate_at}
 use Rattle.msi_cache.specs.Table.{is_transient}
 use Rattle.msi_cache.specs.Lines.{line_for, empty_line}
 use Rattle.msi_directory.proofs.Openings.{openings_counted}
@@ -27,13 +28,6 @@ use Rattle.msi_laws.specs.Holds.{PortHolds, LineHolds, Anything}
 use Rattle.msi_laws.specs.Links.{port_sight, AllShow}
 use Rattle.msi_laws.specs.Words.{HasWords, OpeningWordsLaw}
 use Rattle.msi_laws.specs.Holds.{StartLaw}
-
-replicate_at : {X : Type 0} (n i : ℕ) (a : X) → get_or (replicate n a) i a ≡ a
-replicate_at n i a = elim (cases_lt i n) [
-  | inr past ↦ get_or_past (replicate n a) i a
-      (rw length-replicate past)
-  | inl within ↦ get_or-replicate n i a a within
-]
 
 not_waiting : true ≡ false → ⊥
 not_waiting e = grind arith

@@ -6,6 +6,7 @@ use Rattle.std.specs.Prelude.{map}
 use Rattle.std.specs.List.{range_with_len}
 use Rattle.std.proofs.lemmas.List.{get_or-map, get_or_past, length-map}
 use Rattle.std.proofs.lemmas.List.FromFn.{length-map-range_with_len}
+use Rattle.std.proofs.lemmas.Bool.{cases_lt}
 use Rattle.access_times.specs.Riding.{Riding, Carrying}
 use Rattle.image_mem.specs.Contents.{Contents}
 use Rattle.rtr_types.specs.CoreSets.{has}
@@ -19,7 +20,7 @@ use Rattle.move_marks.specs.declared.marks.MoveKind.{MoveKind}
 use Rattle.move_marks.specs.declared.marks.MoveKind.TheVariants.{Own, Request}
 use Rattle.move_marks.specs.Kinds.{set_of}
 use Rattle.move_marks.specs.Ports.{PortsNoted}
-use Rattle.move_marks.proofs.Delivered.{past_is, split}
+use Rattle.move_marks.proofs.Delivered.{past_is}
 use Rattle.move_marks.proofs.Idle.{idle_noted}
 use Rattle.msi_state.specs.declared.moves.Move.TheVariants.{Core as CoreMove}
 use Rattle.msi_state.specs.States.{Machinery, State, state_start}
@@ -66,7 +67,7 @@ module _ {R K : Type 0} where
   begins : (riding : Riding R) (carrying : Carrying K) (s : State R K) (standings : List Standing) (d : ℕ) →
       MachineHolds riding carrying s →
       StandingsFit s standings → may_begin standings d ≡ enabled riding carrying s (CoreMove d)
-  begins riding carrying s standings d holds fit = by (split d (length s.cores))
+  begins riding carrying s standings d holds fit = by (cases_lt d (length s.cores))
     where
       by : (d < length s.cores) ⊎ (length s.cores ≤ d) → get_or (map may_work standings) d false ≡ enabled riding
           carrying s (CoreMove d)

@@ -2,6 +2,7 @@
 use Rattle.std.proofs.Common.{◌≡◌, ◌∙◌, refl, sym, subst, ap, ℕ, zero, suc, ◌<◌, ◌≤◌, Bool, true}
 use Rattle.std.proofs.Common.{false, List, length, nat_lt, arith, ◌==◌}
 use Rattle.std.specs.Prelude.{IsTrue, not}
+use Rattle.std.proofs.lemmas.Bool.{not-true}
 use Rattle.access_times.specs.Riding.{Riding, Carrying}
 use Rattle.rtr_types.specs.declared.TheConstants.{CORES_MAX}
 use Rattle.rtr_types.proofs.Truths.{true_is}
@@ -32,10 +33,6 @@ use Rattle.move_marks.proofs.Lateness.{late_marked}
 use Rattle.move_marks.proofs.Turned.{none_left}
 use Rattle.msi_machine.proofs.Renewed.{all_moves}
 
-not_true : (a : Bool) → not a ≡ true → a ≡ false
-not_true true is = false_true is
-not_true false is = refl
-
 pub some_there : (n : ℕ) → (n == 0) ≡ false → 0 < n
 some_there zero none = false_true (sym none)
 some_there (suc n) none = omega arith
@@ -46,7 +43,7 @@ module _ {R K : Type 0} where
       enabled riding carrying s (CoreMove c) ≡ true → waits (port_at carrying s.memory.ports c).cache ≡ false
   core_still riding carrying s c can_be =
       let waiting : Bool = waits (port_at carrying s.memory.ports c).cache in
-      not_true waiting (right_of (not (is_done (need s.image (core_at s.cores c)))) (not waiting)
+      not-true waiting (right_of (not (is_done (need s.image (core_at s.cores c)))) (not waiting)
       (right_of (nat_lt c (length s.cores)) _ can_be))
 
   pub asks_first : (riding : Riding R) (carrying : Carrying K) (s : State R K) (c : ℕ) →

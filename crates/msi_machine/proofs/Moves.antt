@@ -3,16 +3,13 @@ use Rattle.std.proofs.Common.{◌≡◌, ◌≢◌, ◌∙◌, ◌⊎◌, inl, i
 use Rattle.std.proofs.Common.{List, [], ◌∷◌, length, get_or, Option, Some, None}
 use Rattle.std.specs.Prelude.{is_some, map, slice_set}
 use Rattle.std.proofs.lemmas.Bool.{cases_eq}
-use Rattle.std.proofs.lemmas.List.{length-map, set-get_or}
+use Rattle.std.proofs.lemmas.List.{length-map}
 use Rattle.access_times.specs.Riding.{Riding, Carrying}
-use Rattle.image_mem.specs.Contents.{Contents}
 use Rattle.rtr_types.specs.declared.access.Kind.{Kind}
 use Rattle.rtr_types.specs.declared.instr.Instr.{Instr}
 use Rattle.msi_cache.specs.declared.messages.FromHome.{FromHome}
 use Rattle.msi_cache.specs.declared.messages.Response.{Response as ResponseItem}
 use Rattle.link_order.specs.Queue.{Queue}
-use Rattle.rv_core.specs.declared.core_state.Core.{Core}
-use Rattle.rv_core.specs.States.{starting}
 use Rattle.rv_core.specs.Steps.{need, access_of as need_access}
 use Rattle.msi_memory.specs.declared.port.Mail.{Mail}
 use Rattle.msi_memory.specs.declared.port.Port.{Port}
@@ -28,7 +25,7 @@ use Rattle.msi_state.specs.Events.{Event, Nothing, Retires, Accesses, instr_of, 
 use Rattle.msi_state.specs.Moves.{core_of}
 use Rattle.msi_state.specs.Rests.{heads_roomy}
 use Rattle.msi_state.specs.States.{Machinery, State, core_at}
-use Rattle.msi_state.specs.Steps.{StepsTo, cores_after, enabled, event, rider_left, step}
+use Rattle.msi_state.specs.Steps.{StepsTo, enabled, event, rider_left, step}
 use Rattle.machine_invariant.specs.Holds.{MachineHolds}
 use Rattle.machine_invariant.proofs.Awaits.{core_port, enabled_core}
 use Rattle.machine_invariant.proofs.Kept.{holds_kept}
@@ -54,12 +51,7 @@ use Rattle.move_marks.proofs.OnePort.{same_long}
 use Rattle.machine_ports.proofs.Elsewhere.{MovedAt, OthersStay, others_stay}
 use Rattle.msi_machine.proofs.Renewed.{all_others, own_followed, turn_marked}
 use Rattle.msi_machine.proofs.Standings.{moved_stands, stands_at, turned_stands}
-
-one_core : (image : Contents) (c : ℕ) (e : Event) (cores : List Core) → cores_after image c e cores ≡ slice_set cores c
-    (core_after image e (core_at cores c))
-one_core image c Nothing cores = sym (set-get_or cores c (starting 0 0))
-one_core image c (Retires at) cores = refl
-one_core image c (Accesses a) cores = refl
+use Rattle.machine_bound.proofs.Payments.{cores_set}
 
 module _ {R K : Type 0} where
   -- a move that sets one port, that of its own core
@@ -74,7 +66,7 @@ module _ {R K : Type 0} where
         cores = record {
           one = core_after s.image (event riding carrying s m) (core_at s.cores (core_of m));
           is = ap (λ (x : State R K). x.cores) is
-              ∙ one_core s.image (core_of m) (event riding carrying s m) s.cores;
+              ∙ cores_set s.image (core_of m) (event riding carrying s m) s.cores;
         };
         memory = record {
           ports = record {

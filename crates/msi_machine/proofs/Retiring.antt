@@ -3,6 +3,7 @@ use Rattle.std.proofs.Common.{◌≡◌, ◌∙◌, ◌⊎◌, inl, inr, ap, sym
 use Rattle.std.proofs.Common.{length, Option, Some, None, IsTrue}
 use Rattle.std.specs.Prelude.{if◌then◌else◌, nat_lt}
 use Rattle.std.proofs.lemmas.List.{get_or_past}
+use Rattle.std.proofs.lemmas.Bool.{cases_lt}
 use Rattle.access_times.specs.Riding.{Riding, Carrying}
 use Rattle.image_mem.specs.Contents.{Contents}
 use Rattle.rtr_types.proofs.Truths.{both_true}
@@ -26,7 +27,7 @@ use Rattle.msi_state.specs.Steps.{enabled, event}
 use Rattle.machine_invariant.specs.Holds.{MachineHolds}
 use Rattle.machine_progress.proofs.Rested.{rows_there}
 use Rattle.msi_machine.specs.Delivering.{MessagesRetire, retires_with}
-use Rattle.move_marks.proofs.Delivered.{below_is, false_true, right_of, split}
+use Rattle.move_marks.proofs.Delivered.{below_is, false_true, right_of}
 
 module _ {R K : Type 0} where
   -- an access that may be made retires its instruction
@@ -42,7 +43,7 @@ module _ {R K : Type 0} where
   port_there : (carrying : Carrying K) (ports : List (Port R K)) (c : ℕ) (mail : Mail (FromHome R) K)
       (rest : List (Mail (FromHome R) K)) →
       (port_at carrying ports c).messages.items ≡ mail ∷ rest → c < length ports
-  port_there carrying ports c mail rest is = by (split c (length ports))
+  port_there carrying ports c mail rest is = by (cases_lt c (length ports))
     where
       by : (c < length ports) ⊎ (length ports ≤ c) → c < length ports
       by (inl here) = here

@@ -2,7 +2,7 @@
 use Rattle.std.proofs.Common.{◌≡◌, ◌≢◌, ◌∙◌, ◌⊎◌, inl, inr, sym, ap, ℕ, ◌+◌, ◌<◌, ◌≤◌, Bool, true, false, ◌&&◌, List}
 use Rattle.std.proofs.Common.{[], length, get_or, nat_lt, arith}
 use Rattle.std.specs.Prelude.{map}
-use Rattle.std.proofs.lemmas.Bool.{cases_eq}
+use Rattle.std.proofs.lemmas.Bool.{cases_eq, cases_lt}
 use Rattle.std.proofs.lemmas.Bool.Decides.{nat_tests}
 use Rattle.std.proofs.lemmas.List.{get_or-map, get_or_past, length-map}
 use Rattle.rtr_types.specs.CoreSets.{has, with_core, no_cores}
@@ -27,9 +27,6 @@ is_below c n b within = grind (arith, nat_tests)
 
 is_past : (c n : ℕ) (b : Bool) → n ≤ c → (nat_lt c n && b) ≡ false
 is_past c n b past = grind (arith, nat_tests)
-
-below_or_past : (c n : ℕ) → (c < n) ⊎ (n ≤ c)
-below_or_past c n = grind arith
 
 module _ {R K : Type 0} where
   -- the set has those of the first n cores that ask for the block
@@ -74,7 +71,7 @@ module _ {R K : Type 0} where
 
   pub asked_all : (ports : List (Port R K)) (block : ℕ) (set : CoreSet) → AskedBelow ports (length ports) block set →
       (c : ℕ) → has set c ≡ head_is block (requests_at ports c)
-  asked_all ports block set so_far c = so_far c ∙ by (below_or_past c (length ports))
+  asked_all ports block set so_far c = so_far c ∙ by (cases_lt c (length ports))
     where
       by : (c < length ports) ⊎ (length ports ≤ c) →
           (nat_lt c (length ports) && head_is block (requests_at ports c)) ≡ head_is block (requests_at ports c)

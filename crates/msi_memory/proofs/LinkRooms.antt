@@ -1,17 +1,14 @@
 -- Room on the links that the home pushes to.
-use Rattle.std.proofs.Common.{◌≡◌, ◌∙◌, ap, subst, ℕ, ◌<◌, ◌==◌, true, List, length, Option, Some, None, arith}
+use Rattle.std.proofs.Common.{◌≡◌, ◌∙◌, ap, subst, ℕ, ◌<◌, List, length, Option, Some, None, eq-eqb}
 use Rattle.std.specs.Prelude.{slice_index_or}
 use Rattle.std.proofs.lemmas.List.{get_or_default}
-use Rattle.std.proofs.lemmas.Bool.Decides.{nat_tests}
+use Rattle.std.proofs.Common.{refl}
 use Rattle.access_times.specs.Riding.{Carrying}
 use Rattle.msi_cache.specs.declared.messages.FromHome.{FromHome}
 use Rattle.msi_directory.specs.declared.entry.HomeAnswer.{HomeAnswer}
 use Rattle.msi_memory.specs.declared.port.Port.{Port}
 use Rattle.msi_memory.specs.Memories.{port_at, no_port}
 use Rattle.msi_memory.specs.Rests.{hears_in, HasRoomTo, HasRoomIn}
-
-eqb_same : (n : ℕ) → (n == n) ≡ true
-eqb_same n = grind (arith, nat_tests)
 
 module _ {R K : Type 0} where
   room_at : (carrying : Carrying K) (ns : List (Port R K)) (k : ℕ) (d : Port R K) → k < length ns →
@@ -27,7 +24,7 @@ module _ {R K : Type 0} where
       length (slice_index_or ns to d).messages.items < (slice_index_or ns to d).messages.room
   room_sent carrying answer ns to m d is within room =
       room_at carrying ns to d within (room to within (ap (λ (o : Option (ℕ × FromHome R)). hears_in o answer.invalidate
-      to) is ∙ eqb_same to))
+      to) is ∙ eq-eqb to to refl))
 
   pub room_told : (carrying : Carrying K) (answer : HomeAnswer R) (ns : List (Port R K)) → answer.send ≡ None →
       HasRoomTo carrying answer ns →

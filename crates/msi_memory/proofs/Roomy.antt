@@ -1,6 +1,6 @@
 -- Room at the home for the blocks of request links' heads.
-use Rattle.std.proofs.Common.{◌≡◌, ◌≢◌, ◌∙◌, ◌⊎◌, inl, inr, ◌==◌, refl, ap, ℕ, zero, suc, ◌<◌, ◌≤◌, Bool, true, false}
-use Rattle.std.proofs.Common.{List, [], ◌∷◌, length}
+use Rattle.std.proofs.Common.{◌≡◌, ◌≢◌, ◌∙◌, ◌⊎◌, inl, inr, refl, ap, ℕ, zero, suc, ◌<◌, ◌≤◌, Bool, true, false}
+use Rattle.std.proofs.Common.{List, [], ◌∷◌, length, eq-eqb}
 use Rattle.std.proofs.Common.{get_or, arith}
 use Rattle.std.specs.Prelude.{map, slice_set}
 use Rattle.std.proofs.lemmas.Bool.{cases_eq}
@@ -61,10 +61,8 @@ module _ {R K : Type 0} where
   head_is_at : (requests rest : List (Mail (Request R) K)) (mail : Mail (Request R) K) → requests ≡ mail ∷ rest →
       head_is (request_block mail.item) requests
       ≡ true
-  head_is_at requests rest mail is = ap (head_is (request_block mail.item)) is ∙ same (request_block mail.item)
-    where
-      same : (n : ℕ) → (n == n) ≡ true
-      same n = grind (arith, nat_tests)
+  head_is_at requests rest mail is = ap (head_is (request_block mail.item)) is ∙ eq-eqb (request_block mail.item)
+      (request_block mail.item) refl
 
   not_head : (ports : List (Port R K)) (i b block : ℕ) (d : Port R K) → i < length ports →
       head_is block (get_or ports i d).requests.items ≡ true →

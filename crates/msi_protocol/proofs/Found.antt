@@ -216,49 +216,57 @@ main_core stage c home seats e = grind (arith, nat_tests)
 pub main_below : (stage : Stage) (o : ℕ) → StageFits stage → is_main (role stage o) ≡ true → o < CORES_MAX
 main_below stage o fits e = grind (arith, nat_tests)
 
-pub found_message : {X : Type 0} (P : X → Type 0) (absorbed : X → X → X) (r : X → ℕ) → Grows P absorbed r →
-    (n d c : ℕ) (m : Signal) (rest : List Signal) (b : FullBlock X) → c < CORES_MAX → d < CORES_MAX →
-    (picture (b.seats c).phase).messages ≡ m ∷ rest →
-    PhasesFit b → HoldersHave P b → Found r n d b → Found r n d (messaged absorbed c b)
-found_message {X} P absorbed r g n d c m rest b lc ld asks st h f =
-    found_in r n (main b) after (b.seats d) ((messaged absorbed c b).seats d) (main_seat absorbed r b.stage c b.home
-    b.seats each)
-    (at_core (λ (t : Seat X). (own_count r (b.seats d) ≤ own_count r t) ⊎ (own_count r (b.seats d) ≤ r after)) c d
-    (seat_received absorbed (b.seats d))
-    (b.seats d) mine (λ (e : d ≢ c). inl (omega arith))) f
+pub found_message : {X : Type 0} (P : X → Type 0) (absorbed : X → X → X) (rank : X → ℕ) → Grows P absorbed rank →
+    (count d c : ℕ) (signal : Signal) (rest : List Signal) (block : FullBlock X) → c < CORES_MAX → d < CORES_MAX →
+    (picture (block.seats c).phase).messages ≡ signal ∷ rest →
+    PhasesFit block → HoldersHave P block → Found rank count d block → Found rank count d (messaged absorbed c block)
+found_message {X} P absorbed rank grows count d c signal rest block lc ld asks phases holders found =
+    found_in rank count (main block) after (block.seats d) ((messaged absorbed c block).seats d)
+    (main_seat absorbed rank block.stage c block.home
+    block.seats each)
+    (at_core (λ (t : Seat X). (own_count rank (block.seats d) ≤ own_count rank t)
+    ⊎ (own_count rank (block.seats d) ≤ rank after)) c d
+    (seat_received absorbed (block.seats d))
+    (block.seats d) mine (λ (e : d ≢ c). inl (omega arith))) found
   where
     after : X
-    after = main (messaged absorbed c b)
+    after = main (messaged absorbed c block)
 
-    each : (o : ℕ) → is_main (role b.stage o) ≡ true →
-        r (main_of (b.seats o)) ≤ r (main_of (seat_if (o == c) (seat_received absorbed (b.seats o)) (b.seats o)))
-    each o is = at_core (λ (t : Seat X). r (main_of (b.seats o)) ≤ r (main_of t)) c o
-        (seat_received absorbed (b.seats o)) (b.seats o)
-        (λ (e : o ≡ c). let lo = main_below b.stage o st.fits is in let q = h.seats o lo in let s = b.seats o in
-        message_main P absorbed r g.left s.phase s.line s.sent s.reply q.line q.sent (ap is_main (st.roles o lo) ∙ is))
+    each : (o : ℕ) → is_main (role block.stage o) ≡ true →
+        rank (main_of (block.seats o))
+        ≤ rank (main_of (seat_if (o == c) (seat_received absorbed (block.seats o)) (block.seats o)))
+    each o is = at_core (λ (t : Seat X). rank (main_of (block.seats o)) ≤ rank (main_of t)) c o
+        (seat_received absorbed (block.seats o)) (block.seats o)
+        (λ (e : o ≡ c). let lo = main_below block.stage o phases.fits is in let q = holders.seats o lo in let s =
+        block.seats o in
+        message_main P absorbed rank grows.left s.phase s.line s.sent s.reply q.line q.sent
+        (ap is_main (phases.roles o lo) ∙ is))
         (λ (e : o ≢ c). omega arith)
 
     here : Seat X
-    here = b.seats c
+    here = block.seats c
 
     at_c : (is : Bool) → is_main (role_in here.phase) ≡ is →
-        (own_count r here ≤ own_count r (seat_received absorbed here)) ⊎ (own_count r here ≤ r after)
-    at_c false e = inl (message_own_other absorbed r here.phase here.line here.sent here.reply e)
+        (own_count rank here ≤ own_count rank (seat_received absorbed here)) ⊎ (own_count rank here ≤ rank after)
+    at_c false e = inl (message_own_other absorbed rank here.phase here.line here.sent here.reply e)
     at_c true e =
-        let q = h.seats c lc in
-        let le = message_own_main P absorbed r g.right here.phase m rest here.line here.sent here.reply asks q.line
+        let q = holders.seats c lc in
+        let le = message_own_main P absorbed rank grows.right here.phase signal rest here.line here.sent here.reply asks
+        q.line
         q.sent e in
         let same : (c == c) ≡ true = grind (arith, nat_tests) in
-        let k : main (messaged absorbed c b) ≡ main_of (seat_if (c == c) (seat_received absorbed here) here) =
-        main_core b.stage c b.home (messaged absorbed c b).seats (ap is_main (sym (st.roles c lc)) ∙ e) in
-        let k' : main (messaged absorbed c b) ≡ main_of (seat_received absorbed here) =
+        let k : main (messaged absorbed c block) ≡ main_of (seat_if (c == c) (seat_received absorbed here) here) =
+        main_core block.stage c block.home (messaged absorbed c block).seats
+        (ap is_main (sym (phases.roles c lc)) ∙ e) in
+        let k' : main (messaged absorbed c block) ≡ main_of (seat_received absorbed here) =
         k ∙ ap (λ (t : Bool). main_of (seat_if t (seat_received absorbed here) here)) same in
         inr (rw k' le)
 
-    mine : d ≡ c → (own_count r (b.seats d) ≤ own_count r (seat_received absorbed (b.seats d)))
-        ⊎ (own_count r (b.seats d) ≤ r after)
-    mine e = subst (λ (x : ℕ). (own_count r (b.seats x) ≤ own_count r (seat_received absorbed (b.seats x)))
-        ⊎ (own_count r (b.seats x) ≤ r after)) (sym e)
+    mine : d ≡ c → (own_count rank (block.seats d) ≤ own_count rank (seat_received absorbed (block.seats d)))
+        ⊎ (own_count rank (block.seats d) ≤ rank after)
+    mine e = subst (λ (x : ℕ).
+        (own_count rank (block.seats x) ≤ own_count rank (seat_received absorbed (block.seats x)))
+        ⊎ (own_count rank (block.seats x) ≤ rank after)) (sym e)
         (at_c (is_main (role_in here.phase)) refl)
 
 -- ---- a wish

@@ -33,30 +33,35 @@ pub record SameSight {R : Type 0} (v w : Sight R) : Type 0 where
 module _ {R : Type 0} where
   pub alike_sights : (riding : Riding R) (Q : FullBlock (Payload R) → Type 0) → KeptBy (payload_absorbed riding) Q →
       (b : ℕ) (entry : Entry R)
-      (v w : ℕ → Sight R) → ((d : ℕ) → d < CORES_MAX → SameSight (v d) (w d)) → Shows Q b entry v → Shows Q b entry w
-  alike_sights riding Q well b entry v w alike f =
+      (sights others : ℕ → Sight R) → ((d : ℕ) → d < CORES_MAX → SameSight (sights d) (others d)) →
+      Shows Q b entry sights → Shows Q b entry others
+  alike_sights riding Q well b entry sights others alike showing =
       record {
-        block = relined (λ d. copy_in (w d).line) f.block;
-        entry_is = f.entry_is;
-        shows = λ d ld. at d (f.block.seats d) (f.shows d ld) (alike d ld);
-        fits = record { fits = f.fits.fits; roles = f.fits.roles };
-        has = well.reline f.block (λ d. copy_in (w d).line)
-            (λ d ld counts. ap copy_in (sym ((alike d ld).payload (λ (e : (v d).line.state ≡ I).
-            counts_valid (f.block.seats d).phase counts (ap (λ (x : Sight R). x.line.state) (f.shows d ld) ∙ e)))
-            ∙ ap (λ (x : Sight R). x.line) (sym (f.shows d ld)))) f.fits f.has;
+        block = relined (λ d. copy_in (others d).line) showing.block;
+        entry_is = showing.entry_is;
+        shows = λ d ld. at d (showing.block.seats d) (showing.shows d ld) (alike d ld);
+        fits = record { fits = showing.fits.fits; roles = showing.fits.roles };
+        has = well.reline showing.block (λ d. copy_in (others d).line)
+            (λ d ld counts. ap copy_in (sym ((alike d ld).payload (λ (e : (sights d).line.state ≡ I).
+            counts_valid (showing.block.seats d).phase counts
+            (ap (λ (x : Sight R). x.line.state) (showing.shows d ld) ∙ e)))
+            ∙ ap (λ (x : Sight R). x.line) (sym (showing.shows d ld)))) showing.fits showing.has;
       }
     where
-      at : (d : ℕ) (s : Seat (Payload R)) → shown b s ≡ v d → SameSight (v d) (w d) →
-          shown b (record s { line = copy_in (w d).line }) ≡ w d
+      at : (d : ℕ) (s : Seat (Payload R)) → shown b s ≡ sights d → SameSight (sights d) (others d) →
+          shown b (record s { line = copy_in (others d).line }) ≡ others d
       at d s is a =
-          let state : (picture s.phase).line ≡ (w d).line.state = ap (λ (x : Sight R). x.line.state) is ∙ a.state in
-          let block : b ≡ (w d).line.block = ap (λ (x : Sight R). x.line.block) is ∙ a.block in
+          let state : (picture s.phase).line ≡ (others d).line.state = ap (λ (x : Sight R). x.line.state) is
+          ∙ a.state in
+          let block : b ≡ (others d).line.block = ap (λ (x : Sight R). x.line.block) is ∙ a.block in
           let requests = ap (λ (x : Sight R). x.requests) is ∙ a.requests in
           let responses = ap (λ (x : Sight R). x.responses) is ∙ a.responses in
           let messages = ap (λ (x : Sight R). x.messages) is ∙ a.messages in
-          build (picture s.phase).line (w d).line.state b (w d).line.block (w d).line.words (w d).line.rider
-          (shown b s).requests (w d).requests
-          (shown b s).responses (w d).responses (shown b s).messages (w d).messages state block requests responses
+          build (picture s.phase).line (others d).line.state b (others d).line.block (others d).line.words
+          (others d).line.rider
+          (shown b s).requests (others d).requests
+          (shown b s).responses (others d).responses (shown b s).messages
+          (others d).messages state block requests responses
           messages
         where
           build : (x y : State) (b c : ℕ) (words : List ℕ) (rider : R) (q r : List (Request R))
@@ -72,4 +77,4 @@ module _ {R : Type 0} where
                 responses = u;
                 messages = n;
               })
-          build x y b c words rider q r p u m n e f g i j = cc
+          build x y b c words rider q r p u m n e showing g i j = cc

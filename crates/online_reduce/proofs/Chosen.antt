@@ -1,28 +1,18 @@
 -- Which candidates are kept, and the edges that they give.
 use Rattle.std.proofs.Common.{◌≡◌, ◌≢◌, ◌<◌, ◌⊎◌, List, [], ◌∷◌, slice_index, refl, sym, ◌∙◌, ap, subst, inl, inr}
 use Rattle.std.proofs.Common.{arith, true, false, Bool, cond, ◌&&◌, ◌||◌}
-use Rattle.std.proofs.Common.{nat_eq}
 use Rattle.std.proofs.lemmas.Bool.{and_parts, or_cases}
 use Rattle.std.specs.Prelude.{map}
 use Rattle.std.specs.List.{filter, list_all}
 use Rattle.std.proofs.lemmas.Bool.Decides.{nat_tests}
 use Rattle.rtr_types.specs.declared.instr.Instr.{Instr}
 use Rattle.clock_core.specs.Order.{Among}
-use Rattle.clock_core.proofs.Paths.{instr_eq}
+use Rattle.clock_core.proofs.Paths.{same_instr}
 use Rattle.online_reduce.specs.declared.source.Source.{Source}
 use Rattle.online_reduce.specs.Rule.{is_above, lets_pass, is_kept, edge_to}
 use Rattle.rtr_types.specs.Accesses.{is_same}
 use Rattle.online_reduce.proofs.Loops.{chosen}
 use Rattle.conflict_edge.specs.Conflicts.{StandsIn}
-
-same_instr : (x y : Instr) → is_same x y ≡ true → x ≡ y
-same_instr x y e =
-    let both = and_parts (nat_eq x.core y.core) (nat_eq x.count y.count) e in
-    let one : nat_eq x.core y.core ≡ true = both.0 in
-    let two : nat_eq x.count y.count ≡ true = both.1 in
-    let p : x.core ≡ y.core = grind (arith, nat_tests) in
-    let q : x.count ≡ y.count = grind (arith, nat_tests) in
-    instr_eq x y p q
 
 -- ---- the test
 

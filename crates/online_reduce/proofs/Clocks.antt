@@ -13,6 +13,7 @@ use Rattle.conflict_edge.specs.Clocks.{clock, greatest, reaches}
 use Rattle.conflict_edge.specs.Conflicts.{StandsIn, CountsRise}
 use Rattle.clock_core.proofs.Paths.{joined}
 use Rattle.clock_core.specs.Order.{Before}
+use Rattle.clock_core.proofs.Reach.{reached_by}
 use Rattle.conflict_edge.proofs.Clocks.{clock-newest, clock-older, clock-own, clock-before, clock-up_to, UpTo}
 use Rattle.conflict_edge.proofs.History.{Pair, Rising, reaches-true, reaches-false, reaches-yes, reaches-no}
 use Rattle.online_reduce.specs.declared.source.Source.{Source}
@@ -39,16 +40,13 @@ pub below_merged : (before : Clock) (found : List Source) (i n : ℕ) → n ≤ 
 below_merged before [] i n le = inl le
 below_merged before (s ∷ found) i n le = by (below_merged (merged before s.clock) found i n le)
   where
-    split : (k x y : ℕ) → k ≤ max x y → (k ≤ x) ⊎ (k ≤ y)
-    split k x y h = grind arith
-
     here : (n ≤ slice_index before i) ⊎ (n ≤ slice_index s.clock i) → IsBelow before (s ∷ found) i n
     here (inl h) = inl h
     here (inr h) = inr (s, inl refl, h)
 
     by : IsBelow (merged before s.clock) found i n → IsBelow before (s ∷ found) i n
     by (inl h) = here
-        (split n (slice_index before i) (slice_index s.clock i) (omega (arith, get_or-merged before s.clock i)))
+        (reached_by n (slice_index before i) (slice_index s.clock i) (omega (arith, get_or-merged before s.clock i)))
     by (inr q) = inr (q.0, inr q.1, q.2)
 
 pub merged_above : (before : Clock) (found : List Source) (i n : ℕ) → IsBelow before found i n

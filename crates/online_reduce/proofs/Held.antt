@@ -1,8 +1,7 @@
 -- The times hold the access that was noted last.
-use Rattle.std.proofs.Common.{◌≡◌, ℕ, ◌%◌, ◌<◌, ◌∙◌, ap, arith, true, false, Bool, ◌==◌, Some, None}
+use Rattle.std.proofs.Common.{◌≡◌, ℕ, ◌%◌, ◌<◌, ◌∙◌, ap, arith, true, false, Bool, ◌==◌, Some, None, eq-eqb, refl}
 use Rattle.std.specs.Prelude.{if◌then◌else◌}
 use Rattle.std.proofs.lemmas.List.FromFn.{get_or-map-range_with_len}
-use Rattle.std.proofs.lemmas.Bool.Decides.{nat_tests}
 use Rattle.rtr_types.specs.Accesses.{is_write}
 use Rattle.rtr_types.specs.declared.instr.Instr.{Instr}
 use Rattle.rtr_types.specs.declared.access.Access.{Access}
@@ -16,9 +15,6 @@ use Rattle.access_times.specs.Times.{times_loaded, times_stored, times_noted_as}
 use Rattle.access_times.specs.Times.{times_noted}
 use Rattle.online_reduce.specs.Exact.{IsHeld}
 
-same_yes : (n : ℕ) → (n == n) ≡ true
-same_yes n = grind (arith, nat_tests)
-
 stored_slot : (t : Times) (slot : ℕ) (at : Instr) (clock : Clock) → slot < BLOCK_WORDS
     → slot_at (times_stored t slot at clock) slot
     ≡ record { write = Some (at, clock); reads = no_reads }
@@ -28,7 +24,7 @@ stored_slot t slot at clock lt =
     slot_at t k) 0 BLOCK_WORDS slot slot
     missing_slot lt (omega arith)
     ∙ ap (λ (b : Bool). if b then record { write = Some (at, clock); reads = no_reads } else slot_at t slot)
-    (same_yes slot)
+    (eq-eqb slot slot refl)
 
 loaded_slot : (t : Times) (slot : ℕ) (at : Instr) (clock : Clock) → slot < BLOCK_WORDS
     → slot_at (times_loaded t slot at clock) slot
@@ -38,7 +34,7 @@ loaded_slot t slot at clock lt =
     get_or-map-range_with_len (λ (k : ℕ). if k == slot then slot_loaded (slot_at t k) at clock else slot_at t k) 0
     BLOCK_WORDS slot slot missing_slot lt
     (omega arith)
-    ∙ ap (λ (b : Bool). if b then slot_loaded (slot_at t slot) at clock else slot_at t slot) (same_yes slot)
+    ∙ ap (λ (b : Bool). if b then slot_loaded (slot_at t slot) at clock else slot_at t slot) (eq-eqb slot slot refl)
 
 loaded_read : (s : SlotTimes) (at : Instr) (clock : Clock) → at.core < CORES_MAX
     → read_in (slot_loaded s at clock).reads at.core ≡ Some (at.count, clock)
@@ -47,7 +43,7 @@ loaded_read s at clock lt =
     get_or-map-range_with_len (λ (core : ℕ). if core == at.core then Some (at.count, clock) else read_in s.reads core)
     0 CORES_MAX at.core at.core None lt
     (omega arith)
-    ∙ ap (λ (b : Bool). if b then Some (at.count, clock) else read_in s.reads at.core) (same_yes at.core)
+    ∙ ap (λ (b : Bool). if b then Some (at.count, clock) else read_in s.reads at.core) (eq-eqb at.core at.core refl)
 
 held_as : (kind : Kind) (t : Times) (slot : ℕ) (at : Instr) (clock : Clock) → slot < BLOCK_WORDS → at.core < CORES_MAX →
     (is_write kind ≡ true → write_at (times_noted_as kind t slot at clock) slot ≡ Some (at, clock))

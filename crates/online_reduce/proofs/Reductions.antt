@@ -14,7 +14,6 @@ use Rattle.rtr_types.specs.declared.TheConstants.{CORES_MAX}
 use Rattle.rtr_types.specs.declared.instr.Instr.{Instr}
 use Rattle.rtr_types.specs.declared.instr.Edge.{Edge}
 use Rattle.rtr_types.specs.declared.access.Access.{Access}
-use Rattle.clock_core.proofs.Paths.{instr_eq}
 use Rattle.clock_core.specs.Counts.{no_counts}
 use Rattle.clock_core.specs.Order.{Among}
 use Rattle.clock_core.specs.declared.clock.Clock.{Clock}
@@ -25,8 +24,9 @@ use Rattle.conflict_edge.specs.Least.{Covering}
 use Rattle.conflict_edge.specs.Scan.{AddsCoveringInto}
 use Rattle.conflict_edge.specs.Times.{IsExactClock}
 use Rattle.conflict_edge.proofs.Next.{covering_next}
-use Rattle.conflict_edge.proofs.TwoForms.{covering_law}
+use Rattle.conflict_edge.proofs.TwoForms.{cores_differ, covering_law}
 use Rattle.rtr_types.specs.PairEdges.{counts, is_between, with_edges, pair_edges, by_pair, AreEdgesAfter}
+use Rattle.rtr_types.proofs.Instrs.{instr_eq}
 use Rattle.online_reduce.specs.Reduced.{Reduced, unreduced, count_of, counted, retired, edges_of}
 use Rattle.online_reduce.specs.Exact.{IsExact, BeginLaw, CountLaw, RetireLaw, LeastLaw, ListedLaw}
 use Rattle.online_reduce.proofs.ByPair.{pair_append, each_pair, OneEdge, pair_one, by_pair_at, by_pair_none}
@@ -34,14 +34,14 @@ use Rattle.online_reduce.proofs.ByPair.{by_pair_add}
 use Rattle.online_reduce.proofs.ExactNext.{retired_exact, retired_grows, retired_own, counted_exact, counted_grows}
 use Rattle.clock_core.proofs.Listed.{among_cases, among_left, among_right}
 use Rattle.online_reduce.proofs.Rises.{rise_wider, rise_push, all_among}
-use Rattle.online_reduce.proofs.Rises.{pair_source, pair_target, cores_differ, at_pos}
+use Rattle.online_reduce.proofs.Rises.{pair_source, pair_target, at_pos}
 use Rattle.online_reduce.proofs.Rises.{source_above}
 use Rattle.online_reduce.proofs.Step.{Next, next_of, covering_into}
 
 -- ---- the start
 
 -- and it is every core's at the start
-pub no_count : (core : ℕ) → slice_index_or (replicate CORES_MAX no_counts) core no_counts ≡ no_counts
+no_count : (core : ℕ) → slice_index_or (replicate CORES_MAX no_counts) core no_counts ≡ no_counts
 no_count core = by (cases_lt core CORES_MAX)
   where
     by : (core < CORES_MAX) ⊎ (CORES_MAX ≤ core) → slice_index_or (replicate CORES_MAX no_counts) core no_counts ≡
@@ -51,12 +51,15 @@ no_count core = by (cases_lt core CORES_MAX)
         (omega (arith, length-replicate CORES_MAX no_counts))
 
 -- the clock that knows of nothing counts nothing
-pub none_counted : (i : ℕ) → slice_index no_counts i ≡ 0
+none_counted : (i : ℕ) → slice_index no_counts i ≡ 0
 none_counted i = by (cases_lt i CORES_MAX)
   where
     by : (i < CORES_MAX) ⊎ (CORES_MAX ≤ i) → slice_index no_counts i ≡ 0
     by (inl lt) = get_or-replicate {A = ℕ} CORES_MAX i 0 0 lt
     by (inr past) = get_or_past no_counts i 0 (omega (arith, length-replicate {A = ℕ} CORES_MAX 0))
+
+pub none_before : (cores core : ℕ) → count_of (unreduced cores) core ≡ 0
+none_before cores core = ap (λ (c : Clock). slice_index c core) (no_count core) ∙ none_counted core
 
 unreduced_exact : (cores : ℕ) → cores ≤ CORES_MAX → IsExact [] (unreduced cores)
 unfolding clock

@@ -1,5 +1,5 @@
 -- Both counts of a pair's edges rise.
-use Rattle.std.proofs.Common.{◌≡◌, ◌≢◌, ℕ, ◌<◌, ◌≤◌, ◌⊎◌, List, [], ◌∷◌, ◌++◌, reverse, refl, sym, ◌∙◌, ap, subst}
+use Rattle.std.proofs.Common.{◌≡◌, ℕ, ◌<◌, ◌≤◌, ◌⊎◌, List, [], ◌∷◌, ◌++◌, reverse, refl, sym, subst}
 use Rattle.std.proofs.Common.{inl, inr, arith}
 use Rattle.std.proofs.lemmas.Bool.{cases_order}
 use Rattle.std.specs.List.{AllByRecursion}
@@ -7,13 +7,14 @@ use Rattle.rtr_types.specs.declared.instr.Instr.{Instr}
 use Rattle.rtr_types.specs.declared.instr.Edge.{Edge}
 use Rattle.rtr_types.specs.declared.access.Access.{Access}
 use Rattle.clock_core.specs.Order.{Before, Among}
-use Rattle.clock_core.proofs.Paths.{joined, one, instr_eq}
+use Rattle.clock_core.proofs.Paths.{joined, one}
 use Rattle.conflict_edge.specs.Conflicts.{ConflictPair, CountsRise, StandsIn}
 use Rattle.conflict_edge.specs.Least.{Covering}
 use Rattle.conflict_edge.proofs.History.{ends}
 use Rattle.conflict_edge.proofs.Reversed.{pair_forth, stands_back}
 use Rattle.rtr_types.specs.PairEdges.{EdgeStands, AreEdgesAfter}
-use Rattle.conflict_edge.proofs.Standing.{stands_left}
+use Rattle.rtr_types.proofs.Instrs.{instr_eq}
+use Rattle.conflict_edge.proofs.Standing.{positive, stands_left}
 
 -- ---- lists of counts
 
@@ -78,18 +79,8 @@ pub pair_target : (list : List Access) (x y : Instr) → ConflictPair list x y �
 pair_target list x y p = let e = ends (reverse list) x y (pair_forth list x y p) in
     record { access = e.second; stands = stands_back list e.second e.second_stands; at_is = e.second_at }
 
-pub cores_differ : (list : List Access) (x y : Instr) → ConflictPair list x y → x.core ≢ y.core
-cores_differ list x y p same =
-    let e = ends (reverse list) x y (pair_forth list x y p) in
-    e.conflict.0 (ap (λ (v : Instr). v.core) e.first_at ∙ same ∙ sym (ap (λ (v : Instr). v.core) e.second_at))
-
 pub at_pos : (list : List Access) (x : Instr) → CountsRise list → AtAccess list x → 1 ≤ x.count
-at_pos list x rise a = subst (λ (v : Instr). 1 ≤ v.count) a.at_is (pos_of list a.access rise a.stands)
-  where
-    pos_of : (list : List Access) (b : Access) → CountsRise list → StandsIn list b → 1 ≤ b.at.count
-    pos_of [] b r s = absurd s
-    pos_of (c ∷ list) b r (inl e) = subst (λ (v : Access). 1 ≤ v.at.count) e r.0
-    pos_of (c ∷ list) b r (inr s) = pos_of list b r.2 s
+at_pos list x rise a = subst (λ (v : Instr). 1 ≤ v.count) a.at_is (positive list a.access rise a.stands)
 
 -- ---- covering pairs between the same two cores don't cross
 

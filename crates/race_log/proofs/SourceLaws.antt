@@ -8,6 +8,7 @@ use Rattle.std.proofs.lemmas.Bool.{cases_lt, leb-true, leb-false}
 use Rattle.std.proofs.lemmas.List.{get_or_default}
 use Rattle.std.proofs.lemmas.List.FromFn.{length-range_with_len, get_or-range_with_len}
 use Rattle.rtr_types.specs.declared.instr.Instr.{Instr}
+use Rattle.rtr_types.proofs.Instrs.{instr_eq}
 use Rattle.rtr_types.specs.declared.instr.Edge.{Edge}
 use Rattle.rtr_types.specs.declared.pairs.Which.{Which}
 use Rattle.rtr_types.specs.declared.pairs.Which.TheVariants.{Reduced, Regulated}
@@ -182,10 +183,7 @@ one-source which r from other to v first second core =
     let below = (pairs-placed r.params.cores from.core to.core p.0).0 in
     let count = one-in which r (pair_place r.params.cores from.core to.core) from.count other.count to.count v below p.1
     there in
-    ap (λ (c : ℕ). instr c from.count) core ∙ ap (λ (n : ℕ). instr other.core n) count
-  where
-    instr : ℕ → ℕ → Instr
-    instr core count = record { core = core; count = count }
+    instr_eq from other core count
 
 -- ---- within the totals
 

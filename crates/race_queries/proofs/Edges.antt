@@ -7,6 +7,7 @@ use Rattle.std.proofs.lemmas.Bool.{and_parts, cases_lt, cases_eq}
 use Rattle.std.proofs.lemmas.Bool.Decides.{nat_tests}
 use Rattle.rtr_types.specs.declared.instr.Instr.{Instr}
 use Rattle.rtr_types.specs.declared.pairs.Which.{Which}
+use Rattle.rtr_types.proofs.Lists.{some_same}
 use Rattle.clock_core.specs.Reach.{IsOneOf}
 use Rattle.race_log.specs.declared.recording.Recording.{Recording}
 use Rattle.race_log.specs.Sources.{HasEdge}
@@ -53,9 +54,6 @@ rise_push (x ∷ xs) y rise below = (
 parts_is : (x : Instr) (core count : ℕ) → x.core ≡ core → x.count ≡ count → instr core count ≡ x
 parts_is x core count e f = ap (λ (c : ℕ). instr c count) (sym e) ∙ ap (λ (n : ℕ). instr x.core n) (sym f)
 
-value_of : {X : Type 0} (x y : X) → Some x ≡ Some y → x ≡ y
-value_of x y e = cc
-
 -- ---- the edges into it
 
 pub sources_start : (which : Which) (r : Recording) (at : Instr) → AreSourcesUpTo which r at 0 []
@@ -84,7 +82,7 @@ module _ (which : Which) (r : Recording) (at : Instr) (core : ℕ) (list : List 
       old x edge (inl lt) up = before_push list (instr core count) x ((h.each x).1 (lt, edge))
       old x edge (inr le) up =
           let same : x.core ≡ core = omega arith in
-          let count_is = value_of count x.count
+          let count_is = some_same count x.count
           (only x.count (subst (λ (c : ℕ). HasEdge which r (instr c x.count) at) same edge)) in
           subst (λ (z : Instr). IsOneOf (list ++ instr core count ∷ []) z) (parts_is x core count same (sym count_is))
           (at_push list (instr core count))

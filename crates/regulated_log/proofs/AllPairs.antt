@@ -11,9 +11,10 @@ use Rattle.rtr_types.proofs.PairPlaces.{pairs-placed, places-paired}
 use Rattle.rtr_types.specs.declared.instr.Instr.{Instr}
 use Rattle.rtr_types.specs.declared.instr.Edge.{Edge}
 use Rattle.rtr_types.specs.declared.pairs.Which.TheVariants.{Reduced, Regulated}
+use Rattle.rtr_types.proofs.Instrs.{instr_eq}
 use Rattle.replay_core.specs.Play.{instr}
 use Rattle.clock_core.specs.Order.{Among, Before}
-use Rattle.clock_core.proofs.Paths.{joined, one, instr_eq, mapped}
+use Rattle.clock_core.proofs.Paths.{joined, one, mapped}
 use Rattle.clock_core.proofs.Listed.{contains_among, among_contains}
 use Rattle.stride_vector.specs.declared.StrideVector.{StrideVector}
 use Rattle.stride_vector.specs.Vectors.{edges_of}

@@ -27,8 +27,9 @@ use Rattle.replay_core.specs.Sources.{listed}
 use Rattle.replay_audit.specs.Clocks.{Kept, numbers_of, clocks_of, number_of, numbered, clock_at, next_at}
 use Rattle.replay_core.specs.Sources.{AreSources}
 use Rattle.replay_audit.specs.Clocks.{IsKept, IsNoted, Clocked}
-use Rattle.replay_audit.proofs.Logs.{recorded_log, edge_within, sourced_among}
+use Rattle.replay_audit.proofs.Logs.{recorded_log, sourced_among}
 use Rattle.replay_core.proofs.Sourcing.{listed_are}
+use Rattle.replay_core.proofs.Sources.{edge_within}
 
 -- ---- clocks by their places
 

@@ -187,57 +187,69 @@ module _ (given : Given) where
       let le : (core_at s d).count + 1 ≤ f d = ready_before p f c x y t.closed rc refl fc (suf x y pair) in
       omega arith
 
-  swap : (p : Plan) (s : Outcome) (f : ℕ → ℕ) (c d : ℕ) (zs : List ℕ) → Tame p s f → c ≢ d → Ready p f c →
-      Ordered p f (d ∷ c ∷ zs) → ValuedPlays given p s (d ∷ c ∷ zs) →
-      (Clash (valued_use given p s d) (valued_use given p s c) → ⊥) → Same p s f (d ∷ c ∷ zs) (c ∷ d ∷ zs)
-  swap p s f c d zs t ne rc o h free =
-      let other : d ≢ c = λ e. ne (sym e) in
-      let back : Clash (valued_use given p s c) (valued_use given p s d) → ⊥ =
-      λ k. free (clash_back (valued_use given p s c) (valued_use given p s d) k) in
-      let both : bump (bump f d) c ≡ bump (bump f c) d = bump_both f c d ne in
-      let mm : valued_place given p (valued_place given p s d) c ≡ valued_place given p (valued_place given p s c) d =
-      place_swap given p s c d ne free in
-      let ec : core_at (valued_place given p s d) c ≡ core_at s c =
-      (place_given_law p s d (given_next given s d)).other_cores c ne in
-      let ed : core_at (valued_place given p s c) d ≡ core_at s d =
-      (place_given_law p s c (given_next given s c)).other_cores d other in
-      let tc : valued_touch given p (valued_place given p s d) c ≡ valued_touch given p s c =
-      touched_place given p s c d ne free in
-      let td : valued_touch given p (valued_place given p s c) d ≡ valued_touch given p s d =
-      touched_place given p s d c other back in
-      let rest : List Access = valued_accesses_from given p (valued_place given p (valued_place given p s d) c) zs in
-      let from : valued_accesses_from given p s (d ∷ c ∷ zs)
-      ≡ valued_touch given p s d ++ (valued_touch given p s c ++ rest) =
-      ap (λ (l : List Access). valued_touch given p s d ++ (l ++ rest)) tc in
-      let into : valued_accesses_from given p s (c ∷ d ∷ zs)
-      ≡ valued_touch given p s c ++ (valued_touch given p s d ++ rest) =
-      ap (λ (l : List Access). valued_touch given p s c
-      ++ (l ++ valued_accesses_from given p (valued_place given p (valued_place given p s c) d) zs)) td
-      ∙ ap (λ (x : Outcome). valued_touch given p s c
-      ++ (valued_touch given p s d ++ valued_accesses_from given p x zs)) (sym mm) in
-      let apart : (a b : Access) → StandsIn (valued_touch given p s d) a → StandsIn (valued_touch given p s c) b →
+  swap : (plan : Plan) (state : Outcome) (come : ℕ → ℕ) (c d : ℕ) (zs : List ℕ) → Tame plan state come → c ≢ d →
+      Ready plan come c →
+      Ordered plan come (d ∷ c ∷ zs) → ValuedPlays given plan state (d ∷ c ∷ zs) →
+      (Clash (valued_use given plan state d) (valued_use given plan state c) → ⊥) →
+      Same plan state come (d ∷ c ∷ zs) (c ∷ d ∷ zs)
+  swap plan state come c d zs tame differ ready ordered plays free =
+      let other : d ≢ c = λ e. differ (sym e) in
+      let back : Clash (valued_use given plan state c) (valued_use given plan state d) → ⊥ =
+      λ k. free (clash_back (valued_use given plan state c) (valued_use given plan state d) k) in
+      let both : bump (bump come d) c ≡ bump (bump come c) d = bump_both come c d differ in
+      let mm : valued_place given plan (valued_place given plan state d) c
+      ≡ valued_place given plan (valued_place given plan state c) d =
+      place_swap given plan state c d differ free in
+      let ec : core_at (valued_place given plan state d) c ≡ core_at state c =
+      (place_given_law plan state d (given_next given state d)).other_cores c differ in
+      let ed : core_at (valued_place given plan state c) d ≡ core_at state d =
+      (place_given_law plan state c (given_next given state c)).other_cores d other in
+      let tc : valued_touch given plan (valued_place given plan state d) c ≡ valued_touch given plan state c =
+      touched_place given plan state c d differ free in
+      let td : valued_touch given plan (valued_place given plan state c) d ≡ valued_touch given plan state d =
+      touched_place given plan state d c other back in
+      let rest : List Access =
+      valued_accesses_from given plan (valued_place given plan (valued_place given plan state d) c) zs in
+      let from : valued_accesses_from given plan state (d ∷ c ∷ zs)
+      ≡ valued_touch given plan state d ++ (valued_touch given plan state c ++ rest) =
+      ap (λ (l : List Access). valued_touch given plan state d ++ (l ++ rest)) tc in
+      let into : valued_accesses_from given plan state (c ∷ d ∷ zs)
+      ≡ valued_touch given plan state c ++ (valued_touch given plan state d ++ rest) =
+      ap (λ (l : List Access). valued_touch given plan state c
+      ++ (l ++ valued_accesses_from given plan (valued_place given plan (valued_place given plan state c) d) zs)) td
+      ∙ ap (λ (x : Outcome). valued_touch given plan state c
+      ++ (valued_touch given plan state d ++ valued_accesses_from given plan x zs)) (sym mm) in
+      let apart : (a b : Access) → StandsIn (valued_touch given plan state d) a →
+      StandsIn (valued_touch given plan state c) b →
       Conflicts b a → ⊥ = λ a b u v k.
-      back (conflict_clash (valued_use given p s c) (valued_use given p s d) _ _ _ _ _ _ b a
-      (subst (λ (l : List Access). StandsIn l b) (valued_touch_is given p s c) v)
-      (subst (λ (l : List Access). StandsIn l a) (valued_touch_is given p s d) u) k) in
+      back (conflict_clash (valued_use given plan state c) (valued_use given plan state d) _ _ _ _ _ _ b a
+      (subst (λ (l : List Access). StandsIn l b) (valued_touch_is given plan state c) v)
+      (subst (λ (l : List Access). StandsIn l a) (valued_touch_is given plan state d) u) k) in
       record {
-        ordered = (rc, (ready_else p f d c other o.0, subst (λ (g : ℕ → ℕ). Ordered p g zs) both o.1.1));
-        plays = (
-          subst (λ (k : Core). is_done (need p.image k) ≡ false) ec h.1.0,
+        ordered = (
+          ready,
           (
-            subst (λ (k : Core). is_done (need p.image k) ≡ false) (sym ed) h.0,
-            subst (λ (x : Outcome). ValuedPlays given p x zs) mm h.1.1,
+            ready_else plan come d c other ordered.0,
+            subst (λ (g : ℕ → ℕ). Ordered plan g zs) both
+                ordered.1.1,
           ),
         );
-        ends = ap (λ (x : Outcome). valued_play given p x zs) (sym mm);
+        plays = (
+          subst (λ (k : Core). is_done (need plan.image k) ≡ false) ec plays.1.0,
+          (
+            subst (λ (k : Core). is_done (need plan.image k) ≡ false) (sym ed) plays.0,
+            subst (λ (x : Outcome). ValuedPlays given plan x zs) mm plays.1.1,
+          ),
+        );
+        ends = ap (λ (x : Outcome). valued_play given plan x zs) (sym mm);
         tally = ap (λ (g : ℕ → ℕ). counts g zs) (sym both);
         pairs = λ x y q.
             subst (λ (l : List Access). ConflictPair l x y) (sym from)
-            (pairs_swap (valued_touch given p s d) (valued_touch given p s c) rest apart x y
+            (pairs_swap (valued_touch given plan state d) (valued_touch given plan state c) rest apart x y
             (subst (λ (l : List Access). ConflictPair l x y) into q));
         parts = λ a q.
             subst (λ (l : List Access). StandsIn l a) (sym from)
-            (parts_swap (valued_touch given p s d) (valued_touch given p s c) rest a
+            (parts_swap (valued_touch given plan state d) (valued_touch given plan state c) rest a
             (subst (λ (l : List Access). StandsIn l a) into q));
       }
 

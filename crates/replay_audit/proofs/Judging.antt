@@ -10,12 +10,12 @@ use Rattle.clock_core.specs.Order.{Before, Among}
 use Rattle.conflict_edge.specs.Conflicts.{Conflicts, ConflictPair, StandsIn}
 use Rattle.conflict_edge.specs.Least.{Suffices}
 use Rattle.conflict_edge.proofs.Standing.{one_first}
+use Rattle.conflict_edge.proofs.Reversed.{list_ends}
 use Rattle.race_log.specs.Sources.{log_edges}
 use Rattle.replay_core.specs.Plans.{plan_of}
 use Rattle.replay_core.specs.Play.{accesses_of}
 use Rattle.replay_audit.specs.Laws.{IsSettled}
 use Rattle.replay_audit.specs.Judges.{IsAlike, JudgeLaw}
-use Rattle.replay_audit.proofs.Pairs.{ends}
 use Rattle.replay_audit.proofs.Settled.{settled_law}
 
 conflicts_alike : (a b c d : Access) → IsAlike a c → IsAlike b d → Conflicts a b → Conflicts c d
@@ -71,7 +71,7 @@ suffices_settled edges list suf a b s t k = by (one_first list a b s t k)
 pub settled_suffices : (edges : List Edge) (list : List Access) → NeverBack edges list → IsSettled edges list →
     Suffices list (Among edges)
 settled_suffices edges list never settled x y q =
-    let e = ends list x y q in
+    let e = list_ends list x y q in
     by (moved edges e.first.at e.second.at x y e.first_at e.second_at
     (settled e.first e.second e.first_stands e.second_stands e.conflict))
   where

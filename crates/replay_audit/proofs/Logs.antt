@@ -8,20 +8,16 @@ use Rattle.rtr_types.specs.declared.pairs.Which.{Which}
 use Rattle.clock_core.specs.Order.{Relation, Step, Path, Before, IsOrLeads, Among}
 use Rattle.clock_core.proofs.Paths.{joined, one, last_at}
 use Rattle.race_log.specs.declared.recording.Recording.{Recording}
-use Rattle.race_log.specs.Sources.{log_edges, EdgeWithin}
+use Rattle.race_log.specs.Sources.{log_edges}
 use Rattle.race_log.specs.Validity.{Valid}
 use Rattle.replay_core.specs.Plans.{Plan, plan_of}
 use Rattle.replay_core.specs.Orders.{bump, counts, nought, Sourced, Ready, Ordered}
-use Rattle.replay_core.proofs.Sources.{edge_within as core_edge_within}
+use Rattle.replay_core.proofs.Sources.{edge_within}
 use Rattle.replay_core.proofs.Counts.{bump_same, bump_else, bump_more}
 use Rattle.clock_entries.specs.Laws.{IsLog}
 use Rattle.replay_audit.specs.Laws.{RecordedLogLaw, AcyclicLaw}
 
 -- ---- edges
-
-pub edge_within : (which : Which) (r : Recording) (x y : Instr) → Valid r → Among (log_edges which r) x y →
-    EdgeWithin r x y
-edge_within which r x y valid a = core_edge_within which r x y valid a
 
 pub recorded_log : RecordedLogLaw
 recorded_log which r valid = record {

@@ -4,7 +4,6 @@ use Rattle.rtr_types.specs.declared.instr.Instr.{Instr}
 use Rattle.rtr_types.specs.declared.access.Access.{Access}
 use Rattle.clock_core.specs.Order.{Within}
 use Rattle.conflict_edge.specs.Conflicts.{Conflicts, ConflictPair, StandsIn}
-use Rattle.conflict_edge.proofs.History.{Ends, ends_more}
 use Rattle.conflict_edge.proofs.Standing.{stands_left, stands_right, stands_which}
 
 -- each access of the one list stands in the other
@@ -94,17 +93,3 @@ pairs_swap one two rest free x y p = first (pairs_which two (one ++ rest) x y p)
     first (across a b s t e f k) = crossing a b s (stands_which one rest b t) e f k
 
 -- ---- two in conflict
-
--- the two accesses of a pair
-pub ends : (list : List Access) (x y : Instr) → ConflictPair list x y → Ends list x y
-ends [] x y p = absurd p
-ends (a ∷ list) x y (inl p) = record {
-  first = a;
-  second = p.1;
-  first_stands = inl refl;
-  second_stands = inr p.2;
-  first_at = p.0;
-  second_at = p.3;
-  conflict = p.4;
-}
-ends (a ∷ list) x y (inr p) = ends_more a list x y (ends list x y p)

@@ -6,6 +6,7 @@ use Rattle.clock_core.specs.Order.{Before, Among}
 use Rattle.conflict_edge.specs.Conflicts.{ConflictPair}
 use Rattle.conflict_edge.specs.Least.{Suffices}
 use Rattle.conflict_edge.proofs.Standing.{one_first}
+use Rattle.conflict_edge.proofs.Reversed.{list_ends}
 use Rattle.rv_core.specs.declared.outcome.Outcome.{Outcome}
 use Rattle.std.specs.Prelude.{Some, None}
 use Rattle.replay_core.specs.Plans.{Plan, plan_of}
@@ -15,14 +16,14 @@ use Rattle.replay_core.specs.Orders.{bump, nought, Ordered}
 use Rattle.replay_core.proofs.Counts.{bump_more}
 use Rattle.replay_audit.specs.Determinate.{IsDeterminate}
 use Rattle.replay_audit.specs.Laws.{IsSettled, SettledLaw}
-use Rattle.replay_audit.proofs.Pairs.{Apart, both_left, both_right, across, pairs_which, ends}
+use Rattle.replay_audit.proofs.Pairs.{Apart, both_left, both_right, across, pairs_which}
 use Rattle.replay_audit.proofs.Logs.{ready_before}
 use Rattle.replay_audit.proofs.Rise.{rises, touched_is}
 use Rattle.replay_audit.proofs.Swaps.{use_at}
 use Rattle.replay_audit.proofs.Front.{Tame, tame_place, counted}
 use Rattle.replay_audit.proofs.Agreed.{tame_start, touched_at, any_whole_law}
 
-no-pair : (u : Use) (at x y : Instr) (o n : ℕ) → ConflictPair (accesses_by u at o n) x y → ⊥
+pub no-pair : (u : Use) (at x y : Instr) (o n : ℕ) → ConflictPair (accesses_by u at o n) x y → ⊥
 no-pair None at x y o n q = q
 no-pair (Some u) at x y o n (inl q) = q.2
 no-pair (Some u) at x y o n (inr q) = q
@@ -67,7 +68,7 @@ settled_law which r order valid play = (forth, back)
 
     suffices : IsSettled p.edges (accesses_of p order) → Suffices (accesses_of p order) (Among p.edges)
     suffices settled x y q =
-        let e = ends (accesses_of p order) x y q in
+        let e = list_ends (accesses_of p order) x y q in
         by e.first.at e.second.at e.first_at e.second_at
         (settled e.first e.second e.first_stands e.second_stands e.conflict)
       where

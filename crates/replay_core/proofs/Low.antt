@@ -46,7 +46,7 @@ abbrev pub left : List ℕ → (ℕ → ℕ) → ℕ → ℕ
 left [] f i = 0
 left (t ∷ ts) f i = (t - f i) + left ts f (i + 1)
 
-left_nought : (ts : List ℕ) (i : ℕ) → left ts nought i ≡ sum ts
+pub left_nought : (ts : List ℕ) (i : ℕ) → left ts nought i ≡ sum ts
 left_nought [] i = refl
 left_nought (t ∷ ts) i = let a = left_nought ts (i + 1) in let b : sum (t ∷ ts) ≡ t + sum ts =
     sum_by-cons (λ (x : ℕ). x) t ts in omega arith

@@ -7,10 +7,10 @@ use native.Mathlib.Decide.{ℕ_discrete}
 use Rattle.rtr_types.specs.declared.instr.Instr.{Instr}
 use Rattle.rtr_types.specs.declared.instr.Edge.{Edge}
 use Rattle.rtr_types.specs.declared.pairs.Which.{Which}
+use Rattle.rtr_types.proofs.Instrs.{instr_eq}
 use Rattle.clock_core.specs.Order.{Among}
 use Rattle.clock_core.specs.Reach.{IsOneOf}
 use Rattle.clock_core.proofs.Listed.{among_contains, contains_among}
-use Rattle.clock_core.proofs.Paths.{instr_eq}
 use Rattle.race_log.specs.declared.recording.Recording.{Recording}
 use Rattle.race_log.specs.Sources.{log_edges, HasEdge}
 use Rattle.race_log.specs.Validity.{Valid}
@@ -24,7 +24,7 @@ pub record SourcedTo (edges : List Edge) (y : Instr) (n : ℕ) (sources : List �
   pub only : (c : ℕ) → 1 ≤ slice_index sources c → Among edges (instr c (slice_index sources c)) y
   pub rest : (c : ℕ) → n ≤ c → slice_index sources c ≡ 0
 
-earlier_or : (m n : ℕ) → m < n + 1 → (m < n) ⊎ (m ≡ n)
+pub earlier_or : (m n : ℕ) → m < n + 1 → (m < n) ⊎ (m ≡ n)
 earlier_or m n lt = grind arith
 
 module _ (which : Which) (r : Recording) (y : Instr) (n : ℕ) (s : List ℕ) (so_far : SourcedTo (log_edges which r) y n s)

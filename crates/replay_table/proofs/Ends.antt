@@ -13,8 +13,8 @@ use Rattle.atomic_table.specs.Seated.{TableId}
 use Rattle.atomic_table.proofs.Lists.{at_longer}
 use Rattle.rv_core.specs.declared.core_state.Core.{Core}
 use Rattle.rv_core.specs.declared.outcome.LoadNote.{LoadNote}
-use Rattle.rv_core.specs.declared.outcome.Outcome.{Outcome}
 use Rattle.rv_core.specs.States.{starting}
+use Rattle.rv_core.proofs.Outcomes.{outcome_eq}
 use Rattle.replay_core.specs.Plans.{Plan}
 use Rattle.replay_core.specs.Play.{core_at, loads_at, played, accesses_of}
 use Rattle.replay_core.specs.Orders.{counts, nought}
@@ -177,15 +177,6 @@ pub record Whole (seats : List Sitting) (e : Ended) : Type 0 where
   pub loads : e.outcome.loads ≡ map (λ (x : Sitting). x.loads) seats
   pub touched : e.touched ≡ map (λ (x : Sitting). x.touched) seats
 
-made : List Core → List ℕ → List (List LoadNote) → Outcome
-made cores words loads = record { cores = cores; words = words; loads = loads }
-
-same-outcome : (a b : Outcome) → a.cores ≡ b.cores → a.words ≡ b.words → a.loads ≡ b.loads → a ≡ b
-unfolding made
-same-outcome a b cores words loads = ap (λ (z : List Core). made z a.words a.loads) cores
-    ∙ ap (λ (z : List ℕ). made b.cores z a.loads) words
-    ∙ ap (λ (z : List (List LoadNote)). made b.cores b.words z) loads
-
 -- what the order that stood leaves of a seat's core
 record AtEnd (p : Plan) (order : List ℕ) (k : ℕ) (x : Sitting) : Type 0 where
   pub count : counts nought order k ≡ x.core.count
@@ -226,22 +217,23 @@ parts-same f seats ys d all same =
     same-list (map f seats) ys d (n ∙ all) (λ k lt. let x = get-some seats k (omega arith) in
     map-get f seats k x.0 d x.1 ∙ sym (same k x.0 x.1))
 
-pub end_is : (p : Plan) (table : TableId) (seats rest : List Sitting) (last : Sitting) (v : View) (words : List ℕ)
-    (id : ℕ) (s : State ℕ View) (e : Ended)
-    → Finished p table seats → seats ≡ rest ++ last ∷ [] → Gathered last.view rest v → TableRule p s
-    → get_elem? s.views id ≡ some v → s.words ≡ words
-    → Whole seats e → length e.outcome.words ≡ p.image.words
-    → ((i : ℕ) → i < p.image.words → slice_index e.outcome.words i ≡ slice_index words i)
-    → IsEnd p e
-end_is p table seats rest last v words id s e f split g h at is parts wide same =
-    let st = h.order.1 in
-    let order = h.order.0 in
-    let known = play_law p order st.ordered in
-    let n = f.all in
-    let ends : (k : ℕ) (x : Sitting) → slice_get seats k ≡ Some x → AtEnd p order k x = at-end p table seats rest last
-    v id s f split g h at in
-    let accesses : ℕ → List Touch = λ c. touches_by c (accesses_of p order) in
-    let wide' = length-map-range_with_len accesses 0 (length p.totals) in
+pub end_is : (plan : Plan) (table : TableId) (seats rest : List Sitting) (last : Sitting) (view : View) (words : List ℕ)
+    (id : ℕ) (state : State ℕ View) (ended : Ended)
+    → Finished plan table seats → seats ≡ rest ++ last ∷ [] → Gathered last.view rest view → TableRule plan state
+    → get_elem? state.views id ≡ some view → state.words ≡ words
+    → Whole seats ended → length ended.outcome.words ≡ plan.image.words
+    → ((i : ℕ) → i < plan.image.words → slice_index ended.outcome.words i ≡ slice_index words i)
+    → IsEnd plan ended
+end_is plan table seats rest last view words id state ended finished split gathered holds at is parts wide same =
+    let st = holds.order.1 in
+    let order = holds.order.0 in
+    let known = play_law plan order st.ordered in
+    let n = finished.all in
+    let ends : (k : ℕ) (x : Sitting) → slice_get seats k ≡ Some x → AtEnd plan order k x =
+    at-end plan table seats rest last
+    view id state finished split gathered holds at in
+    let accesses : ℕ → List Touch = λ c. touches_by c (accesses_of plan order) in
+    let wide' = length-map-range_with_len accesses 0 (length plan.totals) in
     record {
       order = order;
       play = record {
@@ -249,22 +241,22 @@ end_is p table seats rest last v words id s e f split g h at is parts wide same 
         plays = st.plays;
         whole = record {
           each = λ c lt. let x = get-some seats c (omega arith) in
-              (ends c x.0 x.1).count ∙ f.totals c x.0 x.1;
+              (ends c x.0 x.1).count ∙ finished.totals c x.0 x.1;
         };
       };
-      outcome = same-outcome e.outcome (played p order)
-          (parts.cores ∙ parts-same (λ (x : Sitting). x.core) seats (played p order).cores (starting 0 0)
+      outcome = outcome_eq ended.outcome (played plan order)
+          (parts.cores ∙ parts-same (λ (x : Sitting). x.core) seats (played plan order).cores (starting 0 0)
           (n ∙ sym known.all_cores)
           (λ k x has. (ends k x has).core))
-          (same-list e.outcome.words (played p order).words 0 (wide ∙ sym known.all_words)
-          (λ i lt. let below : i < p.image.words = omega arith in
+          (same-list ended.outcome.words (played plan order).words 0 (wide ∙ sym known.all_words)
+          (λ i lt. let below : i < plan.image.words = omega arith in
           same i below ∙ ap (λ (l : List ℕ). slice_index l i) (sym is) ∙ st.memory i below))
-          (parts.loads ∙ parts-same (λ (x : Sitting). x.loads) seats (played p order).loads []
+          (parts.loads ∙ parts-same (λ (x : Sitting). x.loads) seats (played plan order).loads []
           (n ∙ sym known.all_loads) (λ k x has. (ends k x has).loads));
       touched = parts.touched ∙ parts-same (λ (x : Sitting). x.touched) seats
-          (map accesses (range_with_len 0 (length p.totals))) [] (n ∙ sym wide')
-          (λ k x has. let lt : k < length p.totals = get-below seats k x has n in
-          get_or-map-range_with_len accesses 0 (length p.totals) k k [] lt
+          (map accesses (range_with_len 0 (length plan.totals))) [] (n ∙ sym wide')
+          (λ k x has. let lt : k < length plan.totals = get-below seats k x has n in
+          get_or-map-range_with_len accesses 0 (length plan.totals) k k [] lt
           (omega arith) ∙ (ends k x has).touched);
     }
 

@@ -126,44 +126,49 @@ at_same p past sees holds v o at word writes whole writes' whole' word' t n a b 
     )
 
 -- a seat that has retired its access
-pub access_ties : (p : Plan) (past new : Past) (sees : List ℕ) (holds holds' : Option ℕ) (v w : View) (o : Own)
+pub access_ties : (plan : Plan) (past new : Past) (sees : List ℕ) (holds holds' : Option ℕ) (view left : View)
+    (one : Own)
     (at : Core) (word word' old : ℕ)
-    (writes whole writes' whole' : Bool) → Tied p past sees holds v → Next p v o at → Accesses (need p.image at) word
+    (writes whole writes' whole' : Bool) → Tied plan past sees holds view → Next plan view one at →
+    Accesses (need plan.image at) word
     writes whole
-    → Accesses (need p.image past.core) word' writes' whole' → Due p (seen_of v) past.core
-    → Notes past (after p.image past.core old) (use_of (need p.image past.core)) old new
-    → w.owned ≡ retired p o at old ∷ [] → w.seen ≡ v.seen → w.polls ≡ v.polls → w.held ≡ holds'
+    → Accesses (need plan.image past.core) word' writes' whole' → Due plan (seen_of view) past.core
+    → Notes past (after plan.image past.core old) (use_of (need plan.image past.core)) old new
+    → left.owned ≡ retired plan one at old ∷ [] → left.seen ≡ view.seen → left.polls ≡ view.polls → left.held ≡ holds'
     → ((value : ℕ) → holds' ≡ Some value → ⊥)
-    → Tied p new sees holds' w
-access_ties p past new sees holds holds' v w o at word word' old writes whole writes' whole' t n a b due notes own
+    → Tied plan new sees holds' left
+access_ties plan past new sees holds holds' view left one at word word' old writes whole writes' whole' tied next a b
+    due notes own
     seen polls held free =
-    let e = at_same p past sees holds v o at word writes whole writes' whole' word' t n a b in
+    let e = at_same plan past sees holds view one at word writes whole writes' whole' word' tied next a b in
     let k = past.core in
-    let u = use_of (need p.image k) in
-    let count = count_law p.image k old in
-    let id = number_law p.image k old in
-    let now : w.owned ≡ retired p o k old ∷ [] = subst (λ (x : Core). w.owned ≡ retired p o x old ∷ []) e.1 own in
+    let u = use_of (need plan.image k) in
+    let count = count_law plan.image k old in
+    let id = number_law plan.image k old in
+    let now : left.owned ≡ retired plan one k old ∷ [] =
+    subst (λ (x : Core). left.owned ≡ retired plan one x old ∷ []) e.1 own in
     record {
-      own = retired p o k old;
+      own = retired plan one k old;
       owned = now;
       locals = 0;
       ahead = sym notes.core;
-      loads_is = notes.loads ∙ ap (λ (l : List LoadNote). loads_after u l (after p.image k old).count old)
-          (t.loads_is ∙ ap (λ (x : Own). x.loads) e.0)
-          ∙ ap (λ (m : ℕ). loads_after u o.loads m old) count;
+      loads_is = notes.loads ∙ ap (λ (l : List LoadNote). loads_after u l (after plan.image k old).count old)
+          (tied.loads_is ∙ ap (λ (x : Own). x.loads) e.0)
+          ∙ ap (λ (m : ℕ). loads_after u one.loads m old) count;
       touched_is = notes.touched
-          ∙ ap (λ (l : List Touch). touched_after u l (after p.image k old).id (after p.image k old).count)
-          (t.touched_is
-          ∙ ap (λ (x : Own). x.touched) e.0) ∙ ap (λ (i : ℕ). touched_after u o.touched i (after p.image k old).count)
+          ∙ ap (λ (l : List Touch). touched_after u l (after plan.image k old).id (after plan.image k old).count)
+          (tied.touched_is
+          ∙ ap (λ (x : Own). x.touched) e.0)
+          ∙ ap (λ (i : ℕ). touched_after u one.touched i (after plan.image k old).count)
           id
-          ∙ ap (λ (m : ℕ). touched_after u o.touched k.id m) count;
-      sees_is = seen ∙ t.sees_is;
+          ∙ ap (λ (m : ℕ). touched_after u one.touched k.id m) count;
+      sees_is = seen ∙ tied.sees_is;
       holds_is = held;
-      wide = t.wide;
-      inside = let c = ap (λ (x : Core). x.id) notes.core in let i = t.inside in omega arith;
-      within = subst (λ (x : Core). x.count ≤ slice_index p.totals x.id) (sym notes.core)
-          (within-after p (seen_of v) k old due);
-      all_polls = ap (λ (l : List ℕ). length l) polls ∙ t.all_polls;
+      wide = tied.wide;
+      inside = let c = ap (λ (x : Core). x.id) notes.core in let i = tied.inside in omega arith;
+      within = subst (λ (x : Core). x.count ≤ slice_index plan.totals x.id) (sym notes.core)
+          (within-after plan (seen_of view) k old due);
+      all_polls = ap (λ (l : List ℕ). length l) polls ∙ tied.all_polls;
       holding = λ value e. absurd (free value e);
     }
 

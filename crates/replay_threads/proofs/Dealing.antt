@@ -13,6 +13,7 @@ use Rattle.atomic_table.specs.Seated.{TableId}
 use Rattle.race_log.specs.declared.recording.Recording.{Recording}
 use Rattle.replay_core.specs.Plans.{plan_of}
 use Rattle.rtr_types.specs.declared.pairs.Which.{Which}
+use Rattle.rtr_types.proofs.Lists.{cons-head, cons-rest}
 use Rattle.replay_table.specs.Seats.{Sitting, Finished}
 use Rattle.replay_threads.specs.Groups.{Grouped, no_group, members, workers_at, ids_of, AllAt, AreAt, AreGrouped}
 use Rattle.replay_threads.specs.Groups.{AreKept, IsGivenTo, IsDone, AllDone, Turned}
@@ -26,12 +27,6 @@ none-some x xs e = cc
 last-nil : {X : Type 0} (xs : List X) (x : X) → xs ++ x ∷ [] ≡ [] → ⊥
 last-nil [] x e = none-some x [] e
 last-nil (y ∷ xs) x e = none-some y (xs ++ x ∷ []) e
-
-cons-rest : {X : Type 0} (x y : X) (xs ys : List X) → x ∷ xs ≡ y ∷ ys → xs ≡ ys
-cons-rest x y xs ys e = cc
-
-cons-head : {X : Type 0} (x y : X) (xs ys : List X) → x ∷ xs ≡ y ∷ ys → x ≡ y
-cons-head x y xs ys e = cc
 
 last-same : {X : Type 0} (xs ys : List X) (x y : X) → xs ++ x ∷ [] ≡ ys ++ y ∷ [] → (xs ≡ ys) × (x ≡ y)
 last-same [] [] x y e = (refl, cons-head x y [] [] e)

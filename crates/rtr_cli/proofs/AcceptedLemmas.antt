@@ -1,5 +1,5 @@
 -- What a command accepts it refuses for want of memory alone.
-use Rattle.std.proofs.Common.{◌≡◌, refl, sym, subst, ℕ, List, inl, inr, arith}
+use Rattle.std.proofs.Common.{◌≡◌, refl, sym, subst, ℕ, List, arith}
 use Rattle.image_elf.specs.declared.elf_fault.ElfFault.{ElfFault}
 use Rattle.image_mem.specs.Contents.{Contents}
 use Rattle.certificate_codec.specs.declared.certificate.Certificate.{Certificate}
@@ -36,8 +36,9 @@ use Rattle.rtr_types.specs.declared.params.Params.{Params}
 use Rattle.tool_words.specs.declared.command.Command.{Command}
 use Rattle.tool_words.specs.declared.command.Command.TheVariants.{Record, Run, Print, Replay, Migrate, Certify, Check}
 use Rattle.tool_words.specs.declared.command.Command.TheVariants.{Soak, At, Thin, CheckThin, TsoReplay}
-use Rattle.vector_reduce.specs.Answers.{AreFew, AreTooMany, IsTooMany, IsNotShown as IsNotNeededShown}
+use Rattle.vector_reduce.specs.Answers.{IsTooMany, IsNotShown as IsNotNeededShown}
 use Rattle.vector_reduce.specs.Reading.{thinned_at}
+use Rattle.vector_reduce.proofs.Assembled.{few_not_many}
 use Rattle.rtr_cli.specs.Commands.{AuditFails, IsAbsent, IsFaulty, IsNotLeast, IsNotNeeded, IsNotShown, IsTooLong}
 use Rattle.rtr_cli.specs.Commands.{IsUnread, Overflows, TsoStops, image_of, loaded}
 use Rattle.tso_codec.specs.Reading.{tso_at}
@@ -81,11 +82,6 @@ determinate_not_audited which r (faults.Short core count) is refuses =
     absurd (refused_law which r (faults.Short core count) refuses (λ e. absurd cc) is)
 determinate_not_audited which r (faults.Undetermined first second) is refuses =
     absurd (refused_law which r (faults.Undetermined first second) refuses (λ e. absurd cc) is)
-
--- few vectors aren't too many
-not_too_many : (r : Recording) → AreFew r → AreTooMany r → ⊥
-not_too_many r few (inl more) = absurd (omega (arith, few.vectors, more))
-not_too_many r few (inr more) = absurd (omega (arith, few.positions, more))
 
 -- no audit refuses what `record` makes
 not_audited : (which : Which) (r : Recording) (fault : AuditFault) → IsOfRecord r → AuditRefuses which r fault
@@ -182,7 +178,7 @@ nothing_too_long : (command : Command) (input : List ℕ) → Accepts command in
     → IsTooLong command input vectors edges → ⊥
 nothing_too_long (Thin certify) input a vectors edges h =
     both_said (whole_at input) IsOfRecordWithFew (λ r. IsDeterminate Regulated r × IsTooMany r vectors edges) ⊥
-    (λ r is it. not_too_many r is.1 it.1.too_many) a h
+    (λ r is it. few_not_many r is.1 it.1.too_many) a h
 nothing_too_long command input a vectors edges h = h
 
 -- each of its vectors is shown to be needed

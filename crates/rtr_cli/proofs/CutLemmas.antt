@@ -39,7 +39,7 @@ state_fits law which r image cut outcome valid is state =
     (subst (λ (o : Outcome). IsOutcomeOf (recorded_image r) o) (sym plays.outcome_is) played_fits)
 
 -- there is one cut of each kind
-one_cut : OneLeastCutLaw → OneGreatestCutLaw → (which : Which) (r : Recording) (at : Instr) (latest : Bool)
+pub one_cut : OneLeastCutLaw → OneGreatestCutLaw → (which : Which) (r : Recording) (at : Instr) (latest : Bool)
     (cut other : Cut)
     → IsCutAt which r at latest cut → IsCutAt which r at latest other → cut ≡ other
 one_cut least greatest which r at false cut other is also = least which r at cut other is also

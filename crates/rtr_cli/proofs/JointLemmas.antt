@@ -3,6 +3,7 @@ use Rattle.std.proofs.Common.{◌≡◌, ◌≢◌, ℕ, List, sym, subst, ap, �
 use Rattle.std.specs.Prelude.{◌↔◌, IfSome, Option, Some, None, Result, Ok, Err}
 use Rattle.std.specs.Io.KnownBytes.{Appends}
 use Rattle.rtr_types.specs.declared.pairs.Which.{Which}
+use Rattle.rtr_types.proofs.Lists.{some_same}
 use Rattle.race_log.specs.declared.recording.Recording.{Recording}
 use Rattle.log_codec.specs.Reading.{whole_at}
 use Rattle.race_log.specs.Validity.{Valid}
@@ -27,9 +28,6 @@ use Rattle.rtr_cli.specs.Joints.{ClosesWith, PrintsJoint, PrintsSome, asked_by, 
 
 none_some : {X : Type 0} (x : X) → None ≡ Some x → ⊥
 none_some x e = cc
-
-some_same : {X : Type 0} (x y : X) → Some x ≡ Some y → x ≡ y
-some_same x y e = cc
 
 -- the words' meaning is the command that asks for it
 pub asked_is : (meant : Option Command) (a : Asked) → asked_by meant ≡ Some a → meant ≡ Some (command_of a)

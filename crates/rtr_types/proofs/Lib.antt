@@ -1,3 +1,5 @@
+pub mod Instrs
+pub mod Lists
 pub mod Members
 pub mod PairPlaces
 pub mod Truths

@@ -23,15 +23,11 @@ use Rattle.run_records.specs.Standing.{Reduces}
 
 -- ---- the counts
 
--- the list turned round, with one retirement more
-reversed_more : (list : List Retirement) (r : Retirement) → r ∷ reverse list ≡ reverse (list ++ r ∷ [])
-reversed_more list r = sym (reverse-append list (r ∷ []))
-
 counts_more : (list : List Retirement) (q : Retirement) (r next : Reduced) → IsNext r q.at → Counted r q.at next →
     ((core : ℕ) → core < r.cores → count_of r core ≡ retired_by (reverse list) core) →
     (core : ℕ) → core < next.cores → count_of next core ≡ retired_by (reverse (list ++ q ∷ [])) core
 counts_more list q r next is_next counted counts core lt =
-    subst (λ (h : List Retirement). count_of next core ≡ retired_by h core) (reversed_more list q)
+    subst (λ (h : List Retirement). count_of next core ≡ retired_by h core) (sym (reverse-append list (q ∷ [])))
     (by (cases_eq core q.at.core))
   where
     by : (core ≡ q.at.core) ⊎ (core ≢ q.at.core) → count_of next core ≡ retired_by (q ∷ reverse list) core

@@ -79,42 +79,49 @@ record Before (list : List Access) (edges : List Edge) (notes : Notes) (e : Even
     reduction : IsReduction list c.reduction.state edges
 
 told_untold : (e : Event) (carry : Known) (list : List Access) (edges : List Edge) (notes : Notes) (c d : Noted)
-    (r q : Times) →
-    ((a : Access) → e ≡ Accesses a → AreExactFor list a r) → Told e carry c r d q → Before list edges notes e carry c →
+    (first_times next_times : Times) →
+    ((a : Access) → e ≡ Accesses a → AreExactFor list a first_times) → Told e carry c first_times d next_times →
+    Before list edges notes e carry c →
     Untold c.reduction.state.lists (noted_event notes e carry) d
-told_untold Nothing carry list edges notes c d r q exact is h =
+told_untold Nothing carry list edges notes c d first_times next_times exact is holds =
     subst (λ (x : Noted). Untold c.reduction.state.lists notes x) (sym is)
-    (none_untold c.reduction.state.lists notes c h.regulates.all_told h.regulates.cores refl h.regulates.follows)
-told_untold (Retires at) carry list edges notes c d r q exact is h =
+    (none_untold c.reduction.state.lists notes c holds.regulates.all_told holds.regulates.cores refl
+    holds.regulates.follows)
+told_untold (Retires at) carry list edges notes c d first_times next_times exact is holds =
     none_untold c.reduction.state.lists (with_note notes at carry) d is.untold
-    (ap (λ (s : Regulation). s.cores) is.regulation.regulation ∙ h.regulates.cores
+    (ap (λ (s : Regulation). s.cores) is.regulation.regulation ∙ holds.regulates.cores
     ∙ ap (λ (s : Reduced). s.cores) (sym is.reduction))
     (ap (λ (s : Reduced). s.lists) is.reduction)
-    (is.regulation.follows notes (with_note notes at carry) c.reduction.state.lists (h.noted at refl is.next)
-    h.regulates.follows)
-told_untold (Accesses a) carry list edges notes c d r q exact is h =
+    (is.regulation.follows notes (with_note notes at carry) c.reduction.state.lists (holds.noted at refl is.next)
+    holds.regulates.follows)
+told_untold (Accesses a) carry list edges notes c d first_times next_times exact is holds =
     let later : Notes = with_note notes a.at carry in
-    let next : IsNotedNext notes a.at carry later = h.noted a.at refl is.next in
+    let next : IsNotedNext notes a.at carry later = holds.noted a.at refl is.next in
     let kept : Follows later c.reduction.state.lists d.regulation =
-    is.regulation.follows notes later c.reduction.state.lists next h.regulates.follows in
+    is.regulation.follows notes later c.reduction.state.lists next holds.regulates.follows in
     let cores : d.regulation.regulation.cores ≡ c.reduction.state.cores =
-    ap (λ (s : Regulation). s.cores) is.regulation.regulation ∙ h.regulates.cores in
-    let can = new_edges_law later list c.reduction.state edges a r d.regulation.regulation is.next (exact a refl)
-    h.reduction cores kept.regulation
+    ap (λ (s : Regulation). s.cores) is.regulation.regulation ∙ holds.regulates.cores in
+    let can = new_edges_law later list c.reduction.state edges a first_times d.regulation.regulation is.next
+    (exact a refl)
+    holds.reduction cores kept.regulation
     (let noted = next.noted.count in omega arith) in
-    let targets : All (λ (e : Edge). e.to.count ≡ noted_count later e.to.core) (edges_of c.reduction.state a r) =
-    new_targets list c.reduction.state edges a r later is.next (exact a refl) h.reduction next.noted.count in
+    let targets : All (λ (e : Edge). e.to.count ≡ noted_count later e.to.core)
+    (edges_of c.reduction.state a first_times) =
+    new_targets list c.reduction.state edges a first_times later is.next
+    (exact a refl) holds.reduction next.noted.count in
     record {
       cores = cores ∙ ap (λ (s : Reduced). s.cores) (sym is.reduction);
       follows = kept;
-      next = All-same (λ (e : Edge). CanFollow d.regulation.regulation e) d.untold (edges_of c.reduction.state a r)
+      next = All-same (λ (e : Edge). CanFollow d.regulation.regulation e) d.untold
+          (edges_of c.reduction.state a first_times)
           is.untold
           (All-weaker (λ (e : Edge). IsNextEdge later d.regulation.regulation e)
           (λ (e : Edge). CanFollow d.regulation.regulation e)
-          (λ e it. record { pair = it.pair; some = it.some; later = it.later }) (edges_of c.reduction.state a r)
+          (λ e it. record { pair = it.pair; some = it.some; later = it.later })
+          (edges_of c.reduction.state a first_times)
           can.next);
       noted = All-same (λ (e : Edge). e.to.count ≡ noted_count later e.to.core) d.untold
-          (edges_of c.reduction.state a r) is.untold targets;
+          (edges_of c.reduction.state a first_times) is.untold targets;
       apart = subst (λ (es : List Edge). ArePairsApart d.regulation.regulation.cores es) (sym is.untold) can.apart;
       lists = ap (λ (s : Reduced). s.lists) is.reduction ∙ can.lists
           ∙ ap (with_edges d.regulation.regulation.cores c.reduction.state.lists) (sym is.untold);

@@ -1,7 +1,7 @@
 -- Where a run that is recorded stands, from its start on.
 use Rattle.std.proofs.Common.{◌≡◌, ◌∙◌, refl, sym, ap, subst, ℕ, suc, ◌+◌, ◌<◌, ◌≤◌, false, List, [], ◌∷◌, ◌++◌}
 use Rattle.std.proofs.Common.{append-nil, length, Some, None, arith}
-use Rattle.std.specs.Prelude.{replicate, All, slice_index}
+use Rattle.std.specs.Prelude.{replicate, All}
 use Rattle.std.proofs.lemmas.List.Elements.{All-from_get_or}
 use Rattle.access_times.specs.Times.{times_riding}
 use Rattle.access_times.specs.declared.times.Times.{Times}
@@ -29,7 +29,7 @@ use Rattle.machine_times.proofs.RiderLaws.{times_fresh}
 use Rattle.machine_times.specs.Retirements.{MachineStandsFor, Retirement, with_event}
 use Rattle.machine_known.specs.RunHistory.{with_event as noted_event}
 use Rattle.machine_times.specs.TimedSteps.{StepFinds, core_of_event, times_parts, with_step}
-use Rattle.online_reduce.proofs.Reductions.{begin_law, no_count, none_counted}
+use Rattle.online_reduce.proofs.Reductions.{begin_law, none_before}
 use Rattle.online_reduce.specs.Exact.{AreExactFor}
 use Rattle.online_reduce.specs.Reduced.{IsNext, Reduced, clock_of, count_of, counted, edges_of, retired, unreduced}
 use Rattle.run_outcome.proofs.Turns.{Steps, numbered, runs_next, runs_start}
@@ -49,9 +49,6 @@ use Rattle.run_records.specs.Clerks.{IsAwaited, Noted, ToldLocal, ToldTouch}
 use Rattle.run_records.specs.Standing.{NotesAt, Reduces, Regulates}
 
 -- ---- the start
-
-none_before : (cores core : ℕ) → count_of (unreduced cores) core ≡ 0
-none_before cores core = ap (λ (c : Clock). slice_index c core) (no_count core) ∙ none_counted core
 
 -- before the first choice
 pub notes_start : (image : Contents) (params : Params) (schedule : Choices) (s : State Times Known) (r : Reduced)
@@ -231,47 +228,52 @@ pub few_cores : (image : Contents) (params : Params) (schedule : Choices) (t : �
 few_cores image params schedule t s r notes rest h =
     let cores : length s.cores ≡ params.cores = h.run.cores in let most = h.knows.retired.few in omega arith
 
-pub notes_next : (image : Contents) (params : Params) (schedule : Choices) (t : ℕ) (s s' : State Times Known) (m : Move)
+pub notes_next : (image : Contents) (params : Params) (schedule : Choices) (t : ℕ) (state state' : State Times Known)
+    (move : Move)
     (r after : Reduced)
-    (notes : Notes) (rest rest' : Choices) → all_done (plain s) ≡ false → Turned s s' m r after rest rest' →
-    NotesAt image params schedule t s r notes rest →
-    NotesAt image params schedule (suc t) s' after
-    (noted_event notes (event times_riding known_carrying s m) (carry_told times_riding known_carrying s m)) rest'
-notes_next image params schedule t s s' m r after notes rest rest' going turned h =
+    (notes : Notes) (rest rest' : Choices) → all_done (plain state) ≡ false →
+    Turned state state' move r after rest rest' →
+    NotesAt image params schedule t state r notes rest →
+    NotesAt image params schedule (suc t) state' after
+    (noted_event notes (event times_riding known_carrying state move)
+    (carry_told times_riding known_carrying state move)) rest'
+notes_next image params schedule t state state' move r after notes rest rest' going turned holds =
     let choices : ℕ → ℕ = choice_at schedule in
-    let e : Event = event times_riding known_carrying s m in
-    let p : Port Times Known = retiring times_riding known_carrying s m in
-    let carry : Known = carry_told times_riding known_carrying s m in
+    let e : Event = event times_riding known_carrying state move in
+    let p : Port Times Known = retiring times_riding known_carrying state move in
+    let carry : Known = carry_told times_riding known_carrying state move in
     let later : Notes = noted_event notes e carry in
     let all : List Access = accesses image params choices t in
-    let reduced : ReducedAfter (with_event e (clock_of after (core_of_event e)) h.list) (all ++ accesses_in e) after =
-    told_reduces e p h.list all h.edges r after
-    (turned_exact all s s' m r after rest rest' h.list h.edges turned h.machine h.reduces) turned.told h.reduces in
-    let here : run image params choices t ≡ plain s = sym h.run.state in
-    let number : choice_at rest 0 ≡ choices t = h.run.rest_is 0 ∙ ap choices (omega arith) in
-    let taken : chosen (run image params choices t) (choices t) ≡ Some m =
+    let reduced : ReducedAfter (with_event e (clock_of after (core_of_event e)) holds.list)
+    (all ++ accesses_in e) after =
+    told_reduces e p holds.list all holds.edges r after
+    (turned_exact all state state' move r after rest rest' holds.list holds.edges turned holds.machine holds.reduces)
+    turned.told holds.reduces in
+    let here : run image params choices t ≡ plain state = sym holds.run.state in
+    let number : choice_at rest 0 ≡ choices t = holds.run.rest_is 0 ∙ ap choices (omega arith) in
+    let taken : chosen (run image params choices t) (choices t) ≡ Some move =
     ap (λ (u : PlainState). chosen u (choices t)) here
-    ∙ ap (chosen (plain s)) (sym number) ∙ turned.steps.taken in
+    ∙ ap (chosen (plain state)) (sym number) ∙ turned.steps.taken in
     let same : e ≡ event_by (run image params choices t) (chosen (run image params choices t) (choices t)) =
-    turned.event_is ∙ ap (λ (u : PlainState). plain_event u m) (sym here)
+    turned.event_is ∙ ap (λ (u : PlainState). plain_event u move) (sym here)
     ∙ sym (ap (event_by (run image params choices t)) taken) in
     record {
-      run = runs_next image params schedule t (plain s) (plain s') rest rest' m going turned.steps h.run;
-      list = with_step known_carrying s m (clock_of after) h.list;
+      run = runs_next image params schedule t (plain state) (plain state') rest rest' move going turned.steps holds.run;
+      list = with_step known_carrying state move (clock_of after) holds.list;
       edges = reduced.edges;
-      machine = turned.stands h.list h.machine;
-      cores = reduced_cores e r after (rider_of_event times_riding e p) turned.told ∙ h.cores;
+      machine = turned.stands holds.list holds.machine;
+      cores = reduced_cores e r after (rider_of_event times_riding e p) turned.told ∙ holds.cores;
       reduces = subst (λ (x : Event).
-          Reduces (with_step known_carrying s m (clock_of after) h.list) (all ++ accesses_in x) after
+          Reduces (with_step known_carrying state move (clock_of after) holds.list) (all ++ accesses_in x) after
           reduced.edges) same reduced.reduces;
       knows = subst (λ (u : State Times Known). KnowsAt (happening_at image params choices) (suc t) u later)
           (sym turned.state)
-          (knows_step times_riding (happening_at image params choices) t s m turned.rider notes later
-          (run_orderly_law image params choices (few_cores image params schedule t s r notes rest h))
-          (taken_enabled times_riding s (choice_at rest 0) m turned.steps.taken)
-          (turned_happens image params schedule t s s' m r after notes rest rest' turned h)
+          (knows_step times_riding (happening_at image params choices) t state move turned.rider notes later
+          (run_orderly_law image params choices (few_cores image params schedule t state r notes rest holds))
+          (taken_enabled times_riding state (choice_at rest 0) move turned.steps.taken)
+          (turned_happens image params schedule t state state' move r after notes rest rest' turned holds)
           (reduced_history e carry r after (rider_of_event times_riding e p) notes turned.told
-          (λ at. next_noted image params schedule t s r notes rest h at carry)) h.knows);
+          (λ at. next_noted image params schedule t state r notes rest holds at carry)) holds.knows);
     }
 
 -- the same state and reduction, whatever room there is

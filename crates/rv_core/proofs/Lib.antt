@@ -1,6 +1,7 @@
 pub mod Bytes
 pub mod Jumps
 pub mod Masks
+pub mod Outcomes
 pub mod Programs
 pub mod LawLemmas
 pub mod OpLemmas

@@ -24,6 +24,7 @@ use Rattle.replay_core.proofs.Steps.{used_within}
 use Rattle.tso_state.specs.Events.{Told, Alone, Ordered, Logged, instr_told}
 use Rattle.tso_told.specs.Played.{IsNext, found_by, ordered_told}
 use Rattle.tso_replay.specs.Told.{TellsAt}
+use Rattle.tso_replay.proofs.Told.{shared-none}
 use Rattle.told_plays.specs.Plays.{IsGiven, telling}
 use Rattle.memory_left.proofs.Memory.{words_more}
 
@@ -41,10 +42,6 @@ going-by (Done stop) u e some = absurd (some (sym e))
 found-none : (g : Option ℕ) (words : List ℕ) → found_for (heeded g None) None words ≡ 0
 found-none None words = refl
 found-none (Some value) words = refl
-
-shared-none : (g : Option ℕ) → shared (heeded g None) None ≡ None
-shared-none None = refl
-shared-none (Some value) = refl
 
 -- what is told of the next instruction of core c plays, and leaves this of the core and of the words
 pub record Placed (given : Given) (p : Plan) (earlier : List Access) (s : Outcome) (e : Told) : Type 0 where

@@ -85,7 +85,7 @@ number_between-range least most n text h = by-cases (is_numeral text && nat_le l
     by-cases false is e = absurd (cc)
 
 -- the two parts of a chain that ends with something
-and_then-some : {A B : Type 0} (f : A → Option B) (o : Option A) (b : B) → option_and_then f o ≡ Some b → (a : A)
+pub and_then-some : {A B : Type 0} (f : A → Option B) (o : Option A) (b : B) → option_and_then f o ≡ Some b → (a : A)
     × (o ≡ Some a) × (f a ≡ Some b)
 and_then-some f (Some a) b h = (a, refl, h)
 and_then-some f None b h = absurd (cc)

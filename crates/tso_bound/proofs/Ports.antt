@@ -1,6 +1,6 @@
 -- What the lines of a port are worth before and after each act there, and what is owed on its links. By the line's
 -- state and whether the home has taken the request, on each side of an act.
-use Rattle.std.proofs.Common.{◌≡◌, ◌≢◌, ◌∙◌, ap, refl, ℕ, ◌+◌, ◌*◌, ◌≤◌, ◌%◌, Bool, true, false, List, [], ◌∷◌, ◌++◌}
+use Rattle.std.proofs.Common.{◌≡◌, ◌≢◌, ◌∙◌, ap, refl, ℕ, ◌+◌, ◌*◌, ◌≤◌, ◌%◌, Bool, true, false, List, [], ◌∷◌}
 use Rattle.std.proofs.Common.{length}
 use Rattle.std.proofs.Common.{Option, Some, None, arith}
 use Rattle.std.specs.Prelude.{slice_set, is_some}
@@ -9,6 +9,7 @@ use Rattle.std.proofs.lemmas.List.Sums.{sum_by-set}
 use Rattle.access_times.specs.Riding.{Riding, Carrying}
 use Rattle.rtr_types.specs.declared.access.Kind.{Kind}
 use Rattle.link_order.specs.Queue.{is_nil}
+use Rattle.link_order.proofs.Queues.{more_nil}
 use Rattle.msi_cache.specs.declared.line.Line.{Line}
 use Rattle.msi_cache.specs.declared.line.State.{State as LineState}
 use Rattle.rtr_types.specs.declared.TheConstants.{LINES}
@@ -27,6 +28,7 @@ use Rattle.msi_laws.proofs.Lines.{SameLines, waits_none, waits_some}
 use Rattle.machine_bound.specs.Bound.{debt, debts, owed, line_base}
 use Rattle.machine_bound.proofs.Owed.{answers, owed_answering}
 use Rattle.machine_bound.proofs.Requests.{AskedLine}
+use Rattle.machine_bound.proofs.PortEarns.{data_debt, data_silent}
 use Rattle.tso_bound.specs.Bound.{empty_worth, line_worth, lines_worth, port_worth}
 use Rattle.tso_bound.proofs.Sums.{sum_at_most, sum_at_most_but, sums_agree, sums_agree_but, sums_same}
 
@@ -58,17 +60,6 @@ message_worth : {R : Type 0} (riding : Riding R) (l : Line R) (m : FromHome R) (
     (line_after riding l m).state taken cores + debt m
 message_worth riding l m taken cores d e = grind (arith, nat_tests)
 
-data_debt : {R : Type 0} (m : FromHome R) → is_data m ≡ true → debt m ≡ 0
-data_debt m e = grind arith
-
-data_silent : {R : Type 0} (l : Line R) (m : FromHome R) → is_data m ≡ true →
-    answers (answer_by (row (signal m) l.state) l) ≡ 0
-data_silent l m d = grind arith
-
-not_nil : {X : Type 0} (xs : List X) (x : X) → is_nil (xs ++ x ∷ []) ≡ false
-not_nil [] x = refl
-not_nil (y ∷ ys) x = refl
-
 -- what a line is worth
 abbrev worth_of : {R : Type 0} → (taken : Bool) (cores : ℕ) → Line R → ℕ
 worth_of taken cores l = line_worth l.state taken cores
@@ -90,7 +81,7 @@ module _ {R K : Type 0} where
       let rises = asks_worth l block kind cores (waits_none p.cache riding.fresh still (block % LINES)) needs in
       let sent : port_worth cores (port_asking riding p block kind) ≡ lines_worth false cores
       (slice_set p.cache (block % LINES) (line_asking l block kind)) =
-      rw (not_nil p.requests.items _) refl in
+      rw (more_nil p.requests.items _) refl in
       omega arith
 
   -- ---- the port is touched

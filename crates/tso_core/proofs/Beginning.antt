@@ -6,6 +6,7 @@ use Rattle.std.specs.Prelude.{map, not}
 use Rattle.std.specs.List.{range_with_len}
 use Rattle.std.proofs.lemmas.List.{get_or-map, get_or_past, length-map}
 use Rattle.std.proofs.lemmas.List.FromFn.{get_or-map-range_with_len, length-map-range_with_len}
+use Rattle.std.proofs.lemmas.Bool.{cases_lt}
 use Rattle.access_times.specs.Riding.{Riding, Carrying}
 use Rattle.image_mem.specs.Contents.{Contents}
 use Rattle.rtr_types.specs.declared.TheConstants.{BLOCK_WORDS, CORES_MAX}
@@ -35,7 +36,7 @@ use Rattle.tso_core.specs.declared.marks.Marks.{Marks}
 use Rattle.tso_core.specs.declared.standing.Standing.{Standing}
 use Rattle.tso_core.specs.Machineries.{Machinery}
 use Rattle.tso_core.specs.Standings.{NotesFit, may_begin, standing_with}
-use Rattle.move_marks.proofs.Delivered.{below_is, past_is, split}
+use Rattle.move_marks.proofs.Delivered.{below_is, past_is}
 use Rattle.tso_core.proofs.Standings.{standings_long}
 
 or_true : (a w : Bool) → w ≡ false → (a || not w) ≡ true
@@ -82,7 +83,7 @@ module _ {R K : Type 0} where
     begins : (d : ℕ) → may_begin (map (λ (t : BufferedCore). standing_with image t.core) cores_first) d
         ≡ enabled riding carrying first (CoreMove d)
     unfolding cores_first first
-    begins d = by (split d cores)
+    begins d = by (cases_lt d cores)
       where
         kept : BufferedCore → Standing
         kept = λ (t : BufferedCore). standing_with image t.core
@@ -124,7 +125,7 @@ module _ {R K : Type 0} where
     -- nothing is pending
     nothing_orders : (d : ℕ) → enabled riding carrying first (OrderMove d) ≡ false
     unfolding cores_first first
-    nothing_orders d = by (split d cores)
+    nothing_orders d = by (cases_lt d cores)
       where
         p : Port R K
         p = port_at carrying (replicate cores (port_start riding carrying)) d

@@ -4,6 +4,7 @@ use Rattle.std.proofs.Common.{◌⊎◌, inl, inr, ◌≡◌, ◌∙◌, refl, s
 use Rattle.std.proofs.Common.{◌∷◌, ◌++◌, arith, get_or, length}
 use Rattle.std.proofs.lemmas.List.{get_or_read}
 use Rattle.std.proofs.lemmas.List.FromFn.{map-range_with_len_more}
+use Rattle.std.proofs.lemmas.Bool.{cases_lt}
 use Rattle.access_times.specs.Riding.{Riding, Carrying}
 use Rattle.rtr_types.specs.declared.access.Access.{Access}
 use Rattle.rtr_types.specs.declared.instr.Instr.{Instr}
@@ -17,7 +18,6 @@ use Rattle.msi_state.specs.Steps.{acts_of}
 use Rattle.tso_state.specs.States.{BufferedCore, State, buffered_start, core_at}
 use Rattle.tso_core.specs.Machineries.{Machinery}
 use Rattle.tso_core.specs.Workings.{HasTold, locals_of}
-use Rattle.move_marks.proofs.Delivered.{split}
 
 abbrev pub instr : (core count : ℕ) → Instr
 instr core count = record { core = core; count = count }
@@ -40,7 +40,7 @@ locals_first core last until within =
 -- where as many were told as are to be
 told_many : (count last until : ℕ) → until ≤ last → (count ≤ until → last ≤ until) →
     (until ≤ count → last ≡ count) → last - count ≡ until - count
-told_many count last until past within few = by (split count until)
+told_many count last until past within few = by (cases_lt count until)
   where
     by : (count < until) ⊎ (until ≤ count) → last - count ≡ until - count
     by (inl more) = let end = within (omega arith) in omega arith

@@ -4,7 +4,7 @@
 use Rattle.std.proofs.Common.{◌≡◌, ◌∙◌, refl, sym, ap, ℕ, ◌+◌, ◌<◌, ◌/◌, ◌==◌, Bool, true, false, not, ◌&&◌, ◌||◌, List}
 use Rattle.std.proofs.Common.{[], ◌∷◌, length, Option, IsTrue, arith}
 use Rattle.std.specs.Prelude.{if◌then◌else◌}
-use Rattle.std.proofs.lemmas.Bool.{and_parts}
+use Rattle.std.proofs.lemmas.Bool.{and_parts, not-true}
 use Rattle.access_times.specs.Riding.{Riding, Carrying}
 use Rattle.rtr_types.proofs.Truths.{both_true}
 use Rattle.rtr_types.specs.declared.TheConstants.{BLOCK_WORDS}
@@ -39,15 +39,7 @@ use Rattle.tso_state.specs.Steps.{can_order, case_holds, enabled, has_room, is_f
 use Rattle.tso_invariant.specs.Holds.{TsoHolds, wish_by}
 use Rattle.tso_invariant.specs.Rests.{HasRoomFor, has_row_for, is_quiet}
 use Rattle.tso_invariant.proofs.Kept.{core_can, core_port, enabled_core, order_can}
-
-denied_still : (a w : Bool) → (a || not w) ≡ true → a ≡ false → w ≡ false
-denied_still true w e f = absurd (cc)
-denied_still false true e f = absurd (cc)
-denied_still false false e f = refl
-
-is_not : (t : Bool) → not t ≡ true → t ≡ false
-is_not true e = absurd (cc)
-is_not false e = refl
+use Rattle.tso_invariant.proofs.Turns.{refused_still}
 
 module _ {R K : Type 0} where
   -- a load that its port allows executes
@@ -75,9 +67,9 @@ module _ {R K : Type 0} where
           is_quiet (if b then event_loading image riding t p word else Nothing) ≡ true → waits p.cache ≡ false
       by_allowed true f q = absurd (let loud = loading_loud image riding t p word in cc (sym q ∙ loud))
       by_allowed false f q =
-          denied_still (allows riding p (word / BLOCK_WORDS) Loading) (waits p.cache)
+          refused_still (allows riding p (word / BLOCK_WORDS) Loading) (waits p.cache)
           (and_parts (has_room t.queue) (allows riding p (word / BLOCK_WORDS) Loading || not (waits p.cache)) e).1 f
-  executing_still (Amo word) fence image riding t p e quiet = is_not (waits p.cache)
+  executing_still (Amo word) fence image riding t p e quiet = not-true (waits p.cache)
       (and_parts (is_nil t.queue) (not (waits p.cache)) e).1
   executing_still (Done stop) fence image riding t p e quiet = absurd (cc)
 
@@ -109,7 +101,7 @@ module _ {R K : Type 0} where
         after = left_by (PendingStore count word mask bits) (word_at riding p word);
       }) else Nothing) ≡ true → waits p.cache ≡ false
       by_allowed true f q = absurd (cc)
-      by_allowed false f q = denied_still (allows riding p (word / BLOCK_WORDS) Storing) (waits p.cache) e f
+      by_allowed false f q = refused_still (allows riding p (word / BLOCK_WORDS) Storing) (waits p.cache) e f
 
   -- a port that doesn't wait has room for a request
   room_there : (riding : Riding R) (carrying : Carrying K) (s : State R K) (c : ℕ) → TsoHolds riding carrying s →

@@ -7,7 +7,7 @@ use Rattle.std.proofs.Common.{nat_lt, ◌&&◌, List, [], ◌∷◌, length}
 use Rattle.std.proofs.Common.{Option, Some, IsTrue}
 use Rattle.std.specs.Prelude.{map}
 use Rattle.std.specs.List.{list_all, range_with_len}
-use Rattle.std.proofs.lemmas.Bool.{and_parts, lt-ltb}
+use Rattle.std.proofs.lemmas.Bool.{and_parts, lt-ltb, not-true}
 use Rattle.access_times.specs.Riding.{Riding, Carrying}
 use Rattle.image_mem.specs.Contents.{Contents}
 use Rattle.rtr_types.specs.declared.TheConstants.{BLOCK_WORDS}
@@ -130,10 +130,6 @@ pub record Turned {R K : Type 0} (image : Contents) (riding : Riding R) (carryin
   pub apart : (d : ℕ) → (d == c) ≡ false → list_all (λ act. not (may_change act d)) todo ≡ true
   pub holds : BufferedHolds image riding c t (port_at carrying (after_acts riding carrying m todo).ports c)
 
-not_false : (t : Bool) → not t ≡ true → t ≡ false
-not_false true e = absurd (cc)
-not_false false e = refl
-
 module _ {R K : Type 0} where
   -- an act that may not change the port's wait leaves its core well
   pub well_kept : (image : Contents) (riding : Riding R) (carrying : Carrying K) (m : Memory R K) (act : Act R) (d : ℕ)
@@ -163,7 +159,7 @@ module _ {R K : Type 0} where
       (λ x act can_it other held at. record {
         there = subst (λ (n : ℕ). d < n) (sym (length_act riding carrying x act)) at.there;
         holds = well_kept image riding carrying x act d t held can_it
-            (not_false (may_change act d) other) at.there at.holds;
+            (not-true (may_change act d) other) at.there at.holds;
       }) m todo can_them apart holds (record { there = within; holds = h })).holds
 
   -- what is told leaves a core well that was

@@ -5,7 +5,7 @@ use Rattle.std.proofs.Common.{◌≡◌, ◌∙◌, ap, refl, sym, subst, ℕ, �
 use Rattle.std.proofs.Common.{◌||◌, List, [], ◌∷◌, ◌++◌, length}
 use Rattle.std.proofs.Common.{Option, Some, arith}
 use Rattle.std.specs.Prelude.{drop, if◌then◌else◌}
-use Rattle.std.proofs.lemmas.Bool.{and_parts}
+use Rattle.std.proofs.lemmas.Bool.{and_parts, not-true}
 use Rattle.access_times.specs.Riding.{Riding, Carrying}
 use Rattle.image_mem.specs.Contents.{Contents}
 use Rattle.link_order.specs.Queue.{is_nil}
@@ -60,13 +60,9 @@ left image t e asker = record { core = core_after image t.core e; queue = queue_
 block_within : (words word : ℕ) → word < words → word / BLOCK_WORDS < block_count words
 block_within words word lt = omega arith
 
-is_not : (t : Bool) → not t ≡ true → t ≡ false
-is_not true e = absurd (cc)
-is_not false e = refl
-
-refused_still : (a w : Bool) → (a || not w) ≡ true → a ≡ false → w ≡ false
+pub refused_still : (a w : Bool) → (a || not w) ≡ true → a ≡ false → w ≡ false
 refused_still true w e f = absurd (cc)
-refused_still false w e f = is_not w e
+refused_still false w e f = not-true w e
 
 nil_is : (queue : List Pending) → is_nil queue ≡ true → queue ≡ []
 nil_is [] e = refl
@@ -191,68 +187,73 @@ module _ {R K : Type 0} where
           (pushed_holds image riding c t p (value_of x) x more older room refl
           (within_law image t.core Loading word (ap need_access is)) h.well)
 
-  core_turn_by : (image : Contents) (riding : Riding R) (carrying : Carrying K) (rider : R) (m : Memory R K) (c : ℕ)
-      (t : BufferedCore) (needed : Need)
-      (fence : Bool) → CanTurn image riding carrying m c t → is_next t.asker ≡ false → need image t.core ≡ needed →
-      case_holds needed fence riding t.queue (port_at carrying m.ports c) ≡ true →
-      CoreTurn image riding carrying rider m c t needed
-      (event_executing needed image riding t (port_at carrying m.ports c))
-  core_turn_by image riding carrying rider m c t Local fence h older is e =
-      told_turn image riding carrying rider m c (tellings t (Executes (next_instr t.core)))
-      (left image t (Executes (next_instr t.core)) t.asker) h.holds h.there
-      (by_nil (is_nil t.queue))
-      (executed_holds image riding c t (port_at carrying m.ports c) 0 (ap is_done is) older h.well)
+  core_turn_by : (image : Contents) (riding : Riding R) (carrying : Carrying K) (rider : R) (memory : Memory R K)
+      (c : ℕ)
+      (core : BufferedCore) (needed : Need)
+      (fence : Bool) → CanTurn image riding carrying memory c core → is_next core.asker ≡ false →
+      need image core.core ≡ needed →
+      case_holds needed fence riding core.queue (port_at carrying memory.ports c) ≡ true →
+      CoreTurn image riding carrying rider memory c core needed
+      (event_executing needed image riding core (port_at carrying memory.ports c))
+  core_turn_by image riding carrying rider memory c core Local fence turns older is held =
+      told_turn image riding carrying rider memory c (tellings core (Executes (next_instr core.core)))
+      (left image core (Executes (next_instr core.core)) core.asker) turns.holds turns.there
+      (by_nil (is_nil core.queue))
+      (executed_holds image riding c core (port_at carrying memory.ports c) 0 (ap is_done is) older turns.well)
     where
       by_nil : (b : Bool) →
-          tellable riding (port_at carrying m.ports c) (if b then Alone (next_instr t.core) ∷ [] else []) ≡ true
+          tellable riding (port_at carrying memory.ports c) (if b then Alone (next_instr core.core) ∷ [] else []) ≡ true
       by_nil true = refl
       by_nil false = refl
-  core_turn_by image riding carrying rider m c t (Store word whole) fence h older is e =
-      told_turn image riding carrying rider m c []
-      (left image t (Buffers (next_instr t.core) (pending_store image t.core word)) t.asker) h.holds h.there refl
-      (pushed_holds image riding c t (port_at carrying m.ports c) 0 (pending_store image t.core word)
-      (ap is_done is) older e refl
-      (within_law image t.core Storing word (ap need_access is)) h.well)
-  core_turn_by image riding carrying rider m c t (Load word) fence h older is e =
+  core_turn_by image riding carrying rider memory c core (Store word whole) fence turns older is held =
+      told_turn image riding carrying rider memory c []
+      (left image core (Buffers (next_instr core.core) (pending_store image core.core word)) core.asker) turns.holds
+      turns.there refl
+      (pushed_holds image riding c core (port_at carrying memory.ports c) 0 (pending_store image core.core word)
+      (ap is_done is) older held refl
+      (within_law image core.core Storing word (ap need_access is)) turns.well)
+  core_turn_by image riding carrying rider memory c core (Load word) fence turns older is held =
       by_allowed (allows riding p (word / BLOCK_WORDS) Loading) refl
     where
       p : Port R K
-      p = port_at carrying m.ports c
+      p = port_at carrying memory.ports c
 
-      parts : (has_room t.queue ≡ true) × ((allows riding p (word / BLOCK_WORDS) Loading || not (waits p.cache)) ≡ true)
-      parts = and_parts (has_room t.queue) (allows riding p (word / BLOCK_WORDS) Loading || not (waits p.cache)) e
+      parts : (has_room core.queue ≡ true)
+          × ((allows riding p (word / BLOCK_WORDS) Loading || not (waits p.cache)) ≡ true)
+      parts = and_parts (has_room core.queue) (allows riding p (word / BLOCK_WORDS) Loading || not (waits p.cache)) held
 
       by_allowed : (b : Bool) → allows riding p (word / BLOCK_WORDS) Loading ≡ b →
-          CoreTurn image riding carrying rider m c t (Load word)
-          (if b then event_loading image riding t p word else Nothing)
-      by_allowed true f = loading_turn image riding carrying rider m c t word h older is parts.0 f
+          CoreTurn image riding carrying rider memory c core (Load word)
+          (if b then event_loading image riding core p word else Nothing)
+      by_allowed true f = loading_turn image riding carrying rider memory c core word turns older is parts.0 f
       by_allowed false f =
-          next_asks image riding carrying m c t Loading word h (ap need_access is)
-          (ap (λ (n : Need). next_may_ask n t.queue) is ∙ parts.0)
+          next_asks image riding carrying memory c core Loading word turns (ap need_access is)
+          (ap (λ (n : Need). next_may_ask n core.queue) is ∙ parts.0)
           (refused_still (allows riding p (word / BLOCK_WORDS) Loading) (waits p.cache) parts.1 f) f
-  core_turn_by image riding carrying rider m c t (Amo word) fence h older is e =
+  core_turn_by image riding carrying rider memory c core (Amo word) fence turns older is held =
       by_allowed (allows riding p (word / BLOCK_WORDS) Exchanging) refl
     where
       p : Port R K
-      p = port_at carrying m.ports c
+      p = port_at carrying memory.ports c
 
       a : Access
-      a = access_of image riding t.core p word Exchanging
+      a = access_of image riding core.core p word Exchanging
 
-      parts : (is_nil t.queue ≡ true) × (not (waits p.cache) ≡ true)
-      parts = and_parts (is_nil t.queue) (not (waits p.cache)) e
+      parts : (is_nil core.queue ≡ true) × (not (waits p.cache) ≡ true)
+      parts = and_parts (is_nil core.queue) (not (waits p.cache)) held
 
       by_allowed : (b : Bool) → allows riding p (word / BLOCK_WORDS) Exchanging ≡ b →
-          CoreTurn image riding carrying rider m c t (Amo word) (if b then Performs a else Nothing)
+          CoreTurn image riding carrying rider memory c core (Amo word) (if b then Performs a else Nothing)
       by_allowed true f =
-          told_turn image riding carrying rider m c (Ordered a ∷ []) (left image t (Performs a) t.asker) h.holds h.there
+          told_turn image riding carrying rider memory c (Ordered a ∷ [])
+          (left image core (Performs a) core.asker) turns.holds turns.there
           (first_tellable riding p (Ordered a) [] f refl)
-          (executed_holds image riding c t p a.before (ap is_done is) older h.well)
+          (executed_holds image riding c core p a.before (ap is_done is) older turns.well)
       by_allowed false f =
-          next_asks image riding carrying m c t Exchanging word h (ap need_access is)
-          (ap (λ (n : Need). next_may_ask n t.queue) is ∙ parts.0)
-          (is_not (waits p.cache) parts.1) f
-  core_turn_by image riding carrying rider m c t (Done stop) fence h older is e = absurd (cc)
+          next_asks image riding carrying memory c core Exchanging word turns (ap need_access is)
+          (ap (λ (n : Need). next_may_ask n core.queue) is ∙ parts.0)
+          (not-true (waits p.cache) parts.1) f
+  core_turn_by image riding carrying rider memory c core (Done stop) fence turns older is held = absurd (cc)
 
   pub core_turn : (image : Contents) (riding : Riding R) (carrying : Carrying K) (rider : R) (m : Memory R K) (c : ℕ)
       (t : BufferedCore) →
@@ -266,7 +267,7 @@ module _ {R K : Type 0} where
       (case_holds (need image t.core) (is_fence image t.core) riding t.queue (port_at carrying m.ports c)) e in
       core_turn_by image riding carrying rider m c t (need image t.core) (is_fence image t.core)
       (record { holds = holds; there = there; blocks = blocks; well = well })
-      (is_not (is_next t.asker) parts.0) refl parts.1
+      (not-true (is_next t.asker) parts.0) refl parts.1
 
   -- ---- the oldest pending access
 
@@ -305,69 +306,74 @@ module _ {R K : Type 0} where
       (locals_alone t.core a.at.count (drop 1 t.queue)))
       (popped_holds image riding c t (port_at carrying m.ports c) x rest is other h.well)
 
-  order_turn_by : (image : Contents) (riding : Riding R) (carrying : Carrying K) (rider : R) (m : Memory R K) (c : ℕ)
-      (t : BufferedCore) (queue : List Pending) →
-      CanTurn image riding carrying m c t → t.queue ≡ queue →
-      can_order queue riding (port_at carrying m.ports c) ≡ true →
-      OrderTurn image riding carrying rider m c t queue
-      (event_ordering queue riding t.core.id (port_at carrying m.ports c))
-  order_turn_by image riding carrying rider m c t [] h is e = absurd (cc)
-  order_turn_by image riding carrying rider m c t (PendingLoad count word value ∷ rest) h is e =
+  order_turn_by : (image : Contents) (riding : Riding R) (carrying : Carrying K) (rider : R) (memory : Memory R K)
+      (c : ℕ)
+      (core : BufferedCore) (queue : List Pending) →
+      CanTurn image riding carrying memory c core → core.queue ≡ queue →
+      can_order queue riding (port_at carrying memory.ports c) ≡ true →
+      OrderTurn image riding carrying rider memory c core queue
+      (event_ordering queue riding core.core.id (port_at carrying memory.ports c))
+  order_turn_by image riding carrying rider memory c core [] turns is held = absurd (cc)
+  order_turn_by image riding carrying rider memory c core (PendingLoad count word value ∷ rest) turns is held =
       by_test (allows riding p (word / BLOCK_WORDS) Loading) refl (word_at riding p word == value)
     where
       p : Port R K
-      p = port_at carrying m.ports c
+      p = port_at carrying memory.ports c
 
       at : Instr
-      at = record { core = t.core.id; count = count }
+      at = record { core = core.core.id; count = count }
 
       a : Access
       a = record { at = at; word = word; kind = Loading; before = word_at riding p word; after = word_at riding p word }
 
-      other : is_head t.asker ≡ false
-      other = load_asks_not t.asker (need image t.core) count word value rest (ap (may_ask t.asker (need image t.core))
-          (sym is) ∙ h.well.fits.asks)
+      other : is_head core.asker ≡ false
+      other = load_asks_not core.asker (need image core.core) count word value rest
+          (ap (may_ask core.asker (need image core.core))
+          (sym is) ∙ turns.well.fits.asks)
 
-      logs : Turned image riding carrying m c (acts_told c rider (tellings t (Logs at word value)))
-          (left image t (Logs at word value) t.asker)
+      logs : Turned image riding carrying memory c (acts_told c rider (tellings core (Logs at word value)))
+          (left image core (Logs at word value) core.asker)
       logs =
-          told_turn image riding carrying rider m c (tellings t (Logs at word value))
-          (left image t (Logs at word value) t.asker) h.holds h.there
-          (first_tellable riding p (Logged at word value) (locals_behind t.core count (drop 1 t.queue)) refl
-          (locals_alone t.core count (drop 1 t.queue)))
-          (popped_holds image riding c t p (PendingLoad count word value) rest is other h.well)
+          told_turn image riding carrying rider memory c (tellings core (Logs at word value))
+          (left image core (Logs at word value) core.asker) turns.holds turns.there
+          (first_tellable riding p (Logged at word value) (locals_behind core.core count (drop 1 core.queue)) refl
+          (locals_alone core.core count (drop 1 core.queue)))
+          (popped_holds image riding c core p (PendingLoad count word value) rest is other turns.well)
 
       by_test : (b : Bool) → allows riding p (word / BLOCK_WORDS) Loading ≡ b → (same : Bool) →
-          OrderTurn image riding carrying rider m c t (PendingLoad count word value ∷ rest)
+          OrderTurn image riding carrying rider memory c core (PendingLoad count word value ∷ rest)
           (if b && same then Drains a else Logs at word value)
-      by_test true f true = drained_turn image riding carrying rider m c t
-          (PendingLoad count word value) rest a h is other f
+      by_test true f true = drained_turn image riding carrying rider memory c core
+          (PendingLoad count word value) rest a turns is other f
       by_test true f false = logs
       by_test false f same = logs
-  order_turn_by image riding carrying rider m c t (PendingStore count word mask bits ∷ rest) h is e =
+  order_turn_by image riding carrying rider memory c core (PendingStore count word mask bits ∷ rest) turns is held =
       by_allowed (allows riding p (word / BLOCK_WORDS) Storing) refl
     where
       p : Port R K
-      p = port_at carrying m.ports c
+      p = port_at carrying memory.ports c
 
       a : Access
-      a = stored t.core.id count word mask bits (word_at riding p word)
+      a = stored core.core.id count word mask bits (word_at riding p word)
 
       by_allowed : (b : Bool) → allows riding p (word / BLOCK_WORDS) Storing ≡ b →
-          OrderTurn image riding carrying rider m c t (PendingStore count word mask bits ∷ rest)
+          OrderTurn image riding carrying rider memory c core (PendingStore count word mask bits ∷ rest)
           (if b then Drains a else Nothing)
       by_allowed true f =
-          drained_turn image riding carrying rider m c t (PendingStore count word mask bits) rest a h is
-          (allowed_not_asked image riding (length m.home) c t p Storing word (h.holds.ports c h.there) h.well
+          drained_turn image riding carrying rider memory c core (PendingStore count word mask bits) rest a turns is
+          (allowed_not_asked image riding (length memory.home) c core p Storing word
+          (turns.holds.ports c turns.there) turns.well
           (ap head_access is) f) f
       by_allowed false f =
-          asking_turn image riding carrying m c Storing word (record { core = t.core; queue = t.queue; asker = Head })
-          h.holds h.there
-          (rw h.blocks (block_within image.words word
-          (head_within image.words t.core.count (PendingStore count word mask bits) rest
-          (subst (λ (q : List Pending). QueueHolds image.words t.core.count q) is h.well.fits.queue))))
-          (refused_still (allows riding p (word / BLOCK_WORDS) Storing) (waits p.cache) e f) f
-          (fits_asking image c t Head h.well.fits (ap (may_ask Head (need image t.core)) is)) (ap head_access is) refl
+          asking_turn image riding carrying memory c Storing word
+          (record { core = core.core; queue = core.queue; asker = Head })
+          turns.holds turns.there
+          (rw turns.blocks (block_within image.words word
+          (head_within image.words core.core.count (PendingStore count word mask bits) rest
+          (subst (λ (q : List Pending). QueueHolds image.words core.core.count q) is turns.well.fits.queue))))
+          (refused_still (allows riding p (word / BLOCK_WORDS) Storing) (waits p.cache) held f) f
+          (fits_asking image c core Head turns.well.fits (ap (may_ask Head (need image core.core)) is))
+          (ap head_access is) refl
 
   pub order_turn : (image : Contents) (riding : Riding R) (carrying : Carrying K) (rider : R) (m : Memory R K) (c : ℕ)
       (t : BufferedCore) →

@@ -1,5 +1,5 @@
 -- What is told in a step: it is of one of the cores, and only the first may be an access or a logged load.
-use Rattle.std.proofs.Common.{◌≡◌, ◌∙◌, ap, subst, sym, ℕ, suc, ◌+◌, List, [], ◌∷◌, ◌++◌, Some}
+use Rattle.std.proofs.Common.{◌≡◌, ◌∙◌, ap, subst, sym, ℕ, suc, List, [], ◌∷◌, Some}
 use Rattle.std.proofs.Common.{Option, arith}
 use Rattle.image_mem.specs.Contents.{Contents}
 use Rattle.rtr_types.specs.Parameters.{Fits}
@@ -14,7 +14,7 @@ use Rattle.tso_state.specs.Runs.{all_told, chosen, plain_told, run, told_by}
 use Rattle.tso_state.specs.States.{BufferedCore, PlainState}
 use Rattle.tso_told.specs.Played.{AreInside}
 use Rattle.tso_told.proofs.Told.{told_inside}
-use Rattle.tso_told.proofs.Tellings.{behind_have, each_telling}
+use Rattle.tso_told.proofs.Tellings.{behind_have, each_telling, inside_last}
 use Rattle.tso_outcome.specs.Outcomes.{RunsAt}
 
 -- each touches no data
@@ -34,10 +34,6 @@ are_alone = behind_have AreAlone tt (λ at list h. h)
 
 pub alone_behind : (t : BufferedCore) (e : Event) → AloneBehind (tellings t e)
 alone_behind = each_telling AloneBehind tt (λ x. tt) (λ x core count queue. are_alone core count queue)
-
-inside_last : (n : ℕ) (xs ys : List Told) → AreInside n (xs ++ ys) → AreInside n ys
-inside_last n [] ys h = h
-inside_last n (x ∷ xs) ys h = inside_last n xs ys h.1
 
 -- what the next choice of a run tells is of the run's cores
 pub inside_next : (image : Contents) (params : Params) (schedule : Choices) (t : ℕ) (s : PlainState) (rest : Choices)

@@ -8,18 +8,13 @@ use Rattle.roomy_lists.specs.Lists.{with_item}
 use Rattle.tso_state.specs.Events.{Told, Alone, Ordered, Logged, instr_told}
 use Rattle.tso_told.specs.Played.{read_told, reads_told, told_of}
 use Rattle.tso_told.proofs.InOrder.{first_else, first_own}
+use Rattle.tso_told.proofs.Noted.{reads-append}
 use Rattle.tso_outcome.specs.Loads.{loads_after, loads_told}
 use Rattle.tso_outcome.proofs.ByCore.{by_core, item_more, same_lists}
 
 -- what a core's loads read, of those that were told
 abbrev pub core_loads : List Told → (core : ℕ) → List LoadNote
 core_loads list core = reads_told (told_of core list)
-
-reads-append : (xs ys : List Told) → reads_told (xs ++ ys) ≡ reads_told xs ++ reads_told ys
-reads-append [] ys = refl
-reads-append (e ∷ xs) ys =
-    ap (λ (notes : List LoadNote). read_told e ++ notes) (reads-append xs ys)
-    ∙ sym (append_assoc (read_told e) (reads_told xs) (reads_told ys))
 
 core_append : (xs ys : List Told) (core : ℕ) → core_loads (xs ++ ys) core ≡ core_loads xs core ++ core_loads ys core
 core_append xs ys core =

@@ -3,7 +3,6 @@
 use Rattle.std.proofs.Common.{◌≡◌, ◌∙◌, ap, refl, sym, ℕ, ◌+◌, ◌*◌, ◌/◌, ◌%◌, ◌==◌, Bool, not, nat_lt}
 use Rattle.std.proofs.Common.{◌&&◌, ◌||◌, List, [], ◌∷◌, length}
 use Rattle.std.specs.Prelude.{if◌then◌else◌, slice_index}
-use Rattle.std.specs.List.{filter}
 use Rattle.access_times.specs.Riding.{Riding, Carrying, none_riding, none_carrying}
 use Rattle.image_mem.specs.Contents.{Contents}
 use Rattle.link_order.specs.Queue.{is_nil}
@@ -11,6 +10,7 @@ use Rattle.rtr_types.specs.declared.TheConstants.{BLOCK_WORDS}
 use Rattle.rtr_types.specs.declared.access.Access.{Access}
 use Rattle.rtr_types.specs.declared.access.Kind.TheVariants.{Load as Loading, Store as Storing, Amo as Exchanging}
 use Rattle.rtr_types.specs.declared.instr.Instr.{Instr}
+use Rattle.rtr_types.proofs.Lists.{filter_same}
 use Rattle.rv_core.specs.declared.core_state.Need.{Need}
 use Rattle.rv_core.specs.declared.core_state.Need.TheVariants.{Local, Load, Store, Amo, Done}
 use Rattle.rv_core.specs.Steps.{need}
@@ -40,10 +40,6 @@ use Rattle.tso_state.specs.Events.{Event, Nothing, Buffers, Performs, Drains, Lo
 use Rattle.tso_state.specs.Events.{event_ordering, event_receiving}
 use Rattle.tso_state.specs.Steps.{can_order, case_holds, enabled, event, has_room, is_fence, is_next, moves}
 use Rattle.tso_plain.specs.Plain.{plain}
-
-filter_same : {X : Type 0} (f g : X → Bool) → ((x : X) → f x ≡ g x) → (xs : List X) → filter f xs ≡ filter g xs
-filter_same f g same [] = refl
-filter_same f g same (x ∷ xs) = rw (same x, filter_same f g same xs)
 
 -- a load, by whether its port allows it, the access that it makes at once, and the word that it finds
 abbrev loading_by : BufferedCore → (word : ℕ) → Bool → Access → ℕ → Event

@@ -10,10 +10,10 @@ use Rattle.image_mem.specs.Contents.{Contents}
 use Rattle.rtr_types.specs.declared.access.Access.{Access}
 use Rattle.rtr_types.specs.declared.params.Params.{Params}
 use Rattle.rtr_types.specs.declared.pairs.Which.TheVariants.{Reduced as ReducedLog}
-use Rattle.rv_core.specs.declared.core_state.Core.{Core}
 use Rattle.rv_core.specs.declared.outcome.LoadNote.{LoadNote}
 use Rattle.rv_core.specs.declared.outcome.Outcome.{Outcome}
 use Rattle.rv_core.specs.States.{starting}
+use Rattle.rv_core.proofs.Outcomes.{outcome_eq}
 use Rattle.conflict_edge.specs.Least.{IsLeast}
 use Rattle.race_log.specs.Sources.{log_edges}
 use Rattle.machine_data.specs.LastValues.{EachFindsLast, memory_left}
@@ -47,14 +47,6 @@ use Rattle.tso_recordings.specs.Recordings.{CanRun, RunReplaysLaw, RunToldLaw, t
 use Rattle.tso_recordings.proofs.Tellings.{accesses_are, are_given, cores_are, notes_are}
 use Rattle.tso_recordings.proofs.Totals.{all_totals, total_told}
 use Rattle.tso_recordings.proofs.Valid.{recorded_here, run_order, run_told, run_values, valid_here}
-
-abbrev made : List Core → List ℕ → List (List LoadNote) → Outcome
-made cores words loads = record { cores = cores; words = words; loads = loads }
-
-outcome_eq : (a b : Outcome) → a.cores ≡ b.cores → a.words ≡ b.words → a.loads ≡ b.loads → a ≡ b
-outcome_eq a b cores words loads =
-    ap (λ (x : List Core). made x a.words a.loads) cores ∙ ap (λ (x : List ℕ). made b.cores x a.loads) words
-    ∙ ap (λ (x : List (List LoadNote)). made b.cores b.words x) loads
 
 module _ (image : Contents) (params : Params) (choices : ℕ → ℕ) (t : ℕ) (can : CanRun image params)
     (done : all_done (run image params choices t) ≡ true) where

@@ -1,7 +1,5 @@
 -- The reduction is told of one instruction more.
-use Rattle.std.proofs.Common.{◌≡◌, sym, List, [], ◌∷◌, ◌++◌}
-use Rattle.std.specs.Prelude.{reverse}
-use Rattle.std.proofs.lemmas.List.{reverse-append}
+use Rattle.std.proofs.Common.{List}
 use Rattle.exact_reduction.specs.Reducing.{ReducesExactly}
 use Rattle.machine_times.specs.Retirements.{Retirement}
 use Rattle.online_reduce.proofs.Reductions.{count_law}
@@ -9,10 +7,6 @@ use Rattle.online_reduce.specs.Reduced.{IsNext, Reduced, counted}
 use Rattle.rtr_types.specs.declared.access.Access.{Access}
 use Rattle.rtr_types.specs.declared.instr.Edge.{Edge}
 use Rattle.rtr_types.specs.declared.instr.Instr.{Instr}
-
--- the list turned round, with one retirement more
-pub reversed_more : (list : List Retirement) (r : Retirement) → r ∷ reverse list ≡ reverse (list ++ r ∷ [])
-reversed_more list r = sym (reverse-append list (r ∷ []))
 
 -- an instruction that orders no access
 pub local_reduces : (list : List Retirement) (all : List Access) (r : Reduced) (edges : List Edge) (at : Instr) →

@@ -3,14 +3,13 @@
 -- have the times of the accesses that the reduction was told of, and the reduction stands for them; each is kept by one
 -- choice.
 use Rattle.std.proofs.Common.{◌≡◌, ◌∙◌, refl, sym, ap, subst, ℕ, zero, suc, ◌+◌, ◌*◌, ◌<◌, ◌≤◌, ◌==◌, ◌^◌, true, List}
-use Rattle.std.proofs.Common.{[], ◌∷◌, ◌++◌, append-nil, length, Option, Some, None, zero-add}
-use Rattle.std.specs.Prelude.{reverse, slice_index}
+use Rattle.std.proofs.Common.{[], ◌++◌, append-nil, length, Option, Some, None, zero-add}
+use Rattle.std.specs.Prelude.{reverse}
 use Rattle.std.proofs.lemmas.List.Elements.{filter-append, filter_passes}
 use Rattle.std.proofs.lemmas.List.{length-append}
 use Rattle.access_times.specs.Riding.{none_carrying}
 use Rattle.access_times.specs.Times.{times_riding}
 use Rattle.access_times.specs.declared.times.Times.{Times}
-use Rattle.clock_core.specs.declared.clock.Clock.{Clock}
 use Rattle.image_mem.specs.Contents.{Contents}
 use Rattle.rtr_types.specs.declared.TheConstants.{CORES_MAX}
 use Rattle.rtr_types.specs.declared.access.Access.{Access}
@@ -23,9 +22,9 @@ use Rattle.machine_times.specs.Retirements.{Retirement, noted_accesses}
 use Rattle.machine_times.specs.TimedSteps.{times_parts}
 use Rattle.msi_memory.specs.declared.port.Port.{Port}
 use Rattle.msi_state.specs.Events.{Event as ClerkEvent, Accesses}
-use Rattle.online_reduce.proofs.Reductions.{begin_law, least_law, no_count, none_counted}
+use Rattle.online_reduce.proofs.Reductions.{begin_law, least_law, none_before}
 use Rattle.online_reduce.specs.Exact.{AreExactFor}
-use Rattle.online_reduce.specs.Reduced.{count_of, unreduced}
+use Rattle.online_reduce.specs.Reduced.{count_of}
 use Rattle.tso_data.specs.Orders.{ordering_of}
 use Rattle.tso_invariant.specs.Holds.{TsoHolds}
 use Rattle.tso_invariant.proofs.Begins.{chosen_at, holds_start}
@@ -47,6 +46,7 @@ use Rattle.tso_told.specs.Played.{AreInside, told_of}
 use Rattle.tso_told.proofs.InOrder.{CountFrom, counts_behind, counts_from}
 use Rattle.tso_told.proofs.Sorted.{event_ordered}
 use Rattle.tso_told.proofs.Told.{told_inside, told_right}
+use Rattle.tso_told.proofs.Tellings.{inside_last}
 use Rattle.tso_records.specs.Records.{FoundTimesLaw, LeastEdgesLaw, NextToldLaw, ReductionLaw}
 use Rattle.exact_reduction.specs.Reducing.{ReducesExactly}
 use Rattle.tso_records.specs.Standings.{Standing, TimedState, clock_told, edges_told, found_by, found_in, moved_by}
@@ -66,9 +66,6 @@ record Stands (params : Params) (s : PlainState) (all : List Access) (list : Lis
   counts : (c : ℕ) → c < params.cores → count_of w.reduction c ≡ length (told_of c list)
 
 -- ---- the start
-
-none_before : (cores core : ℕ) → count_of (unreduced cores) core ≡ 0
-none_before cores core = ap (λ (c : Clock). slice_index c core) (no_count core) ∙ none_counted core
 
 stands_start : (image : Contents) (params : Params) → params.cores ≤ CORES_MAX → params.limit < 2 ^ 32 →
     Stands params (run image params (λ c. c) 0) [] [] (standing_start image params)
@@ -92,10 +89,6 @@ enabled_here s choice m is =
     m
     (filter_passes (enabled times_riding none_carrying s) (candidates (length s.cores) (5 * length s.cores)))
     (ap (λ (ms : List Move). chosen_of ms choice) (same_moves times_riding none_carrying s) ∙ is)
-
-inside_behind : (n : ℕ) (xs ys : List Told) → AreInside n (xs ++ ys) → AreInside n ys
-inside_behind n [] ys h = h
-inside_behind n (x ∷ xs) ys h = inside_behind n xs ys h.1
 
 module _ (params : Params) (s : PlainState) (all : List Access) (list : List Told) (w : Standing)
     (h : Stands params s all list w) where
@@ -131,7 +124,7 @@ module _ (params : Params) (s : PlainState) (all : List Access) (list : List Tol
       inside_more : AreInside w.reduction.cores more
       inside_more =
           subst (λ (n : ℕ). AreInside n more) (sym h.cores)
-          (subst (AreInside params.cores) (sym more_is) (inside_behind params.cores list (plain_told s m) inside))
+          (subst (AreInside params.cores) (sym more_is) (inside_last params.cores list (plain_told s m) inside))
 
       awaits : Awaits w.reduction more
       awaits c lt =

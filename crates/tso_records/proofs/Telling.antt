@@ -3,6 +3,7 @@
 use Rattle.std.proofs.Common.{◌≡◌, ◌∙◌, refl, sym, ap, subst, ℕ, ◌+◌, ◌<◌, Bool, true, false, List, [], ◌∷◌, ◌++◌}
 use Rattle.std.proofs.Common.{append-nil, length, Some, arith}
 use Rattle.std.specs.Prelude.{drop, reverse, if◌then◌else◌}
+use Rattle.std.proofs.lemmas.List.{reverse-append}
 use native.Mathlib.Decide.{ℕ_discrete}
 use Rattle.access_times.specs.Times.{times_noted, times_riding}
 use Rattle.access_times.specs.declared.times.Times.{Times}
@@ -30,7 +31,7 @@ use Rattle.tso_told.proofs.Sorted.{none_ordered}
 use Rattle.exact_reduction.specs.Reducing.{ReducesExactly}
 use Rattle.tso_records.specs.Standings.{AreNextOf, clock_told, edges_told, reduced_told, times_left}
 use Rattle.exact_reduction.proofs.Reducing.{Counted, access_counted, access_reduces, local_counted}
-use Rattle.tso_records.proofs.Reducing.{local_reduces, reversed_more}
+use Rattle.tso_records.proofs.Reducing.{local_reduces}
 
 -- ---- what the reduction awaits
 
@@ -221,7 +222,7 @@ told_after list all r edges found (Ordered a ∷ more) local exact inside awaits
     record {
       later = list ++ q ∷ [];
       next = (next, rest.next);
-      noted = ap noted_accesses (sym (reversed_more list q));
+      noted = ap noted_accesses (reverse-append list (q ∷ []));
       reduces = subst (λ (l : List Access). ReducesExactly (list ++ q ∷ []) l
           (reduced_told (retired r a found) found more)
           (edges ++ (edges_of r a found ++ edges_told (retired r a found) found more)))

@@ -15,7 +15,7 @@ use Rattle.tso_replay.specs.Told.{Telling, Locally, Ordered, Logged, told_at, co
 use Rattle.tso_replay.specs.Told.{IsNext, IsLocal, IsOrdered, IsLogged, TellsAt}
 use Rattle.tso_replay.specs.Told.{Tells, ToldPlaysLaw}
 
-shared-none : (g : Option ℕ) → shared (heeded g None) None ≡ None
+pub shared-none : (g : Option ℕ) → shared (heeded g None) None ≡ None
 shared-none None = refl
 shared-none (Some value) = refl
 

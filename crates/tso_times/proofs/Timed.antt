@@ -71,36 +71,37 @@ alone_touch c rider (Logged at word value ∷ later) e = alone_touch c rider lat
 module _ {R K : Type 0} where
   -- an ordered access, and behind it instructions that touch no data
   access_times : (parts : TimesParts R) (carrying : Carrying K) → AbsorbsAll parts →
-      (h : List NotedAccess) (m : Memory R K) (c : ℕ) (rider : R)
-      (clock : Clock) (a : Access) (later : List Told) → c < length m.ports → a.at.core ≡ c →
-      ((w : ℕ) → rank (last_noted_read h w c) < a.at.count) →
+      (history : List NotedAccess) (memory : Memory R K) (c : ℕ) (rider : R)
+      (clock : Clock) (a : Access) (later : List Told) → c < length memory.ports → a.at.core ≡ c →
+      ((w : ℕ) → rank (last_noted_read history w c) < a.at.count) →
       RiderNotes parts (record { access = a; clock = clock })
-      (rider_at parts.riding (port_at carrying m.ports c) a.word) rider →
-      list_all is_alone later ≡ true → can_all parts.riding carrying m (acts_told c rider (Ordered a ∷ later)) ≡ true →
-      MemoryHolds parts.riding carrying m → HaveTimes parts carrying h m →
-      HaveTimes parts carrying (record { access = a; clock = clock } ∷ h)
-      (after_acts parts.riding carrying m (acts_told c rider (Ordered a ∷ later)))
-  access_times parts carrying well h m c rider clock a later lc own comes notes alone can_them holds f =
-      others_times parts carrying well (record { access = a; clock = clock } ∷ h) touched
+      (rider_at parts.riding (port_at carrying memory.ports c) a.word) rider →
+      list_all is_alone later ≡ true → can_all parts.riding carrying memory (acts_told c rider (Ordered a ∷ later))
+      ≡ true →
+      MemoryHolds parts.riding carrying memory → HaveTimes parts carrying history memory →
+      HaveTimes parts carrying (record { access = a; clock = clock } ∷ history)
+      (after_acts parts.riding carrying memory (acts_told c rider (Ordered a ∷ later)))
+  access_times parts carrying well history memory c rider clock a later lc own comes notes alone can_them holds times =
+      others_times parts carrying well (record { access = a; clock = clock } ∷ history) touched
       (acts_told c rider later) rest.1
       (alone_touch c rider later alone) (memory_kept parts.riding carrying retired touching rest.0 held)
-      (touch_times parts carrying well h retired c (record { access = a; clock = clock }) rider own comes
+      (touch_times parts carrying well history retired c (record { access = a; clock = clock }) rider own comes
       (subst (λ (p : Port R K). RiderNotes parts (record { access = a; clock = clock })
       (rider_at parts.riding p a.word) rider) (sym there) notes)
-      rest.0 held (other_times parts carrying well h m (Retire c a.at) first.0 refl holds f))
+      rest.0 held (other_times parts carrying well history memory (Retire c a.at) first.0 refl holds times))
     where
       touching : Act R
       touching = Touch c (a.word / BLOCK_WORDS) (a.word % BLOCK_WORDS) a.kind a.after rider
 
       retired : Memory R K
-      retired = after_act parts.riding carrying m (Retire c a.at)
+      retired = after_act parts.riding carrying memory (Retire c a.at)
 
       touched : Memory R K
       touched = after_act parts.riding carrying retired touching
 
-      first : (can parts.riding carrying m (Retire c a.at) ≡ true)
+      first : (can parts.riding carrying memory (Retire c a.at) ≡ true)
           × (can_all parts.riding carrying retired (touching ∷ acts_told c rider later) ≡ true)
-      first = and_parts (can parts.riding carrying m (Retire c a.at))
+      first = and_parts (can parts.riding carrying memory (Retire c a.at))
           (can_all parts.riding carrying retired (touching ∷ acts_told c rider later)) can_them
 
       rest : (can parts.riding carrying retired touching ≡ true)
@@ -109,10 +110,10 @@ module _ {R K : Type 0} where
           (can_all parts.riding carrying touched (acts_told c rider later)) first.1
 
       held : MemoryHolds parts.riding carrying retired
-      held = memory_kept parts.riding carrying m (Retire c a.at) first.0 holds
+      held = memory_kept parts.riding carrying memory (Retire c a.at) first.0 holds
 
-      there : port_at carrying retired.ports c ≡ port_retiring carrying (port_at carrying m.ports c) a.at
-      there = port_there carrying m c (port_retiring carrying (port_at carrying m.ports c) a.at) lc
+      there : port_at carrying retired.ports c ≡ port_retiring carrying (port_at carrying memory.ports c) a.at
+      there = port_there carrying memory c (port_retiring carrying (port_at carrying memory.ports c) a.at) lc
 
   -- what is told of an event, where its access comes next
   told_times : (parts : TimesParts R) (carrying : Carrying K) → AbsorbsAll parts →
@@ -253,58 +254,61 @@ module _ {R K : Type 0} where
       can_them holds.memory f.all
 
   step_times : (parts : TimesParts R) (carrying : Carrying K) → AbsorbsAll parts →
-      (h : List NotedAccess) (s : State R K) (m : Move) (rider : R)
-      (clock : Clock) → TsoHolds parts.riding carrying s → enabled parts.riding carrying s m ≡ true →
-      RiderFits parts clock rider (ordering_of (event parts.riding carrying s m))
-      (ordering_port parts.riding carrying s m) → StandsAfter parts carrying h s →
-      HaveTimes parts carrying (noted_after (ordering_of (event parts.riding carrying s m)) clock h)
-      (step parts.riding carrying rider s m).memory
-  step_times parts carrying well h s (CoreMove c) rider clock holds e notes f =
-      own_times parts carrying well h s c rider clock (need_access (need s.image (core_at s.cores c).core))
-      (event parts.riding carrying s (CoreMove c)) (enabled_core parts.riding carrying s (CoreMove c) e holds) holds f
-      (move_tells parts carrying s (CoreMove c) holds e).comes notes
-      (acts_can parts.riding carrying s (CoreMove c) rider e holds)
-  step_times parts carrying well h s (OrderMove c) rider clock holds e notes f =
-      own_times parts carrying well h s c rider clock (head_access (core_at s.cores c).queue)
-      (event parts.riding carrying s (OrderMove c)) (enabled_core parts.riding carrying s (OrderMove c) e holds) holds f
-      (move_tells parts carrying s (OrderMove c) holds e).comes notes
-      (acts_can parts.riding carrying s (OrderMove c) rider e holds)
-  step_times parts carrying well h s (RequestMove c) rider clock holds e notes f =
-      other_times parts carrying well h s.memory (TakeRequest c) e refl holds.memory f.all
-  step_times parts carrying well h s (ResponseMove c) rider clock holds e notes f =
-      other_times parts carrying well h s.memory (TakeResponse c) e refl holds.memory f.all
-  step_times parts carrying well h s (MessageMove c) rider clock holds e notes f =
-      told_times parts carrying well h taken c t rider clock now (count_before t.core t.queue)
-      (count_before (core_after s.image t.core now) (queue_after t.queue now))
-      (subst (λ (n : ℕ). c < n) (sym (length_act parts.riding carrying s.memory (TakeMessage c))) lp)
-      (holds.cores c lc).fits.number (λ w. f.told c w lc)
+      (history : List NotedAccess) (state : State R K) (m : Move) (rider : R)
+      (clock : Clock) → TsoHolds parts.riding carrying state → enabled parts.riding carrying state m ≡ true →
+      RiderFits parts clock rider (ordering_of (event parts.riding carrying state m))
+      (ordering_port parts.riding carrying state m) → StandsAfter parts carrying history state →
+      HaveTimes parts carrying (noted_after (ordering_of (event parts.riding carrying state m)) clock history)
+      (step parts.riding carrying rider state m).memory
+  step_times parts carrying well history state (CoreMove c) rider clock holds allowed notes times =
+      own_times parts carrying well history state c rider clock
+      (need_access (need state.image (core_at state.cores c).core))
+      (event parts.riding carrying state (CoreMove c))
+      (enabled_core parts.riding carrying state (CoreMove c) allowed holds) holds times
+      (move_tells parts carrying state (CoreMove c) holds allowed).comes notes
+      (acts_can parts.riding carrying state (CoreMove c) rider allowed holds)
+  step_times parts carrying well history state (OrderMove c) rider clock holds allowed notes times =
+      own_times parts carrying well history state c rider clock (head_access (core_at state.cores c).queue)
+      (event parts.riding carrying state (OrderMove c))
+      (enabled_core parts.riding carrying state (OrderMove c) allowed holds) holds times
+      (move_tells parts carrying state (OrderMove c) holds allowed).comes notes
+      (acts_can parts.riding carrying state (OrderMove c) rider allowed holds)
+  step_times parts carrying well history state (RequestMove c) rider clock holds allowed notes times =
+      other_times parts carrying well history state.memory (TakeRequest c) allowed refl holds.memory times.all
+  step_times parts carrying well history state (ResponseMove c) rider clock holds allowed notes times =
+      other_times parts carrying well history state.memory (TakeResponse c) allowed refl holds.memory times.all
+  step_times parts carrying well history state (MessageMove c) rider clock holds allowed notes times =
+      told_times parts carrying well history taken c t rider clock now (count_before t.core t.queue)
+      (count_before (core_after state.image t.core now) (queue_after t.queue now))
+      (subst (λ (n : ℕ). c < n) (sym (length_act parts.riding carrying state.memory (TakeMessage c))) lp)
+      (holds.cores c lc).fits.number (λ w. times.told c w lc)
       (subst (λ (p : Port R K). OrderedComes parts.riding p t.core.id (count_before t.core t.queue)
-      (count_before (core_after s.image t.core now) (queue_after t.queue now)) now) (sym here)
-      (move_tells parts carrying s (MessageMove c) holds e).comes)
+      (count_before (core_after state.image t.core now) (queue_after t.queue now)) now) (sym here)
+      (move_tells parts carrying state (MessageMove c) holds allowed).comes)
       (subst (λ (p : Port R K). RiderFits parts clock rider (ordering_of now) p) (sym here) notes)
-      (and_parts (can parts.riding carrying s.memory (TakeMessage c))
+      (and_parts (can parts.riding carrying state.memory (TakeMessage c))
       (can_all parts.riding carrying taken (acts_told c rider (tellings t now)))
-      (acts_can parts.riding carrying s (MessageMove c) rider e holds)).1
-      (memory_kept parts.riding carrying s.memory (TakeMessage c) e holds.memory)
-      (other_times parts carrying well h s.memory (TakeMessage c) e refl holds.memory f.all)
+      (acts_can parts.riding carrying state (MessageMove c) rider allowed holds)).1
+      (memory_kept parts.riding carrying state.memory (TakeMessage c) allowed holds.memory)
+      (other_times parts carrying well history state.memory (TakeMessage c) allowed refl holds.memory times.all)
     where
       t : BufferedCore
-      t = core_at s.cores c
+      t = core_at state.cores c
 
       now : Event
-      now = event parts.riding carrying s (MessageMove c)
+      now = event parts.riding carrying state (MessageMove c)
 
       taken : Memory R K
-      taken = after_act parts.riding carrying s.memory (TakeMessage c)
+      taken = after_act parts.riding carrying state.memory (TakeMessage c)
 
-      lc : c < length s.cores
-      lc = enabled_core parts.riding carrying s (MessageMove c) e holds
+      lc : c < length state.cores
+      lc = enabled_core parts.riding carrying state (MessageMove c) allowed holds
 
-      lp : c < length s.memory.ports
-      lp = core_port parts.riding carrying s c holds lc
+      lp : c < length state.memory.ports
+      lp = core_port parts.riding carrying state c holds lc
 
-      here : port_at carrying taken.ports c ≡ port_taken parts.riding carrying (port_at carrying s.memory.ports c)
-      here = taken_there parts.riding carrying s.memory c lp
+      here : port_at carrying taken.ports c ≡ port_taken parts.riding carrying (port_at carrying state.memory.ports c)
+      here = taken_there parts.riding carrying state.memory c lp
 
 -- ---- what was told of each core
 
@@ -356,52 +360,54 @@ module _ {R K : Type 0} where
       ]
 
   pub timed_step : (parts : TimesParts R) (carrying : Carrying K) → AbsorbsAll parts → TimedStep parts carrying
-  timed_step parts carrying well h s m rider clock holds e notes f =
+  timed_step parts carrying well history state move rider clock holds can notes times =
       record {
-        all = step_times parts carrying well h s m rider clock holds e notes f;
-        told = λ d w ld. by_core d w (subst (λ (n : ℕ). d < n) (step_cores parts.riding carrying rider s m) ld)
-            (d == core_of m) refl;
+        all = step_times parts carrying well history state move rider clock holds can notes times;
+        told = λ d w ld. by_core d w (subst (λ (n : ℕ). d < n) (step_cores parts.riding carrying rider state move) ld)
+            (d == core_of move) refl;
       }
     where
       c : ℕ
-      c = core_of m
+      c = core_of move
 
       t : BufferedCore
-      t = core_at s.cores c
+      t = core_at state.cores c
 
       now : Event
-      now = event parts.riding carrying s m
+      now = event parts.riding carrying state move
 
-      lc : c < length s.cores
-      lc = enabled_core parts.riding carrying s m e holds
+      lc : c < length state.cores
+      lc = enabled_core parts.riding carrying state move can holds
 
       id : t.core.id ≡ c
       id = (holds.cores c lc).fits.number
 
-      tells : Tells s.image parts.riding (ordering_port parts.riding carrying s m) t now
-      tells = move_tells parts carrying s m holds e
+      tells : Tells state.image parts.riding (ordering_port parts.riding carrying state move) t now
+      tells = move_tells parts carrying state move holds can
 
-      by_core : (d w : ℕ) → d < length s.cores → (b : Bool) → (d == core_of m) ≡ b →
-          rank (last_noted_read (noted_after (ordering_of now) clock h) w d) ≤ told_count
-          (core_at (cores_after parts.riding carrying s m) d)
+      by_core : (d w : ℕ) → d < length state.cores → (b : Bool) → (d == core_of move) ≡ b →
+          rank (last_noted_read (noted_after (ordering_of now) clock history) w d) ≤ told_count
+          (core_at (cores_after parts.riding carrying state move) d)
       by_core d w ld true is =
           let same : c ≡ d = grind (arith, nat_tests) in
-          subst (λ (x : ℕ). rank (last_noted_read (noted_after (ordering_of now) clock h) w x) ≤ told_count
-          (core_at (cores_after parts.riding carrying s m) x)) same
+          subst (λ (x : ℕ). rank (last_noted_read (noted_after (ordering_of now) clock history) w x) ≤ told_count
+          (core_at (cores_after parts.riding carrying state move) x)) same
           (subst (λ (x : BufferedCore). rank
-          (last_noted_read (noted_after (ordering_of now) clock h) w c) ≤ told_count x)
-          (sym (core_there parts.riding carrying s m lc))
-          (own_told parts.riding (ordering_port parts.riding carrying s m) t.core.id (count_before t.core t.queue)
-          (count_before (core_after s.image t.core now) (queue_after t.queue now)) now clock h w c tells.comes
-          tells.grows (f.told c w lc)))
-      by_core d w ld false is =
-          let before = f.told d w ld in
-          let le = others_told parts.riding (ordering_port parts.riding carrying s m) t.core.id
+          (last_noted_read (noted_after (ordering_of now) clock history) w c) ≤ told_count x)
+          (sym (core_there parts.riding carrying state move lc))
+          (own_told parts.riding (ordering_port parts.riding carrying state move) t.core.id
           (count_before t.core t.queue)
-          (count_before (core_after s.image t.core now) (queue_after t.queue now)) now clock h w d tells.comes
+          (count_before (core_after state.image t.core now) (queue_after t.queue now)) now clock history w c tells.comes
+          tells.grows (times.told c w lc)))
+      by_core d w ld false is =
+          let before = times.told d w ld in
+          let le = others_told parts.riding (ordering_port parts.riding carrying state move) t.core.id
+          (count_before t.core t.queue)
+          (count_before (core_after state.image t.core now) (queue_after t.queue now)) now clock history w d tells.comes
           (ap (λ (x : ℕ). d == x) id ∙ is) in
-          let kept : told_count (core_at (cores_after parts.riding carrying s m) d) ≡ told_count (core_at s.cores d) =
-          ap told_count (core_elsewhere parts.riding carrying s m d is) in
+          let kept : told_count (core_at (cores_after parts.riding carrying state move) d)
+          ≡ told_count (core_at state.cores d) =
+          ap told_count (core_elsewhere parts.riding carrying state move d is) in
           omega arith
 
   -- ---- what an ordered access finds

@@ -8,6 +8,7 @@ use Rattle.std.specs.List.{range_with_len}
 use Rattle.image_mem.specs.Contents.{Contents}
 use Rattle.rtr_types.specs.declared.access.Kind.TheVariants.{Load as Loading, Store as Storing}
 use Rattle.rtr_types.specs.declared.instr.Instr.{Instr}
+use Rattle.rtr_types.proofs.Instrs.{instr_eq}
 use Rattle.rv_core.specs.declared.core_state.Core.{Core}
 use Rattle.rv_core.specs.declared.core_state.Need.TheVariants.{Local, Load, Store}
 use Rattle.rv_core.specs.Steps.{need, after, wrote, access_of as need_access}
@@ -123,11 +124,6 @@ arrives_id image core (x ∷ rest) now a =
 
 -- ---- what is told of those behind an access
 
-pub instr_is : (i j : Instr) → i.core ≡ j.core → i.count ≡ j.count → i ≡ j
-instr_is i j e f =
-    let by : ℕ → ℕ → Instr = λ (x : ℕ) (y : ℕ). record { core = x; count = y } in
-    ap (λ (x : ℕ). by x i.count) e ∙ ap (λ (y : ℕ). by j.core y) f
-
 -- the instructions of a core with these counts, as they are told
 abbrev pub locals_from : (c from n : ℕ) → List Told
 locals_from c from n = map (λ i. Alone (record { core = c; count = i })) (range_with_len from n)
@@ -138,7 +134,7 @@ locals_next : (image : Contents) (core : Core) (c from n : ℕ) → Locals image
 locals_next image core c from zero l id at = tt
 locals_next image core c from (suc n) l id at =
     let one = count_law image core 0 in (
-      (instr_is (record { core = c; count = from }) (next_instr core) (sym id) at, l.0),
+      (instr_eq (record { core = c; count = from }) (next_instr core) (sym id) at, l.0),
       locals_next image (after image core 0) c (from + 1) n l.1 (number_law image core 0 ∙ id) (omega arith),
     )
 
@@ -212,7 +208,7 @@ load_leaves image base count word value rest now a =
     ((at, access, sym (unwritten_law image base Loading word value access refl)), (at, access))
   where
     at : (let i : Instr = record { core = now.id; count = count } in i ≡ next_instr base)
-    at = instr_is (record { core = now.id; count = count }) (next_instr base)
+    at = instr_eq (record { core = now.id; count = count }) (next_instr base)
         (arrives_id image base (PendingLoad count word value ∷ rest) now a) a.0.0
 
     access : need_access (need image base) ≡ Some (Loading, word)
@@ -233,7 +229,7 @@ store_leaves law image base count word mask bits old rest now a =
     ((at, access, writes), unread_law image base Storing word old 0 access refl)
   where
     at : (let i : Instr = record { core = now.id; count = count } in i ≡ next_instr base)
-    at = instr_is (record { core = now.id; count = count }) (next_instr base)
+    at = instr_eq (record { core = now.id; count = count }) (next_instr base)
         (arrives_id image base (PendingStore count word mask bits ∷ rest) now a) a.0.0
 
     access : need_access (need image base) ≡ Some (Storing, word)

@@ -1,6 +1,6 @@
 -- What holds of what an event tells, by its parts: an instruction that touches no data, and those behind a head that
 -- leaves.
-use Rattle.std.proofs.Common.{ℕ, ◌+◌, ◌-◌, Bool, true, false, List, [], ◌∷◌}
+use Rattle.std.proofs.Common.{ℕ, ◌+◌, ◌-◌, Bool, true, false, List, [], ◌∷◌, ◌++◌}
 use Rattle.std.specs.Prelude.{drop, map, if◌then◌else◌}
 use Rattle.std.specs.List.{range_with_len}
 use Rattle.link_order.specs.Queue.{is_nil}
@@ -10,6 +10,12 @@ use Rattle.tso_state.specs.declared.pending.Pending.{Pending}
 use Rattle.tso_state.specs.Events.{Event, Nothing, Executes, Buffers, Performs, Drains, Logs, Told, Alone, Ordered}
 use Rattle.tso_state.specs.Events.{Logged, count_before, locals_behind, tellings}
 use Rattle.tso_state.specs.States.{BufferedCore}
+use Rattle.tso_told.specs.Played.{AreInside}
+
+-- of what is of the cores, the later part is
+pub inside_last : (n : ℕ) (xs ys : List Told) → AreInside n (xs ++ ys) → AreInside n ys
+inside_last n [] ys h = h
+inside_last n (x ∷ xs) ys h = inside_last n xs ys h.1
 
 -- what holds where nothing is told, and with one more instruction alone, holds of those behind
 pub behind_have : (P : List Told → Type 0) → P [] → ((at : Instr) (list : List Told) → P list → P (Alone at ∷ list)) →

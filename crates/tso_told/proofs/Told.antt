@@ -19,12 +19,11 @@ use Rattle.rv_core.specs.declared.outcome.LoadNote.{LoadNote}
 use Rattle.rv_core.specs.States.{starting}
 use Rattle.rv_core.specs.Steps.{after}
 use Rattle.rv_core.proofs.LawLemmas.{number_law, start_law}
-use Rattle.msi_state.specs.Events.{next_instr}
 use Rattle.tso_state.specs.declared.moves.Move.{Move}
 use Rattle.tso_state.specs.declared.pending.Pending.{Pending}
 use Rattle.tso_state.specs.Moves.{core_of}
 use Rattle.tso_state.specs.States.{PlainState, BufferedCore, all_done, buffered_start, core_at}
-use Rattle.tso_state.specs.Events.{Event, Nothing, Told, Alone, Ordered, Logged, core_after, instr_told, queue_after}
+use Rattle.tso_state.specs.Events.{Event, Nothing, Told, core_after, instr_told, queue_after}
 use Rattle.tso_state.specs.Events.{tellings}
 use Rattle.tso_state.specs.Steps.{cores_after, core_left, enabled, event, step, told}
 use Rattle.tso_state.specs.Runs.{all_told, chosen, event_by, opening_state, read_in, reads, run, stepped_by, told_by}
@@ -34,10 +33,11 @@ pub use Rattle.tso_invariant.proofs.Begins.{run_cores}
 use Rattle.tso_invariant.proofs.Ending.{ended_at}
 use Rattle.tso_invariant.proofs.Kept.{core_elsewhere, core_there, enabled_core, step_cores}
 use Rattle.rv_core.proofs.Masks.{mask_law}
-use Rattle.tso_told.specs.Played.{AreInside, AreNext, IsNext, found_by, reads_pending, reads_told, told_core, told_of}
+use Rattle.tso_told.specs.Played.{AreInside, AreNext, found_by, reads_pending, reads_told, told_core, told_of}
 use Rattle.tso_told.proofs.Following.{Arrives, Tells}
 use Rattle.tso_told.proofs.Noted.{IsOwn, move_own, move_reads, others_read, own_read, reads-append}
 use Rattle.tso_told.proofs.Telling.{move_told}
+use Rattle.tso_told.proofs.InOrder.{next_told}
 
 -- ---- lists that are told
 
@@ -56,17 +56,12 @@ told_id : (image : Contents) (core : Core) (xs : List Told) → (told_core image
 told_id image core [] = refl
 told_id image core (x ∷ xs) = told_id image (after image core (found_by x)) xs ∙ number_law image core (found_by x)
 
-next_instr_told : (image : Contents) (core : Core) (e : Told) → IsNext image core e → instr_told e ≡ next_instr core
-next_instr_told image core (Alone at) h = h.0
-next_instr_told image core (Ordered a) h = h.0
-next_instr_told image core (Logged at word value) h = h.0
-
 -- they are that core's
 all_own : (image : Contents) (core : Core) (c : ℕ) (xs : List Told) → AreNext image core xs → core.id ≡ c →
     list_all (λ e. (instr_told e).core == c) xs ≡ true
 all_own image core c [] a id = refl
 all_own image core c (x ∷ xs) a id =
-    let here : (instr_told x).core ≡ c = ap (λ (i : Instr). i.core) (next_instr_told image core x a.0) ∙ id in
+    let here : (instr_told x).core ≡ c = ap (λ (i : Instr). i.core) (next_told image core x a.0) ∙ id in
     let first : ((instr_told x).core == c) ≡ true = grind (arith, nat_tests) in
     rw (first, all_own image (after image core (found_by x)) c xs a.1 (number_law image core (found_by x) ∙ id)) refl
 
@@ -95,7 +90,7 @@ own_inside : (image : Contents) (core : Core) (n : ℕ) (xs : List Told) → Are
     AreInside n xs
 own_inside image core n [] a lt = tt
 own_inside image core n (x ∷ xs) a lt = (
-  subst (λ (c : ℕ). c < n) (sym (ap (λ (i : Instr). i.core) (next_instr_told image core x a.0))) lt,
+  subst (λ (c : ℕ). c < n) (sym (ap (λ (i : Instr). i.core) (next_told image core x a.0))) lt,
   own_inside image (after image core (found_by x)) n xs a.1
       (subst (λ (c : ℕ). c < n) (sym (number_law image core (found_by x))) lt),
 )

@@ -9,8 +9,9 @@ use Rattle.std.proofs.lemmas.Bool.{cases_lt, cases_eq}
 use Rattle.rtr_types.specs.declared.TheConstants.{CORES_MAX}
 use Rattle.rtr_types.specs.declared.instr.Instr.{Instr}
 use Rattle.rtr_types.specs.declared.instr.Edge.{Edge}
+use Rattle.rtr_types.proofs.Instrs.{instr_eq}
 use Rattle.clock_core.specs.Order.{Among, Before, IsOrLeads}
-use Rattle.clock_core.proofs.Paths.{joined, one, instr_eq}
+use Rattle.clock_core.proofs.Paths.{joined, one}
 use Rattle.vector_reduce.specs.declared.arrivals.Arrival.{Arrival}
 use Rattle.vector_reduce.specs.declared.closing.Closing.{Closing}
 use Rattle.vector_reduce.specs.declared.pair_vector.PairVector.{PairVector}

@@ -1,5 +1,5 @@
 -- The edges into a core, gathered vector by vector and then sorted.
-use Rattle.std.proofs.Common.{◌≡◌, ◌≢◌, ℕ, suc, ◌+◌, ◌<◌, ◌≤◌, ◌⊎◌, inl, inr, List, [], ◌++◌, length, get_or, sym, ap}
+use Rattle.std.proofs.Common.{◌≡◌, ◌≢◌, ℕ, ◌+◌, ◌<◌, ◌≤◌, ◌⊎◌, inl, inr, List, [], ◌++◌, length, get_or, sym, ap}
 use Rattle.std.proofs.Common.{subst, ◌∙◌}
 use Rattle.std.proofs.Common.{arith}
 use Rattle.std.specs.List.{Contains, range_with_len}
@@ -9,6 +9,7 @@ use Rattle.std.proofs.lemmas.List.Elements.{Contains-append_cases, Contains-appe
 use Rattle.std.proofs.lemmas.List.FromFn.{get_or-range_with_len, length-range_with_len}
 use Rattle.std.proofs.lemmas.List.Sorted.{All-permutation, Contains-permutation}
 use Rattle.rtr_types.specs.declared.instr.Instr.{Instr}
+use Rattle.rtr_types.proofs.Ranges.{below_suc}
 use Rattle.clock_core.specs.Order.{Among}
 use Rattle.race_log.proofs.Looked.{contains-map, map-contains}
 use Rattle.vector_reduce.specs.declared.arrivals.Arrival.{Arrival}
@@ -29,9 +30,6 @@ gathers_none vs core = record {
   all =
       λ j x y lt. absurd (omega (arith, lt));
 }
-
-nothing_below : (a b : ℕ) → a < suc b → (a < b) ⊎ (a ≡ b)
-nothing_below a b h = grind arith
 
 -- the arrivals of one vector are its edges
 own_arrives : (vs : List PairVector) (core n : ℕ) (a : Arrival) → n < length vs → (vector_at vs n).to ≡ core →
@@ -84,7 +82,7 @@ gathers_more vs core n list new lt into is g =
 
     all : (j : ℕ) (x y : Instr) → j < n + 1 → j < length vs → Among (edges_in (vector_at vs j)) x y → y.core ≡ core →
         Contains (list ++ own) (arrival x y.count j)
-    all j x y less inside among e = by (nothing_below j n (omega (arith, less)))
+    all j x y less inside among e = by (below_suc j n (omega (arith, less)))
       where
         by : (j < n) ⊎ (j ≡ n) → Contains (list ++ own) (arrival x y.count j)
         by (inl before) = Contains-append_left list own (arrival x y.count j) (g.all j x y before inside among e)
@@ -99,7 +97,7 @@ gathers_past vs core n list other g = record { each = g.each; all = all }
   where
     all : (j : ℕ) (x y : Instr) → j < n + 1 → j < length vs → Among (edges_in (vector_at vs j)) x y → y.core ≡ core →
         Contains list (arrival x y.count j)
-    all j x y less inside among e = by (nothing_below j n (omega (arith, less)))
+    all j x y less inside among e = by (below_suc j n (omega (arith, less)))
       where
         by : (j < n) ⊎ (j ≡ n) → Contains list (arrival x y.count j)
         by (inl before) = g.all j x y before inside among e

@@ -6,9 +6,10 @@ use Rattle.rtr_types.specs.declared.access.Access.{Access}
 use Rattle.rtr_types.specs.declared.instr.Instr.{Instr}
 use Rattle.rtr_types.specs.declared.params.Params.{Params}
 use Rattle.rtr_types.specs.declared.pairs.Which.TheVariants.{Regulated}
+use Rattle.rtr_types.proofs.Instrs.{instr_eq}
 use Rattle.clock_core.specs.Order.{Before, Among}
 use Rattle.clock_core.proofs.Listed.{among_contains, contains_among}
-use Rattle.clock_core.proofs.Paths.{one, instr_eq}
+use Rattle.clock_core.proofs.Paths.{one}
 use Rattle.clock_entries.specs.Laws.{IsLog}
 use Rattle.conflict_edge.specs.Least.{Suffices}
 use Rattle.rv_core.specs.declared.outcome.Outcome.{Outcome}

@@ -8,11 +8,12 @@ use Rattle.tool_words.specs.Commands.{command_of, verb_named}
 use Rattle.tool_words.specs.Options.{are_together_few, is_set, no_settings, put}
 use Rattle.tool_words.specs.Reading.{Set, few_together, flag, meaning, prepend, settings, settled, settled_by, valued}
 use Rattle.tool_words.specs.Settings.{Settings}
+use Rattle.tool_words.proofs.FittingLemmas.{and_then-some}
 use Rattle.words_laws.specs.Grammar.{AreSpelled, Says, Spells, apart, joined}
 use Rattle.words_laws.specs.Laws.{JoinedIsApart, SettingsCommute, TwiceIsNothing, WordsMean}
 use Rattle.words_laws.proofs.Names.{put-sets}
 use Rattle.words_laws.proofs.Order.{put-commute, put-keeps}
-use Rattle.words_laws.proofs.Options.{and-then-some, begins, if-some, prepend_all, then-none, then-then}
+use Rattle.words_laws.proofs.Options.{begins, if-some, prepend_all, then-none, then-then}
 use Rattle.words_laws.proofs.Cut.{cut-spells, front, fronts, when-apart, when-joined}
 
 -- what a command makes of settings that were cut
@@ -119,7 +120,7 @@ settled-keeps : (s t : Settings) (sets : List Set) (x : Set) → settled s sets 
     → is_set t x.name ≡ true
 settled-keeps s t [] x h k = let same : s ≡ t = cc in rw (← same) k
 settled-keeps s t (set ∷ sets) x h k =
-    let p = and-then-some (λ u. settled u sets) (put s set.name set.text) t h in
+    let p = and_then-some (λ u. settled u sets) (put s set.name set.text) t h in
     settled-keeps p.0 t sets x p.2 (put-keeps s p.0 set x p.1 k)
 
 -- an option that is set can't be set again
@@ -173,13 +174,13 @@ says : (words : List (List ℕ)) (command : Command) → meaning words ≡ Some 
 unfolding settled_by
 says [] command h = absurd (cc)
 says (first ∷ rest) command h =
-    let verb = and-then-some (λ verb. made (command_of verb) (settings verb rest)) (verb_named first) command h in
-    let final = and-then-some (command_of verb.0)
+    let verb = and_then-some (λ verb. made (command_of verb) (settings verb rest)) (verb_named first) command h in
+    let final = and_then-some (command_of verb.0)
     (option_and_then few_together (option_and_then (settled no_settings) (settings verb.0 rest)))
     command verb.2 in
-    let held = and-then-some few_together (option_and_then (settled no_settings) (settings verb.0 rest)) final.0
+    let held = and_then-some few_together (option_and_then (settled no_settings) (settings verb.0 rest)) final.0
     final.1 in
-    let cut = and-then-some (settled no_settings) (settings verb.0 rest) held.0 held.1 in
+    let cut = and_then-some (settled no_settings) (settings verb.0 rest) held.0 held.1 in
     let few = if-some (are_together_few held.0) (Some held.0) final.0 held.2 in
     let same : held.0 ≡ final.0 = let e = few.1 in cc in
     record {
@@ -198,7 +199,7 @@ says (first ∷ rest) command h =
 means : (words : List (List ℕ)) (command : Command) → Says words command → meaning words ≡ Some command
 unfolding settings
 means words command said =
-    let verb = and-then-some (λ verb. command_of verb said.settings) (verb_named said.first) command said.makes in
+    let verb = and_then-some (λ verb. command_of verb said.settings) (verb_named said.first) command said.makes in
     let cut : settings verb.0 said.rest ≡ Some said.sets =
     ap (λ ws. settings verb.0 ws) (sym (append-nil said.rest))
     ∙ fronts said.first verb.0 said.sets said.rest [] verb.1 said.spelled

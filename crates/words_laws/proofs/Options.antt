@@ -3,12 +3,6 @@ use Rattle.std.proofs.Common.{◌≡◌, Bool, true, false, List, [], ◌∷◌,
 use Rattle.std.specs.Option.{option_and_then, option_map}
 use Rattle.tool_words.specs.Reading.{Set, prepend}
 
--- the two parts of a chain that ends with something
-pub and-then-some : {A B : Type 0} (f : A → Option B) (o : Option A) (b : B) → option_and_then f o ≡ Some b → (a : A)
-    × (o ≡ Some a) × (f a ≡ Some b)
-and-then-some f (Some a) b h = (a, refl, h)
-and-then-some f None b h = absurd (cc)
-
 -- a chain that ends with something begins with something
 pub begins : {A B : Type 0} (f : A → Option B) (o : Option A) → is_some (option_and_then f o) ≡ true → is_some o ≡ true
 begins f (Some a) h = refl

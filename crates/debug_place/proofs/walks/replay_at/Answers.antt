@@ -2,8 +2,9 @@ use Rattle.std.proofs.Common.{ap, ◌≡◌, ◌∙◌, arith}
 use Rattle.replay_core.specs.Plans.{plan_of}
 use Rattle.replay_core.specs.Play.{start}
 use Rattle.replay_audit.specs.Determinate.{low_order_of}
-use Rattle.debug_place.proofs.OwnCuts.{none_in, starts_at}
+use Rattle.debug_place.proofs.OwnCuts.{starts_at}
 use Rattle.debug_place.proofs.walks.replay_at.Goals as goal
+use Rattle.cut_moves.proofs.Hulls.{none_in}
 
 pub go_on-requires-clause-at : goal.go_on-requires-clause-at
 go_on-requires-clause-at c =

@@ -5,9 +5,10 @@ use Rattle.std.specs.List.{range_with_len}
 use Rattle.rv_decode.specs.declared.op.Op.TheVariants.{Jal}
 use Rattle.rv_decode.specs.Words.{encoding}
 use Rattle.image_elf.specs.FlatImage.{flat_byte, flat_length, jump_length, jump_word}
-use Rattle.image_elf.proofs.FlatLemmas.{jump_byte, map_range_more, other_byte}
+use Rattle.image_elf.proofs.FlatLemmas.{jump_byte, other_byte}
 use Rattle.image_elf.proofs.flattening.image_of.Goals as goal
 use Rattle.image_elf.proofs.flattening.image_of.Goals.{then-address-jump_length, else-address-jump_length}
+use Rattle.rtr_types.proofs.Ranges.{map_range_more}
 
 pub loop-address-preserved : goal.loop-address-preserved
 unfolding jump_word

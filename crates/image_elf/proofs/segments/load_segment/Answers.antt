@@ -1,3 +1,4 @@
+-- A segment that passes all tests is loaded, and its range is free of the earlier ones; each refusal is the first.
 use Rattle.std.proofs.Common.{◌≡◌, ◌≢◌, true, false, inr, arith}
 use Rattle.std.specs.Prelude.{None, not}
 use Rattle.std.proofs.lemmas.Bool.Decides.{nat_tests}

@@ -1,3 +1,4 @@
+-- Too many vectors or positions are refused by their counts alone; few are thinned, unless memory runs out.
 use Rattle.std.proofs.Common.{◌≡◌, Err, None, Some, ap, subst}
 use Rattle.std.specs.Prelude.{MatchOption, Option}
 use Rattle.race_log.specs.declared.recording.Recording.{Recording}

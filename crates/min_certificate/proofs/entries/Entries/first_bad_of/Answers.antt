@@ -1,3 +1,4 @@
+-- One end after the other: the first whose entry is wrong is the answer, and those before it are right.
 use Rattle.std.proofs.Common.{◌≡◌, get_or, refl, sym, ap, arith, ◌+◌, ◌∙◌, ℕ}
 use Rattle.clock_entries.specs.Ends.{entry_at, instr, last_entry}
 use Rattle.certificate_codec.specs.Ends.{reduced_edges}

@@ -1,3 +1,4 @@
+-- The message is taken from its link first. What it grants is done at once; without a grant nothing else changes.
 use Rattle.std.proofs.Common.{◌≡◌, ◌∙◌, ap, rules, sym}
 use Rattle.msi_cache.specs.Lines.{waits}
 use Rattle.msi_memory.specs.Acts.{data_next}
