@@ -1,7 +1,7 @@
 # Peterson's lock for two cores, two rounds each. The flags stand at 128 and 132, the turn at 136, the counter at 144.
 #
 # What to look at: the counter is loaded and stored under the lock, so no count is lost: it ends as 4 under every
-# schedule. The words of the lock take nearly all edges; those of the counter are implied by them.
+# schedule. The words of the lock take all edges; the order of the counter's accesses is implied.
 #
 #   rtr record --cores 2 --words 64 --seed 0
 #
