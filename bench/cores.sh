@@ -1,7 +1,8 @@
 #!/usr/bin/env bash
 # Measures the tool on many cores, each of which counts up a word of its own, and every eighth time a word of all.
 #
-#   bench/cores.sh COMMAND [CORES..]      COMMAND is run, record, replay, certify or check; CORES is 8 and 16 where none is named
+#   bench/cores.sh COMMAND [CORES..]      COMMAND is run, record, replay, certify or check;
+#                                         CORES is 8 and 16 where none is named
 #
 # Each core retires INSTRUCTIONS instructions (100,000 where the environment doesn't say). For each number of cores it
 # prints a line, as bench/measure.sh says.

@@ -1,7 +1,8 @@
 #!/usr/bin/env bash
 # Measures the tool on Peterson's lock: two cores that each take the lock for so many rounds and count up.
 #
-#   bench/lock.sh COMMAND [ROUNDS..]      COMMAND is run, record, replay, certify or check; ROUNDS is 10, 100 and 500 where none is named
+#   bench/lock.sh COMMAND [ROUNDS..]      COMMAND is run, record, replay, certify or check;
+#                                         ROUNDS is 10, 100 and 500 where none is named
 #
 # For each number of rounds it prints a line, as bench/measure.sh says.
 set -eu

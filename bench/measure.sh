@@ -8,7 +8,10 @@ place=$(mktemp -d)
 trap 'rm -rf "$place"' EXIT
 
 # A word as four bytes, the least first.
-word() { printf "\\x$(printf %02x $(($1 & 255)))\\x$(printf %02x $(($1 >> 8 & 255)))\\x$(printf %02x $(($1 >> 16 & 255)))\\x$(printf %02x $(($1 >> 24 & 255)))"; }
+word() {
+  printf "\\x$(printf %02x $(($1 & 255)))\\x$(printf %02x $(($1 >> 8 & 255)))"
+  printf "\\x$(printf %02x $(($1 >> 16 & 255)))\\x$(printf %02x $(($1 >> 24 & 255)))"
+}
 
 # The lock for so many rounds, 1 to 2047.
 lock() { "$tool" gen --shape lock --number "$1"; }
@@ -40,7 +43,10 @@ input() {
 }
 
 # The host instructions of the command on an input.
-host() { valgrind --tool=callgrind --callgrind-out-file=/dev/null "$tool" $words < "$1" 2>&1 >/dev/null | sed -n 's/.*Collected : *//p'; }
+host() {
+  valgrind --tool=callgrind --callgrind-out-file=/dev/null "$tool" $words < "$1" 2>&1 >/dev/null |
+    sed -n 's/.*Collected : *//p'
+}
 
 # The peak memory in KiB.
 peak() { /usr/bin/time -f %M "$tool" $words < "$1" 2>&1 >/dev/null; }
@@ -61,5 +67,6 @@ measured() {
   start=$(date +%s%N)
   "$tool" $words < "$place/input" > "$place/out"
   end=$(date +%s%N)
-  echo "$1 $retired $(echo "scale=3; ($end - $start) / 1000000000" | bc) $((($(host "$place/input") - base) / retired)) $(peak "$place/input") $(wc -c < "$place/out")"
+  echo "$1 $retired $(echo "scale=3; ($end - $start) / 1000000000" | bc)" \
+    "$((($(host "$place/input") - base) / retired)) $(peak "$place/input") $(wc -c < "$place/out")"
 }

@@ -20,13 +20,15 @@ calls() {
     sed -n 's/^ *\([0-9,]*\) .*???:\(.*\) \[.*/\1 \2/p' | tr -d , | awk '{ print int($1 / 1000), $2 }'
 }
 
-# The functions that take a hundredth or more: the host instructions in thousands, with those of what it calls and without.
+# The functions that take a hundredth or more: the host instructions in thousands,
+# with those of what it calls and without.
 parts() {
   valgrind --tool=callgrind --callgrind-out-file="$place/calls" "$tool" $words > "$place/out" 2> "$place/err"
   calls no > "$place/own"
   echo "thousands own-thousands function"
-  calls yes | awk -v own="$place/own" 'BEGIN { while ((getline line < own) > 0) { split(line, f, " "); o[f[2]] = f[1] } }
-    NR == 1 { all = $1 } $2 ~ /::/ && $1 * 100 >= all { print $1, o[$2] + 0, $2 }'
+  calls yes |
+    awk -v own="$place/own" 'BEGIN { while ((getline line < own) > 0) { split(line, f, " "); o[f[2]] = f[1] } }
+      NR == 1 { all = $1 } $2 ~ /::/ && $1 * 100 >= all { print $1, o[$2] + 0, $2 }'
 }
 
 : > "$place/empty"
@@ -39,6 +41,7 @@ for cores in "$@"; do
   "$tool" $words > "$place/out"
   end=$(date +%s%N)
   retired=$(sed -n 's/^retired //p' "$place/out")
-  echo "$cores $retired $(echo "scale=3; ($end - $start) / 1000000000" | bc) $((($(host "$place/empty") - base) / retired)) $(peak "$place/empty") $(wc -c < "$place/out")"
+  echo "$cores $retired $(echo "scale=3; ($end - $start) / 1000000000" | bc)" \
+    "$((($(host "$place/empty") - base) / retired)) $(peak "$place/empty") $(wc -c < "$place/out")"
 done
 [ -z "${PARTS:-}" ] || parts

@@ -3,15 +3,15 @@
 
 usage: bench/table.py [--svg FILE] [--times N] [WORK..]
 
-A WORK is one of lock-100, lock-500, lock-1000 (Peterson's lock on two cores, so many rounds), mix-2, mix-4, mix-8, mix-16
-(the third mix on so many cores, at most 100,000 instructions each) and walk-2 (two cores that walk over 32 blocks of
-one line of a cache, so that each access evicts); all of them where none is named.
+A WORK is one of lock-100, lock-500, lock-1000 (Peterson's lock on two cores, so many rounds), mix-2, mix-4, mix-8,
+mix-16 (the third mix on so many cores, at most 100,000 instructions each) and walk-2 (two cores that walk over 32
+blocks of one line of a cache, so that each access evicts); all of them where none is named.
 
-Each line has the work, the command, how many instructions retired, the host instructions for each of them (by callgrind, less
-those of the same command on an empty image), the user seconds (the least of N runs, 5 where nothing is said), the peak
-memory in KiB and the bytes of output for 1,000 retired instructions. --svg draws the host instructions a retired one of the
-works that were measured. It needs the built tool (crates/rtr/out/rtr, or the one that $RTR names), and Debian's valgrind and
-time; of Python its own library alone.
+Each line has the work, the command, how many instructions retired, the host instructions for each of them (by
+callgrind, less those of the same command on an empty image), the user seconds (the least of N runs, 5 where nothing is
+said), the peak memory in KiB and the bytes of output for 1,000 retired instructions. --svg draws the host instructions
+a retired one of the works that were measured. It needs the built tool (crates/rtr/out/rtr, or the one that $RTR names),
+and Debian's valgrind and time; of Python its own library alone.
 """
 import argparse
 import os
@@ -51,7 +51,8 @@ def branch_unless_same(one, other, back):
 
 
 def walk():
-    """x6 goes from 1,024 up by 256, the distance of blocks of one line, 32 times; each word on the way is counted up; that 100 times."""
+    """x6 goes from 1,024 up by 256, the distance of blocks of one line, 32 times;
+    each word on the way is counted up; that 100 times."""
     inner = [load(8, 0, 6), add(8, 8, 1), store(8, 0, 6), add(6, 6, 256), branch_unless_same(6, 7, 16)]
     upper = 2 << 12 | 7 << 7 | 0x37  # LUI x7, 2
     outer = [add(6, 0, 1024), upper, add(7, 7, 1024)] + inner + [add(5, 5, -1)]
@@ -68,7 +69,8 @@ def made(work):
     """The image of a work, and the options of its run."""
     name, number = work.split("-")
     if name == "lock":
-        return run(["gen", "--shape", "lock", "--number", number], b""), ["--cores", "2", "--limit", "100000", "--words", "128", "--seed", "7"]
+        image = run(["gen", "--shape", "lock", "--number", number], b"")
+        return image, ["--cores", "2", "--limit", "100000", "--words", "128", "--seed", "7"]
     if name == "mix":
         image = run(["gen", "--shape", "mix", "--number", "3"], b"")
         return image, ["--cores", number, "--limit", "100000"]
@@ -89,7 +91,9 @@ def seconds(words, path, times):
     for _ in range(times):
         with open(path, "rb") as data:
             call = ["/usr/bin/time", "-f", "%U %M", TOOL] + words
-            told = subprocess.run(call, stdin=data, stdout=subprocess.DEVNULL, stderr=subprocess.PIPE, check=True).stderr
+            told = subprocess.run(
+                call, stdin=data, stdout=subprocess.DEVNULL, stderr=subprocess.PIPE, check=True
+            ).stderr
         user, most = told.split()[-2:]
         least = float(user) if least is None else min(least, float(user))
         peak = max(peak, int(most))
@@ -104,7 +108,12 @@ def lines(work, times, place):
     inputs = {}
     for name, start in (("whole", image), ("empty", b"")):
         recording = run(["record"] + options, start)
-        inputs[name] = {"image": start, "recording": recording, "certificate": run(["certify"], recording), "nothing": b""}
+        inputs[name] = {
+            "image": start,
+            "recording": recording,
+            "certificate": run(["certify"], recording),
+            "nothing": b"",
+        }
     commands = [(["record"] + options, "image"), (["run"] + options, "image")]
     commands += [(words, "recording") for words in REPLAYS] + [(["certify"], "recording"), (["check"], "certificate")]
     if work.startswith("mix"):
@@ -143,7 +152,10 @@ def picture(rows):
     for k, command in enumerate(commands):
         colour = COLOURS[k % len(COLOURS)]
         points = [(at[row[0]], low - 290 * row[3] / top) for row in rows if row[1] == command]
-        parts.append(f'<path d="M{" L".join(f"{x:.0f} {y:.0f}" for x, y in points)}" stroke="{colour}" fill="none" stroke-width="2"/>')
+        parts.append(
+            f'<path d="M{" L".join(f"{x:.0f} {y:.0f}" for x, y in points)}"'
+            f' stroke="{colour}" fill="none" stroke-width="2"/>'
+        )
         parts += [f'<circle cx="{x:.0f}" cy="{y:.0f}" r="3" fill="{colour}"/>' for x, y in points]
         parts.append(f'<text x="{wide - 165}" y="{40 + 18 * k}" style="fill:{colour}">{command}</text>')
     return "\n".join(parts + ["</svg>", ""])
@@ -158,10 +170,17 @@ def main():
     asked = words.parse_args()
     faulty = [work for work in asked.works if work not in WORKS]
     if faulty or not os.access(TOOL, os.X_OK):
-        sys.exit(f"no work {faulty[0]}" if faulty else "build the tool first: (cd crates/rtr && rt run -- record) < crates/rtr/stdin")
+        sys.exit(
+            f"no work {faulty[0]}"
+            if faulty
+            else "build the tool first: (cd crates/rtr && rt run -- record) < crates/rtr/stdin"
+        )
     resource.setrlimit(resource.RLIMIT_CORE, (0, 0))
     rows = []
-    print("| work | command | retired | host instructions a retired one | user seconds | peak memory, KiB | bytes a 1,000 retired |")
+    print(
+        "| work | command | retired | host instructions a retired one"
+        " | user seconds | peak memory, KiB | bytes a 1,000 retired |"
+    )
     print("|---|---|---|---|---|---|---|", flush=True)
     with tempfile.TemporaryDirectory() as place:
         for work in asked.works or WORKS:

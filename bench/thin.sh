@@ -1,10 +1,11 @@
 #!/usr/bin/env bash
-# Measures `thin` on the greatest regulated logs that it tries: 4,096 vectors of sixteen positions between two cores that jump in
-# place, once all from core 0, and once by turns. Each is needed, so each trial goes through the whole log.
+# Measures `thin` on the greatest regulated logs that it tries: 4,096 vectors of sixteen positions between two cores
+# that jump in place, once all from core 0, and once by turns. Each is needed, so each trial goes through the whole log.
 #
 #   bench/thin.sh
 #
-# For each it prints a line: which, the seconds of processor time, the peak memory in KiB, and the bytes of input and of output.
+# For each it prints a line: which, the seconds of processor time, the peak memory in KiB,
+# and the bytes of input and of output.
 set -eu
 cd "$(dirname "$0")/.."
 . bench/measure.sh

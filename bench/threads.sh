@@ -1,7 +1,8 @@
 #!/usr/bin/env bash
 # Measures the replay on threads: how long `replay` takes alone, and with 1, 2, 4 and 8 threads.
 #
-#   bench/threads.sh [TIMES]              each is taken so many times (7 where the word is missing), and the least is told
+#   bench/threads.sh [TIMES]              each is taken so many times (7 where the word is missing),
+#                                         and the least is told
 #
 # The works are two cores that take Peterson's lock 500 times (they wait for each other all the time), and cores that
 # each count up a word of their own, and every eighth (counters), 64th or 512th time (loners) a word of all; of these

@@ -4,9 +4,9 @@
 usage: bench/versions.py [--tool COMMAND] [PROGRAM CORES ROUNDS].. [--migrate]
 
 PROGRAM is `peterson` (two cores that take Peterson's lock), `lock` (any number of cores that take a lock by an atomic
-swap) or `apart` (each core counts up a word of its own, and adds to a shared one at its end). Where none is named,
-the table of docs/MEASURED.md is measured. For each it prints a line with the cores, the instructions that retired, the edges of
-the reduced log, the bytes of version 1 and of version 2, and both for each 1,000 instructions.
+swap) or `apart` (each core counts up a word of its own, and adds to a shared one at its end). Where none is named, the
+table of docs/MEASURED.md is measured. For each it prints a line with the cores, the instructions that retired, the
+edges of the reduced log, the bytes of version 1 and of version 2, and both for each 1,000 instructions.
 
 The tool writes version 2. What version 1 takes is worked out here from the same edges, laid out by pair; of more than
 eight cores version 1 has no recordings, and the number is what its layout would take. With --migrate the tool is

@@ -1,8 +1,8 @@
 # Three cores meet at a barrier: each stores its number and one more, comes to the barrier by an AMO, waits until all
 # have come, and then loads what its neighbour stored.
 #
-# What to look at: each load gives what was stored, under every schedule. The edges between the AMOs and the loads of the
-# barrier's word imply the order of each store and the neighbour's load, so that these need no edge of their own.
+# What to look at: each load gives what was stored, under every schedule. The edges between the AMOs and the loads of
+# the barrier's word imply the order of each store and the neighbour's load, so that these need no edge of their own.
 #
 #   rtr run --cores 3 --words 64 --seed 1 --loads
 

@@ -1,17 +1,21 @@
 #!/usr/bin/env python3
 """Tries the tool on hostile inputs and on refused memory.
 
-  tests/hostile.py bytes [INPUTS [SEED]]   damaged recordings, certificates, ELF files and images (10,000 of them where no number is
-                                           given), each to every command that reads one
+  tests/hostile.py bytes [INPUTS [SEED]]   damaged recordings, certificates, ELF files and images (10,000 of them where
+                                           no number is given), each to every command that reads one
   tests/hostile.py large [MEBIBYTES]       recordings of so many MiB (64) with the worst counts: seconds and peak memory
-  tests/hostile.py growth                  the same at 4, 8, 16 and 32 MiB: the time of each is to be about twice that before
-  tests/hostile.py memory                  a short run, its replay, certificate and check, each with every allocation failing in turn
-  tests/hostile.py try [CALLS]             the same by `rt try --fail-alloc`, for the allocations of these numbers (1 2 4 8)
-  tests/hostile.py again [CALLS]           tests that make what found no memory once more, with these allocations failing (1 2 4 8)
+  tests/hostile.py growth                  the same at 4, 8, 16 and 32 MiB:
+                                           the time of each is to be about twice that before
+  tests/hostile.py memory                  a short run, its replay, certificate and check,
+                                           each with every allocation failing in turn
+  tests/hostile.py try [CALLS]             the same by `rt try --fail-alloc`,
+                                           for the allocations of these numbers (1 2 4 8)
+  tests/hostile.py again [CALLS]           tests that make what found no memory once more,
+                                           with these allocations failing (1 2 4 8)
 
-But for `again` it needs the built tool (crates/rtr/out/rtr, or the one that $RTR names), a C compiler for `memory`, and Debian's
-time for `large` and `growth`. It ends with status 1 where a run crashed, hung, ended with a status outside the table, or told or
-gave what its status doesn't allow, and where a test failed.
+But for `again` it needs the built tool (crates/rtr/out/rtr, or the one that $RTR names), a C compiler for `memory`, and
+Debian's time for `large` and `growth`. It ends with status 1 where a run crashed, hung, ended with a status outside the
+table, or told or gave what its status doesn't allow, and where a test failed.
 """
 import os
 import random
@@ -60,13 +64,23 @@ READERS = [
     ["checkthin"],
     ["tsoreplay", "--loads"],
 ]
-ELF_READERS = [["run", "--elf", "--words", "64", "--limit", "200"], ["record", "--elf", "--cores", "2", "--words", "64", "--limit", "200"]]
-IMAGE_READERS = [["tsorun", "--cores", "3", "--words", "64", "--limit", "200"], ["tsorecord", "--cores", "3", "--words", "64", "--limit", "200"], ["run", "--cores", "3", "--words", "64", "--limit", "200"], ["record", "--cores", "3", "--words", "64", "--limit", "200"]]
+ELF_READERS = [
+    ["run", "--elf", "--words", "64", "--limit", "200"],
+    ["record", "--elf", "--cores", "2", "--words", "64", "--limit", "200"],
+]
+IMAGE_READERS = [
+    ["tsorun", "--cores", "3", "--words", "64", "--limit", "200"],
+    ["tsorecord", "--cores", "3", "--words", "64", "--limit", "200"],
+    ["run", "--cores", "3", "--words", "64", "--limit", "200"],
+    ["record", "--cores", "3", "--words", "64", "--limit", "200"],
+]
 
 HANDED_OVER = bytes.fromhex("631a0500 93027000 23205004 03230004 73000000 83230004 2320a004 73000000")
 HANDED_OVER_OPTIONS = ["--cores", "2", "--words", "32", "--choices", "00000001010101010101010101010101"]
 # Two cores with store buffers that each load 0 past the other's store.
-BUFFERED = bytes.fromhex("52545203 02 904e 20 1c 13134500 93431500 13944300 93041000 23209304 83250404 73000000 0707 00 00 010600 010600")
+BUFFERED = bytes.fromhex(
+    "52545203 02 904e 20 1c 13134500 93431500 13944300 93041000 23209304 83250404 73000000 0707 00 00 010600 010600"
+)
 OLD_RECORDING = bytes.fromhex("52545201 02 904e 10 0c 93025500 23205002 73000000 0303 010202 00 01010202 00")
 
 
@@ -79,7 +93,9 @@ class Run:
             given.seek(0)
             files = [(os.POSIX_SPAWN_DUP2, file.fileno(), to) for to, file in enumerate((given, out, err))]
             start = time.monotonic()
-            pid = os.posix_spawn(TOOL, [TOOL] + words, os.environ if environment is None else environment, file_actions=files)
+            pid = os.posix_spawn(
+                TOOL, [TOOL] + words, os.environ if environment is None else environment, file_actions=files
+            )
             signal.signal(signal.SIGALRM, lambda _signal, _frame: os.kill(pid, signal.SIGKILL))
             signal.setitimer(signal.ITIMER_REAL, seconds)
             _, status = os.waitpid(pid, 0)
@@ -172,7 +188,15 @@ def counted(rng, data, others):
     """A number in the place of a byte: huge, over, longer than need be, or an edge of a range."""
     place = rng.randrange(len(data) + 1)
     count = rng.choice(
-        [number(2**32 - 1), number(2**32), b"\x80\x80\x80\x80\x10", b"\x81\x00", number(2**31), number(1000001), number(65536)]
+        [
+            number(2**32 - 1),
+            number(2**32),
+            b"\x80\x80\x80\x80\x10",
+            b"\x81\x00",
+            number(2**31),
+            number(1000001),
+            number(65536),
+        ]
         + [number(rng.randrange(2**32)), number(rng.randrange(300)), b"\x00", b"\x01", b"\xff"]
     )
     return data[:place] + count + data[place + 1 :]
@@ -264,10 +288,11 @@ def hostile_bytes(count, seed):
 
 
 def edge_counts(size):
-    """A recording with as many edges as about so many bytes hold, each of three bytes: every instruction of a core has an edge from
-    each other core."""
+    """A recording with as many edges as about so many bytes hold, each of three bytes: every instruction of a
+    core has an edge from each other core."""
     cores, limit = 16, 250_000
-    head = b"RTR\x02" + number(cores) + number(limit) + number(4) + number(4) + bytes.fromhex("73000000") + number(limit) * cores
+    image, totals = bytes.fromhex("73000000"), number(limit) * cores
+    head = b"RTR\x02" + number(cores) + number(limit) + number(4) + number(4) + image + totals
     parts, left = [head], size - len(head)
     for target in range(cores):
         sources = [s for s in range(cores) if s != target]
@@ -281,7 +306,8 @@ def edge_counts(size):
 def vector_counts(size):
     """The same with vectors of one position, of three to seven bytes each."""
     cores, limit = 16, 250_000
-    head = b"RTR\x02" + number(cores) + number(limit) + number(4) + number(4) + bytes.fromhex("73000000") + number(limit) * cores
+    image, totals = bytes.fromhex("73000000"), number(limit) * cores
+    head = b"RTR\x02" + number(cores) + number(limit) + number(4) + number(4) + image + totals
     parts, left = [head, bytes(cores)], size - len(head)
     vectors = [b"\x01" + number(k) * 2 for k in range(1, limit + 1)]
     whole = b"".join(vectors)
@@ -308,7 +334,10 @@ def measured(words, place):
     start = time.monotonic()
     with open(place, "rb") as given, open(out, "wb") as output, open(err, "wb") as report_file:
         status = subprocess.run(
-            ["/usr/bin/time", "-q", "-f", "%M", "-o", told, TOOL] + words, stdin=given, stdout=output, stderr=report_file
+            ["/usr/bin/time", "-q", "-f", "%M", "-o", told, TOOL] + words,
+            stdin=given,
+            stdout=output,
+            stderr=report_file,
         ).returncode
     seconds = time.monotonic() - start
     with open(told) as file:
@@ -329,8 +358,8 @@ def large(mebibytes):
                 if status not in REPORTS or not told.startswith(REPORTS[status]):
                     wrong.append(f"{shape} {' '.join(words)}: status {status}, report {told!r}")
                 print(
-                    f"{shape} {size} {' '.join(words)} {status} {seconds:.2f} {peak / 1024:.0f} {peak * 1024 / size:.2f}"
-                    f" {output / 2**20:.0f}",
+                    f"{shape} {size} {' '.join(words)} {status} {seconds:.2f}"
+                    f" {peak / 1024:.0f} {peak * 1024 / size:.2f} {output / 2**20:.0f}",
                     flush=True,
                 )
     return report(wrong)
@@ -355,7 +384,8 @@ PRELOAD = r"""
 #include <errno.h>
 #include <stdlib.h>
 #include <unistd.h>
-extern void *__libc_malloc(size_t), *__libc_calloc(size_t, size_t), *__libc_realloc(void *, size_t), *__libc_memalign(size_t, size_t);
+extern void *__libc_malloc(size_t), *__libc_calloc(size_t, size_t), *__libc_realloc(void *, size_t),
+    *__libc_memalign(size_t, size_t);
 static long calls, failing = -2;
 /* Counts a call that takes memory, and answers whether it is to fail; then a byte goes to descriptor 9. */
 static int fails(void) {
@@ -370,7 +400,11 @@ void *calloc(size_t k, size_t n) { return fails() ? 0 : __libc_calloc(k, n); }
 void *realloc(void *p, size_t n) { return fails() ? 0 : __libc_realloc(p, n); }
 void *memalign(size_t a, size_t n) { return fails() ? 0 : __libc_memalign(a, n); }
 void *aligned_alloc(size_t a, size_t n) { return fails() ? 0 : __libc_memalign(a, n); }
-int posix_memalign(void **p, size_t a, size_t n) { if (fails()) return ENOMEM; *p = __libc_memalign(a, n); return *p ? 0 : ENOMEM; }
+int posix_memalign(void **p, size_t a, size_t n) {
+    if (fails()) return ENOMEM;
+    *p = __libc_memalign(a, n);
+    return *p ? 0 : ENOMEM;
+}
 """
 
 
@@ -378,7 +412,11 @@ def rows():
     """The commands of a short run that was handed over, their inputs and their answers."""
     recording = ask(["record"] + HANDED_OVER_OPTIONS, HANDED_OVER)
     certificate = ask(["certify"], recording)
-    row = [(["record"] + HANDED_OVER_OPTIONS, HANDED_OVER), (["run"] + HANDED_OVER_OPTIONS, HANDED_OVER), (["print"], recording)]
+    row = [
+        (["record"] + HANDED_OVER_OPTIONS, HANDED_OVER),
+        (["run"] + HANDED_OVER_OPTIONS, HANDED_OVER),
+        (["print"], recording),
+    ]
     row += [(["replay"], recording), (["replay", "--threads", "2"], recording), (["migrate"], OLD_RECORDING)]
     row += [(["certify"], recording), (["check"], certificate), (["tsoreplay", "--loads"], BUFFERED)]
     row += [([word] + HANDED_OVER_OPTIONS, HANDED_OVER) for word in ("tsorun", "tsorecord")]
@@ -409,7 +447,10 @@ def refused_memory():
                     wrong.append(f"{' '.join(words)}, call {call} refused: {run.fault() or f'status {run.status}'}")
                 refused += run.status == 10
                 answered += run.status == 0
-            print(f"{words[0]} {' '.join(words[1:3])}: {refused} runs ended out of memory, {answered} with the answer", flush=True)
+            print(
+                f"{words[0]} {' '.join(words[1:3])}: {refused} runs ended out of memory, {answered} with the answer",
+                flush=True,
+            )
     return report(wrong)
 
 
@@ -438,7 +479,9 @@ def made_again(calls):
             command = ["rt", "try", "--test", "--fail-alloc", call]
             run = subprocess.run(command, cwd=os.path.join(TOP, "crates", crate), capture_output=True)
             told = [line.split() for line in (run.stdout + run.stderr).decode(errors="replace").splitlines()]
-            tests = [line for line in told if line[:1] == ["test"] and line[1].startswith(front) and line[1] != "result:"]
+            tests = [
+                line for line in told if line[:1] == ["test"] and line[1].startswith(front) and line[1] != "result:"
+            ]
             passed = [line for line in tests if line[-1] == "ok"]
             print(f"{crate} with allocation {call} failing: {len(passed)} of {len(tests)} tests passed", flush=True)
             if not tests or len(passed) < len(tests):

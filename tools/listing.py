@@ -11,7 +11,8 @@ SOURCE = re.compile(r"(\S.*):(\d+)(?: \(.*\))?$")
 
 
 def flat_image(file):
-    """The segments of an ELF32 file at their addresses, and where it doesn't begin at address 0 a jump to its entry there."""
+    """The segments of an ELF32 file at their addresses,
+    and where it doesn't begin at address 0 a jump to its entry there."""
     if len(file) < 52 or file[:6] != b"\x7fELF\x01\x01":
         raise ValueError("not an ELF32 file")
     entry, table = struct.unpack_from("<II", file, 24)
@@ -43,8 +44,8 @@ def listed(words):
 
 
 class Program:
-    """A program: its flat image; and for each address the text of the instruction there, and its source line, which are empty where no
-    objdump for RISC-V is installed."""
+    """A program: its flat image; and for each address the text of the instruction there, and its source line, which are
+    empty where no objdump for RISC-V is installed."""
 
     def __init__(self, path, is_elf):
         with open(path, "rb") as it:
