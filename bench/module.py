@@ -3,6 +3,7 @@
 It is imported, not run. The tool's crates have to be proved (`cd crates/rtr && rt run -- record < stdin`). No proof is
 done again: a copy of the kit's commands builds the tool once more, by a clang that keeps what it is handed.
 """
+import filecmp
 import os
 import re
 import shutil
@@ -11,7 +12,8 @@ import sys
 
 TOP = os.path.dirname(os.path.dirname(os.path.abspath(__file__)))
 CRATE = f"{TOP}/crates/rtr"
-KIT = os.path.dirname(os.path.dirname(os.path.realpath(shutil.which("rt") or "rt")))
+RT = shutil.which("rt") or sys.exit("rt, the kit's command, isn't on the path")
+KIT = os.path.dirname(os.path.dirname(os.path.realpath(RT)))
 KEEPER = """#!/bin/sh
 for word in "$@"; do
   case $word in *.bc) cp "$word" '{folder}/module.bc' && printf '%s\\n' "$@" > '{folder}/words' ;; esac
@@ -26,10 +28,11 @@ MADE_FOR = re.compile(r"::<.*")
 
 def done(words, **how):
     """What a command prints, which has to end well."""
-    ran = subprocess.run(words, stdout=subprocess.PIPE, stderr=subprocess.STDOUT, text=True, check=False, **how)
+    ran = subprocess.run(words, stdout=subprocess.PIPE, stderr=subprocess.STDOUT, check=False, **how)
+    told = ran.stdout.decode(errors="replace")
     if ran.returncode:
-        sys.exit(f"{' '.join(words)[:200]}:\n{ran.stdout}")
-    return ran.stdout
+        sys.exit(f"{' '.join(words)[:200]}:\n{told}")
+    return told
 
 
 def linked(origin, place, but):
@@ -41,8 +44,12 @@ def linked(origin, place, but):
 
 def keep_module(folder):
     """Builds the tool by a kit whose clang keeps its module and its words in the folder."""
+    stamp = f"{CRATE}/out/rtr.stamp"
+    if not os.path.exists(stamp):
+        sys.exit("build the tool first: (cd crates/rtr && rt run -- record) < crates/rtr/stdin")
     kit = f"{folder}/kit"
     shutil.rmtree(kit, ignore_errors=True)
+    # The commands find their kit by where they lie themselves: so they are copied, and all else is linked.
     linked(KIT, kit, ["bin", "toolchain"])
     shutil.copytree(f"{KIT}/bin", f"{kit}/bin")
     linked(f"{KIT}/toolchain", f"{kit}/toolchain", ["bin"])
@@ -50,30 +57,30 @@ def keep_module(folder):
     with open(f"{kit}/toolchain/bin/clang", "w", encoding="utf-8") as file:
         file.write(KEEPER.format(folder=folder, kit=KIT))
     os.chmod(file.name, 0o755)
-    # Without this stamp the program is built again.
-    os.remove(f"{CRATE}/out/rtr.stamp")
+    # Without this stamp the program is built again, where it lies.
+    os.remove(stamp)
     with open(f"{CRATE}/stdin", "rb") as given:
-        words = [f"{kit}/bin/rt", "run", "--", "record"]
-        subprocess.run(words, cwd=CRATE, stdin=given, capture_output=True, check=True)
+        done([f"{kit}/bin/rt", "run", "--", "record"], cwd=CRATE, stdin=given)
 
 
 def compiled(folder, given, made, kind=("-c",)):
     """Compiles a module by the words that the tool's was compiled by, to this kind."""
     with open(f"{folder}/words", encoding="utf-8") as file:
         words = file.read().split("\n")[:-1]
+    # They are `.. -c -x ir MODULE -o OBJECT ..`: kind, module and object are taken out, and the new ones put in.
     at = words.index("-o")
     words = [it for it in [*words[: at - 1], *words[at + 2 :]] if it != "-c"]
     at = words.index("ir") + 1
     done([f"{KIT}/toolchain/bin/clang", *kind, *words[:at], given, "-o", made, *words[at:]], cwd=folder)
 
 
-def module(folder):
-    """The lines of the tool's module."""
-    text = f"{folder}/module.ll"
-    if not os.path.exists(f"{folder}/module.bc"):
+def module_lines(folder):
+    """The lines of the module of the tool as it is built now."""
+    text, tool = f"{folder}/module.ll", f"{folder}/rtr"
+    if not (os.path.exists(tool) and filecmp.cmp(tool, f"{CRATE}/out/rtr", shallow=False)):
         keep_module(folder)
-    if not os.path.exists(text):
         compiled(folder, f"{folder}/module.bc", text, ("-S", "-emit-llvm", "-Xclang", "-disable-llvm-passes"))
+        shutil.copy(f"{CRATE}/out/rtr", tool)
     with open(text, encoding="utf-8") as file:
         return file.read().split("\n")
 

@@ -3,17 +3,19 @@
 
 usage: bench/parts.py FOLDER
 
-It gives each function of the proved tool's module a line of its own, as its place, and looks that this leaves the
+It gives each function of the proved tool's module a line of its own, as its place, and checks that this leaves the
 machine code as it is. Then callgrind counts each instruction, and `addr2line` tells from which functions the compiler
-put it together. An instruction counts for the innermost of these that a part names. FOLDER is for what it makes, and
+made it. An instruction counts for the innermost of these that a part names. FOLDER is for what it makes, and
 can be used again. It needs Debian's valgrind and binutils. It prints the rows of a table, in millions: a part, the lock
 of 500 rounds on two cores, and mix 3 on eight and on sixteen.
 """
 import os
 import re
+import subprocess
 import sys
 
-from module import CRATE, defined, done, module, program
+sys.dont_write_bytecode = True
+from module import CRATE, defined, done, module_lines, program  # noqa: E402
 
 LOCK, MIX = "--shape lock --number 500", "--shape mix --number 3"
 WORKS = [
@@ -66,9 +68,9 @@ PARTS = [
 MEMORY = "memory taken, cleared and copied"
 OF_MEMORY = re.compile(r"mem(set|cpy|move)|alloc|free|brk|mmap|munmap|mremap")
 REST = "the rest, with the loader"
-# Numbers of places that the module doesn't use.
+# The numbers of places are above those that the module uses, which the compiler would refuse twice.
 BASE = 100000
-HEAD = """!llvm.module.flags = !{!90000, !90001}
+DEBUG_INFO = """!llvm.module.flags = !{!90000, !90001}
 !llvm.dbg.cu = !{!90002}
 !90000 = !{i32 2, !"Debug Info Version", i32 3}
 !90001 = !{i32 7, !"Dwarf Version", i32 4}
@@ -92,7 +94,7 @@ def placed(lines):
             line += "" if open_list else f", !dbg !{BASE + 2 * len(names) + 1}"
         inside = inside and line != "}"
         made.append(line)
-    return made + HEAD + [it for k in range(1, len(names) + 1) for it in place(k)], names
+    return made + DEBUG_INFO + [it for k in range(1, len(names) + 1) for it in place(k)], names
 
 
 def place(k):
@@ -106,16 +108,16 @@ def place(k):
 
 def counted(folder, tool, work, shape, options):
     """Callgrind's counts of a work: of the tool's by address, and of the libraries' by function."""
-    with open(f"{folder}/{work}.image", "wb") as file:
-        done(["sh", "-c", f"'{tool}' gen {shape} > '{file.name}'"])
+    image = subprocess.run([tool, "gen", *shape.split()], stdout=subprocess.PIPE, check=True).stdout
     kept = f"{folder}/{work}.callgrind"
-    count = f"valgrind --tool=callgrind --dump-instr=yes --dump-line=no --callgrind-out-file='{kept}'"
-    done(["sh", "-c", f"{count} '{tool}' record {options} < '{folder}/{work}.image' > '{folder}/{work}.recording'"])
+    count = ["valgrind", "--tool=callgrind", "--dump-instr=yes", "--dump-line=no", f"--callgrind-out-file={kept}"]
+    subprocess.run([*count, tool, "record", *options.split()], input=image, capture_output=True, check=True)
     with open(kept, encoding="utf-8") as file:
         return counts_of(file, tool)
 
 
 def counts_of(lines, tool):
+    """The counts of callgrind's file: of the tool's instructions by address, and of others by function."""
     own, others, names, last = {}, {}, {}, 0
     of, skip = {"ob": "", "fn": ""}, False
     for line in lines:
@@ -144,10 +146,12 @@ def counts_of(lines, tool):
 
 def chains(folder, tool, addresses, names):
     """For each address the functions that its instruction was written in, the innermost first."""
-    with open(f"{folder}/addresses", "w", encoding="ascii") as file:
+    with open(f"{folder}/addresses", "w+", encoding="ascii") as file:
         file.write("\n".join(map(hex, addresses)))
+        file.seek(0)
+        told = done(["addr2line", "-a", "-f", "-i", "-e", tool], stdin=file)
     found, chain = {}, []
-    for line in done(["sh", "-c", f"addr2line -a -f -i -e '{tool}' < '{file.name}'"]).split("\n"):
+    for line in told.split("\n"):
         if line.startswith("0x"):
             chain = found.setdefault(int(line, 16), [])
         elif re.fullmatch(r"f\d+", line):
@@ -164,33 +168,46 @@ def part_of(chain):
     return next(fits, REST)
 
 
-def code(folder, program):
+def code(folder, path):
     """The bytes of a program's machine code."""
-    done(["objcopy", "-O", "binary", "-j", ".text", program, f"{folder}/code"])
+    done(["objcopy", "-O", "binary", "-j", ".text", path, f"{folder}/code"])
     with open(f"{folder}/code", "rb") as file:
         return file.read()
 
 
-def main():
-    if len(sys.argv) != 2:
-        sys.exit(__doc__)
-    folder = os.path.abspath(sys.argv[1])
-    os.makedirs(folder, exist_ok=True)
-    lines, names = placed(module(folder))
-    tool = program(folder, "placed", lines)
-    if code(folder, tool) != code(folder, f"{CRATE}/out/rtr"):
-        sys.exit("the machine code with places isn't that of the tool")
-    counts = [counted(folder, tool, *work) for work in WORKS]
-    found = chains(folder, tool, sorted(set().union(*(own for own, _ in counts))), names)
-    rows = {part: [0] * len(WORKS) for part, _ in WHOLE + PARTS} | {MEMORY: [0] * len(WORKS), REST: [0] * len(WORKS)}
+def rows_of(counts, found):
+    """For each part its instructions in each work."""
+    rows = {part: [0] * len(WORKS) for part in [part for part, _ in WHOLE + PARTS] + [MEMORY, REST]}
     for k, (own, others) in enumerate(counts):
         for address, count in own.items():
             rows[part_of(found[address])][k] += count
         for name, count in others.items():
             rows[MEMORY if OF_MEMORY.search(name) else REST][k] += count
+    return rows
+
+
+def main():
+    """Prints the rows."""
+    if len(sys.argv) != 2:
+        sys.exit(__doc__)
+    # Callgrind tells a program by its path without links.
+    folder = os.path.realpath(sys.argv[1])
+    os.makedirs(folder, exist_ok=True)
+    lines, names = placed(module_lines(folder))
+    tool = program(folder, "placed", lines)
+    if code(folder, tool) != code(folder, f"{CRATE}/out/rtr"):
+        sys.exit("the machine code with places isn't that of the tool")
+    counts = [counted(folder, tool, *work) for work in WORKS]
+    found = chains(folder, tool, sorted(set().union(*(own for own, _ in counts))), names)
+    rows = rows_of(counts, found)
+    for part, row in rows.items():
+        # A function that its part's pattern fits may have another name by now.
+        if not any(row):
+            sys.exit(f"no instruction counts for: {part}")
     rows["all"] = [sum(column) for column in zip(*rows.values())]
     for part, row in rows.items():
         print(f"| {part} | {' | '.join(f'{count / 1e6:.1f}' for count in row)} |")
 
 
-main()
+if __name__ == "__main__":
+    main()

@@ -1,5 +1,5 @@
 #!/usr/bin/env python3
-"""Measures every command on every work, as a table for docs/MEASURED.md, and draws how the cost grows.
+"""Measures every command on every work, to compare two builds by, and draws how the cost grows.
 
 usage: bench/table.py [--svg FILE] [--times N] [WORK..]
 

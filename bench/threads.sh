@@ -8,7 +8,8 @@
 # each count up a word of their own, and every eighth (counters), 64th or 512th time (loners) a word of all; of these
 # each core retires 100,000 instructions; and mix 3 of `rtr gen` on four cores. For each work and each log (LOGS says
 # which, both where it is missing) it prints a line: the work, how many cores, the log, and the seconds alone and with
-# 1, 2, 4 and 8 threads. A machine of fewer processors than threads shows no gain by them.
+# 1, 2, 4 and 8 threads. A machine of fewer processors than threads shows no gain by them. With COUNTS=1 it prints the
+# millions of host instructions in place of the seconds, by callgrind, alone and with one thread.
 set -eu
 cd "$(dirname "$0")/.."
 times=${1:-7}
@@ -24,10 +25,20 @@ least() {
   done | sort -n | sed -n '1s/$/ \/ 1000000/p' | bc -l | cut -c1-6
 }
 
+# The millions of host instructions that a command takes on the recording.
+millions() {
+  words=$*
+  echo "scale=2; $(host "$place/recording") / 1000000" | bc
+}
+
 # A line for each log of a work: its name, its cores, and the options of the recording.
 work() {
   "$tool" record --cores "$2" --limit 100000 --words 2048 --seed 7 < "$place/image" > "$place/recording"
   for log in ${LOGS:-reduced regulated}; do
+    if [ -n "${COUNTS:-}" ]; then
+      echo "$1 $2 $log $(millions replay --log $log) $(millions replay --log $log --threads 1)"
+      continue
+    fi
     line="$1 $2 $log $(least replay --log $log)"
     cp "$place/out" "$place/alone"
     for threads in 1 2 4 8; do
@@ -38,7 +49,7 @@ work() {
   done
 }
 
-echo "work cores log alone 1 2 4 8"
+[ -n "${COUNTS:-}" ] && echo "work cores log alone 1" || echo "work cores log alone 1 2 4 8"
 lock 500 > "$place/image"
 work lock 2
 counters > "$place/image"

@@ -6,7 +6,8 @@ usage: bench/versions.py [--tool COMMAND] [PROGRAM CORES ROUNDS].. [--migrate]
 PROGRAM is `peterson` (two cores that take Peterson's lock), `lock` (any number of cores that take a lock by an atomic
 swap) or `apart` (each core counts up a word of its own, and adds to a shared one at its end). Where none is named, the
 table of docs/MEASURED.md is measured. For each it prints a line with the cores, the instructions that retired, the
-edges of the reduced log, the bytes of version 1 and of version 2, and both for each 1,000 instructions.
+edges of the reduced log, the vectors of the regulated one, the bytes of version 1 and of version 2, and both for each
+1,000 instructions.
 
 The tool writes version 2. What version 1 takes is worked out here from the same edges, laid out by pair; of more than
 eight cores version 1 has no recordings, and the number is what its layout would take. With --migrate the tool is
@@ -14,11 +15,13 @@ asked to migrate those bytes, which must give what it recorded. It needs the bui
 """
 import argparse
 import pathlib
+import re
 import shlex
 import subprocess
 import sys
 
-TABLE = [("peterson", 2, 100), ("lock", 8, 20), ("lock", 16, 20), ("apart", 8, 100), ("apart", 16, 100)]
+TABLE = [("peterson", 2, rounds) for rounds in (10, 100, 500, 1000)]
+TABLE += [("lock", 8, 20), ("lock", 16, 20), ("apart", 8, 100), ("apart", 16, 100)]
 OLD_CORES_MAX = 8
 
 
@@ -154,13 +157,14 @@ def main():
     def ask(words, data):
         return subprocess.run([*tool, *words], input=data, stdout=subprocess.PIPE, check=True).stdout
 
-    print("program cores retired edges version-1 version-2 version-1/1,000 version-2/1,000", flush=True)
+    print("program cores retired edges vectors version-1 version-2 version-1/1,000 version-2/1,000", flush=True)
     for name, cores, rounds in rows:
         words = f"record --cores {cores} --limit 100000 --words 256 --seed 7".split()
         new = ask(words, image_of(PROGRAMS[name](rounds)))
         old, retired, edges = by_pair(new)
+        vectors = re.search(rb"regulated (\d+) vectors", ask(["print"], new))[1].decode()
         each = [f"{1000 * len(data) / retired:.0f}" for data in (old, new)]
-        print(name, cores, retired, edges, len(old), len(new), *each, flush=True)
+        print(name, cores, retired, edges, vectors, len(old), len(new), *each, flush=True)
         if arguments.migrate and cores <= OLD_CORES_MAX and ask(["migrate"], old) != new:
             sys.exit(f"{name}: what version 1 migrates to is not what was recorded")
 

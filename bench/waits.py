@@ -15,16 +15,20 @@ import statistics
 import subprocess
 import sys
 
-from module import CRATE, TOP, defined, module, program
+sys.dont_write_bytecode = True
+from module import CRATE, TOP, defined, module_lines, program  # noqa: E402
 
 TOOL = f"{CRATE}/out/rtr"
 AWAIT = "replay_threads::waits::await_source"
+# The closure that does a group's work in a round.
 GROUP = "replay_threads::groups::fn::one_round::for_each_mut"
 ROUND = "replay_threads::groups::one_round"
-IN_ORDER = [AWAIT, "replay_threads::waits::look", "replay_table::table::ReplayTable::publish", "given up"]
-IN_ORDER += ["core::sync::yield_now", ROUND]
-GIVEN_UP = IN_ORDER.index("given up")
-COUNTS = len(IN_ORDER)
+# What is counted, by columns: how often each of these functions is called, and, by "given up", how often a wait ends in
+# vain. A thread is yielded only after a pass in which a group sees nothing.
+COUNTED = [AWAIT, "replay_threads::waits::look", "replay_table::table::ReplayTable::publish", "given up"]
+COUNTED += ["core::sync::yield_now", ROUND]
+GIVEN_UP = COUNTED.index("given up")
+COUNTS = len(COUNTED)
 LIST = f"[{COUNTS} x i64]"
 FORM = f"counts{' %ld' * COUNTS}\\0A\\00"
 DECLARED = [
@@ -69,19 +73,21 @@ def before(function, line, at):
 
 def with_counters(lines):
     """The module with its counters."""
+    missing = {*COUNTED, GROUP} - {"given up"} - {defined(line) for line in lines}
+    if missing:
+        sys.exit(f"the module has no {', '.join(missing)}")
     made, function, first = [], None, False
     for at, line in enumerate(lines):
         name = defined(line)
         if name:
-            made += [] if function or DECLARED[0] in made else DECLARED + ["", *add_up(), *tell()]
             function, first = name, True
         made += before(function, line, at) if function else []
         made.append(line)
         if first and re.match(r"[\w.]+:", line):
-            made += added("entered", IN_ORDER.index(function)) if function in IN_ORDER else []
+            made += added("entered", COUNTED.index(function)) if function in COUNTED else []
             first = False
         function = None if line == "}" else function
-    return made
+    return [*made, *DECLARED, "", *add_up(), *tell()]
 
 
 def add_up():
@@ -109,6 +115,7 @@ def tell():
 
 
 def told(words, given):
+    """What a program did, which has to end well."""
     return subprocess.run(words, input=given, capture_output=True, check=True)
 
 
@@ -117,17 +124,19 @@ def counts(tool, recording, threads, answer):
     ran = told([tool, "replay", "--threads", str(threads)], recording)
     if ran.stdout != answer:
         sys.exit("a replay on threads has another answer")
+    # Each round tells the sums so far, so the last line has them all.
     lines = [line for line in ran.stderr.decode().split("\n") if line.startswith("counts")]
     return [int(word) for word in lines[-1].split()[1:]]
 
 
 def main():
+    """Prints the rows."""
     if len(sys.argv) not in (2, 3):
         sys.exit(__doc__)
-    folder = os.path.abspath(sys.argv[1])
+    folder = os.path.realpath(sys.argv[1])
     times = int(sys.argv[2]) if len(sys.argv) == 3 else 11
     os.makedirs(folder, exist_ok=True)
-    tool = program(folder, "counted", with_counters(module(folder)))
+    tool = program(folder, "counted", with_counters(module_lines(folder)))
     for work, cores, made in WORKS:
         image = told(["bash", "-c", f"cd '{TOP}' && . bench/measure.sh && {made}"], b"").stdout
         options = f"--cores {cores} --limit 100000 --words 2048 --seed 7"
@@ -139,4 +148,5 @@ def main():
             print(f"| {work} | {cores} | {threads} | {' | '.join(medians)} |", flush=True)
 
 
-main()
+if __name__ == "__main__":
+    main()
