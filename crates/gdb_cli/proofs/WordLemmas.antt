@@ -37,8 +37,10 @@ module _ {F : Type 0} where
   memory_answers opens left_of faults_of words None left got read written = record {
     answers = answers_memory (moment_in words) left got;
     read_fault = λ is. search rules;
+    no_read_fault = inr refl;
     write_fault = λ is. search rules;
+    no_write_fault = inr refl;
     complete = λ moment bytes asked has accepts reads writes. inr refl;
   }
   memory_answers opens left_of faults_of words (Some which) left got read written =
-      inl (refl, keeps left, keeps got)
+      inl (refl, keeps left, keeps got, refl, refl)

@@ -38,25 +38,29 @@ pub record EndsBy (exit : Exit) (status : ℕ) (got got' : Option (List ℕ)) (f
   pub tells : Tells (fault_line exit) got got' faults faults'
 
 -- the exit of words that ask for this, by what became of input and output and of their counts of faults. A fault is
--- told only where the count of its stream rose; and of a recording that `rtr at` accepts a core file is made, unless
--- memory runs out or a stream fails
+-- told only where the count of its stream rose, and every other exit leaves that count as it was; and of a recording
+-- that `rtr at` accepts a core file is made, unless memory runs out or a stream fails
 pub record IsAnswerOf (asked : Option Moment) (exit : Exit) (left left' got got' : Option (List ℕ))
     (read read' written written' : ℕ) : Type 0 where
   pub answers : AnswersWords asked exit left left' got got'
   pub read_fault : exit ≡ exits.ReadFault → HasRisen read read'
+  pub no_read_fault : (exit ≡ exits.ReadFault) ⊎ (read' ≡ read)
   pub write_fault : exit ≡ exits.WriteFault → HasRisen written written'
+  pub no_write_fault : (exit ≡ exits.WriteFault) ⊎ (written' ≡ written)
   pub complete : (moment : Moment) (bytes : List ℕ) → asked ≡ Some moment
       → HasLeft (most_of (printed_by moment)) left bytes → Accepts (printed_by moment) bytes
       → IsFaultless read read' → IsFaultless written written' → EndsWell exit
 
 -- the exit of a session, by what became of the recording's source, of input and output, and of their counts of faults.
--- A fault is told only where the count of its stream rose; and on a recording that `rtr replay` accepts there is a
--- session to its end, unless memory runs out or a stream fails
+-- A fault is told only where the count of its stream rose, and every other exit leaves that count as it was; and on a
+-- recording that `rtr replay` accepts there is a session to its end, unless memory runs out or a stream fails
 pub record IsSessionOf (which : Which) (exit : Exit) (file file' left left' got got' : Option (List ℕ))
     (opened opened' read read' written written' : ℕ) : Type 0 where
   pub debugs : Debugs which exit file file' left left' got got'
   pub read_fault : exit ≡ exits.ReadFault → HasRisen opened opened' ⊎ HasRisen read read'
+  pub no_read_fault : (exit ≡ exits.ReadFault) ⊎ (opened' ≡ opened) × (read' ≡ read)
   pub write_fault : exit ≡ exits.WriteFault → HasRisen written written'
+  pub no_write_fault : (exit ≡ exits.WriteFault) ⊎ (written' ≡ written)
   pub complete : (bytes : List ℕ) → HasLeft (most_of (replayed_by which)) file bytes
       → Accepts (replayed_by which) bytes → IsFaultless opened opened' → IsFaultless read read'
       → IsFaultless written written' → EndsWell exit
@@ -70,13 +74,13 @@ module _ {F : Type 0} where
       (faults_of file') read read' written written'
 
   -- the exit of words that ask for a session, if they do, or else for a core file. Opening the file that the words name
-  -- comes to this one; before that memory may run out, and then nothing was heard or said
+  -- comes to this one; before that memory may run out, and then nothing was heard or said, and nothing failed
   abbrev pub IsAnswerIn : (opens : List ℕ → F → Type 0) (left_of : F → Option (List ℕ)) (faults_of : F → ℕ)
       → (words : List (List ℕ)) → (log : Option Which) → Exit → (left left' got got' : Option (List ℕ))
       (read read' written written' : ℕ) → Type 0
   IsAnswerIn opens left_of faults_of words None exit left left' got got' read read' written written' =
       IsAnswerOf (moment_in words) exit left left' got got' read read' written written'
   IsAnswerIn opens left_of faults_of words (Some which) exit left left' got got' read read' written written' =
-      ((exit ≡ exits.OutOfMemory) × Keeps left left' × Keeps got got')
+      ((exit ≡ exits.OutOfMemory) × Keeps left left' × Keeps got got' × (read' ≡ read) × (written' ≡ written))
       ⊎ ((file : F) × opens (file_name words) file
       × IsSessionIn left_of faults_of which exit file left left' got got' read read' written written')

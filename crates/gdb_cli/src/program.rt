@@ -1,5 +1,5 @@
 //! From the words of a command line and three streams to an exit status.
-ghost use Rattle.std.specs.Prelude.{IfErr, IfOk, map, string_bytes};
+ghost use Rattle.std.specs.Prelude.{◌≡◌, IfErr, IfOk, map, string_bytes};
 ghost use Rattle.std.specs.Io.KnownBytes.{Keeps};
 ghost use Rattle.std.specs.Process.{exit_status};
 ghost use Rattle.std.specs.Fn.{FnOnceReturnsAt};
@@ -59,7 +59,8 @@ pub fn conclude<F: Source + Drop, P: FnOnce(&str) -> F, I: Source, O: Sink, E: S
     ensures wordless { IfErr words (λ exit. EndsBy exit (exit_status result) (E.got report.old) (E.got report.new)
         (E.faults report.old) (E.faults report.new)) }
     ensures untouched { IfErr words (λ _. Keeps (I.left input.old) (I.left input.new)
-        × Keeps (O.got output.old) (O.got output.new)) }
+        × Keeps (O.got output.old) (O.got output.new) × (I.faults input.new ≡ I.faults input.old)
+        × (O.faults output.new ≡ O.faults output.old)) }
 {
     let exit = match words {
         Ok(words) => run_debugger(alloc, words.as_slice(), opener, input, output, report),

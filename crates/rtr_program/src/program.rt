@@ -58,7 +58,8 @@ pub fn conclude<R: Threads + Wait + Sync, I: Source, O: Sink, E: Sink>(
     ensures wordless { IfErr words (λ exit. EndsBy exit (exit_status result) (E.got report.old) (E.got report.new)
         (E.faults report.old) (E.faults report.new)) }
     ensures untouched { IfErr words (λ _. Keeps (I.left input.old) (I.left input.new)
-        × Keeps (O.got output.old) (O.got output.new)) }
+        × Keeps (O.got output.old) (O.got output.new) × (I.faults input.new ≡ I.faults input.old)
+        × (O.faults output.new ≡ O.faults output.old)) }
 {
     let exit = match words {
         Ok(words) => {

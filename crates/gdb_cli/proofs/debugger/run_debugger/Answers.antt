@@ -17,7 +17,9 @@ returns-in-Ok-None-clause-answered g c =
     (g.O.Sink.faults c.write_core.new.output) is (record {
       answers = e.answered;
       read_fault = e.read_fault;
+      no_read_fault = e.no_read_fault;
       write_fault = e.write_fault;
+      no_write_fault = e.no_write_fault;
       complete = e.complete;
     })
 

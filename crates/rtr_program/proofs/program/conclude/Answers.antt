@@ -15,7 +15,8 @@ returns-clause-answered g c = elim c.match-words.branch [
           tells = e.told;
         },
         rw (sym w.as_slice.ensures.value)
-            (is_answer _ _ _ _ _ _ _ _ _ _ e.usage e.untouched e.answered e.read_fault e.write_fault e.complete),
+            (is_answer _ _ _ _ _ _ _ _ _ _ e.usage e.untouched e.answered e.read_fault e.no_read_fault
+            e.write_fault e.no_write_fault e.untaken e.complete),
       ))))
   | in-Err w ↦ rw w.in-Err.is tt
 ]
