@@ -1,5 +1,9 @@
-//! What travels with a block's copies, with the actors and with their messages, and who is told of
-//! each retirement.
+//! Instrumentation traits: metadata on a block's copies (`Rider`) and on agents (`Carry`), and the observer of
+//! retirements (`Clerk`). `Times` is the rider that records each word's last write and reads.
+//!
+//! Proved: what riders, carries and clerks compute is what their ghost members say; `NoRider` and `NoCarry` hold
+//! nothing. A rider is copied by a call whose clause is just that it is equal then. `Times` keeps each word's last
+//! write and reads by its calls' clauses. `TimesClerk` is the bound of the clerks that note with clocks.
 #![tactic(auto)]
 
 mod carry;

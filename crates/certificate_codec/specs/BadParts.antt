@@ -1,3 +1,4 @@
+-- Rule: the first part of a certificate that has no reading: CertificateNames
 -- The first part of a certificate that has no reading, in the grammar's own words: the parts below it are spelled by a
 -- front of the bytes, and no valid part follows there. The first five parts are a recording's, of either version.
 use Rattle.std.specs.Prelude.{◌≡◌, ◌≢◌, ℕ, ◌≤◌, ◌↔◌, List, [], ◌++◌, length, Err}

@@ -1,3 +1,4 @@
+-- Rule: the reading of a certificate: certificate_at
 -- Reading a certificate from left to right. A number that doesn't fit is a fault of the part in which it stands.
 use Rattle.std.specs.Prelude.{ℕ, List, Result, Ok, Err, nat_eq, if◌then◌else◌}
 use Rattle.race_log.specs.declared.recording.Recording.{Recording}

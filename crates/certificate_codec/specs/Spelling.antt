@@ -1,3 +1,4 @@
+-- Rule: the bytes of a certificate: Spells
 -- The spellings of certificates: the first five parts of a recording in either version, then the clocks.
 use Rattle.std.specs.Prelude.{◌≡◌, ℕ, List, ◌++◌, length}
 use Rattle.log_codec.specs.CoreCounts.{counts_text}

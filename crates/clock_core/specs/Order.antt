@@ -1,3 +1,4 @@
+-- Rule: what comes before by a log (happens-before): Before
 -- The order of instructions: program order, paths of edges, and what comes before what.
 use Rattle.std.specs.Prelude.{◌≡◌, ℕ, zero, suc, ◌-◌, ◌<◌, ◌⊎◌, ◌↔◌, List, [], ◌∷◌}
 use Rattle.std.specs.List.{Contains}

@@ -1,3 +1,4 @@
+-- Rule: good and exact entries, needed edges: AreGood, AreExact, IsNeeded
 -- Good, exact and needed, by the entries of instructions: a count of each core, for each instruction the last entry at
 -- or before it on its core.
 use Rattle.std.specs.Prelude.{◌≡◌, ◌≢◌, ℕ, ◌<◌, ◌≤◌, ◌⊎◌, List}

@@ -1,3 +1,4 @@
+-- Rule: conflict pairs: ConflictPair
 -- Conflict pairs of a list of accesses, the oldest first.
 use Rattle.std.specs.Prelude.{◌≡◌, ◌≢◌, ◌<◌, ◌≤◌, ◌⊎◌, List, [], ◌∷◌, ⊤, Bool, true, not, ◌&&◌, ◌||◌, nat_eq, nat_lt}
 use Rattle.std.specs.Prelude.{nat_le, IsTrue, length}

@@ -1,3 +1,4 @@
+-- Rule: sufficient, least, covering: Suffices, IsLeast, Covering
 -- The least set of conflict pairs that implies them all: Netzer's minimal trace, which is the transitive
 -- reduction of Aho, Garey and Ullman but for program order, which needs no edge.
 use Rattle.std.specs.Prelude.{◌≡◌, ℕ, ◌≤◌, ◌↔◌, List, Bool, nat_eq, ◌&&◌, count_by}

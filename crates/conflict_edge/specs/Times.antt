@@ -1,3 +1,4 @@
+-- Rule: exact clocks and times: IsExactClock, AreExactTimes
 -- Exact clocks and times, of a list of accesses in order.
 use Rattle.std.specs.Prelude.{◌≡◌, ◌≢◌, ℕ, ◌<◌, ◌⊎◌, ◌↔◌, List, reverse, Option, Some, None, slice_index, IsTrue, ⊤}
 use Rattle.std.specs.Option.{option_map}

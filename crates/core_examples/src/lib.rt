@@ -1,5 +1,7 @@
-//! Values from outside for the crates of one core: instruction words, images, ELF files, single instructions and
-//! generated programs. It has tests alone.
+//! Instruction words, images, ELF files, single instructions and generated programs, with values from outside. It has
+//! tests alone.
+//!
+//! Tested: `rv_decode`, `image_mem`, `image_elf`, `rv_core` and `trace_gen`, by calls with values from outside.
 #![tactic(auto)]
 
 #[cfg(test)]

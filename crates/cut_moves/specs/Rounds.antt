@@ -1,3 +1,4 @@
+-- Rule: the order of a run by rounds: timeline_of
 -- The timeline by rounds: in each round every core that is ready when the round begins retires one instruction, lower
 -- cores first.
 use Rattle.std.specs.Prelude.{◌≡◌, ℕ, zero, suc, ◌+◌, ◌<◌, true, false, List, [], ◌++◌, length, sum}

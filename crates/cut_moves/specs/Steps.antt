@@ -1,3 +1,4 @@
+-- Rule: a step and a step back: IsStep, IsStepBack, IsHull
 -- Moves from a closed cut to another: forward by one instruction of a core, and back.
 use Rattle.std.specs.Prelude.{◌≡◌, ℕ, ◌+◌, ◌<◌, List, slice_index}
 use Rattle.rtr_types.specs.declared.cut.Cut.{Cut}

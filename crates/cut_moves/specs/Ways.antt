@@ -1,3 +1,4 @@
+-- Rule: the way between two cuts: way_of
 -- The way between two cuts along a timeline: what the higher one has beyond the lower, in the timeline's order. Cuts
 -- are functions here, a count for each core.
 use Rattle.std.specs.Prelude.{◌≡◌, ℕ, ◌≤◌, Bool, true, false, ◌&&◌, nat_lt, nat_le, List, [], ◌∷◌}

@@ -1,3 +1,4 @@
+-- Rule: closed cuts, an instruction's two: IsClosed, IsLeastWith, IsGreatestWithout
 -- Cuts of a recording that are closed under one of its logs.
 use Rattle.std.specs.Prelude.{◌≡◌, ℕ, ◌<◌, ◌≤◌, length, slice_index}
 use Rattle.rtr_types.specs.declared.TheConstants.{CORES_MAX}

@@ -1,3 +1,4 @@
+-- Rule: the state at a closed cut: IsStateAt
 -- The state that a closed cut stands for.
 use Rattle.std.specs.Prelude.{◌≡◌, ℕ, List}
 use Rattle.rtr_types.specs.declared.cut.Cut.{Cut}

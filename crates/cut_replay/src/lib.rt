@@ -1,5 +1,11 @@
-//! Where a recorded run stood at one of its instructions: the cuts that obey a log, the least one with the
-//! instruction and the greatest one without it, and the state that such a cut stands for.
+//! Where a recorded run stood at an instruction: its two closed cuts (consistent global states), and the state at a
+//! closed cut. They are the least one with the instruction and the greatest one without it.
+//!
+//! Proved: of an audited recording, `cut_with` is closed under the log, holds the instruction, and is contained in
+//! every closed cut that holds it. `cut_without` is closed, doesn't hold it, and contains every closed cut that
+//! doesn't; neither is refused. `state_of` gives the cores, memory and loads of the play of every replay order whose
+//! counts are the cut's, and there is one. `has_instr` says whether the recording has the instruction. There is one cut
+//! of each kind, and one state (`one_cut_each`, `one_state`).
 #![tactic(auto)]
 
 mod closed_cuts;

@@ -1,6 +1,8 @@
-//! A recording whose logs were written by hand: moves from closed cut to closed cut, its timeline by rounds and the
-//! ways along it, replays under way that are looked at, what is asked of a word, and a core file. It has tests alone,
-//! and stands apart so that the crates above these don't wait for it.
+//! Moves of three cores by hand, their timeline by rounds, replays that are looked at, what is asked of a word and of
+//! conflicts, and a core file. It has tests alone, and stands apart so that the crates above these don't wait for it.
+//!
+//! Tested: `cut_moves`, `race_queries`, `core_file` and replays under way, on a recording whose logs were written by
+//! hand.
 #![tactic(auto)]
 
 #[cfg(test)]

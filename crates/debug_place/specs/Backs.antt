@@ -1,3 +1,4 @@
+-- Rule: the last stop of a way: IsLastStop, GoesBack
 -- Going back: the last place of a way before which a test stops it. Places are counted from 0.
 use Rattle.std.specs.Prelude.{◌≡◌, ℕ, ◌<◌, Bool, true, false, List, length, take, slice_index, Option, Some, None}
 use Rattle.std.specs.Prelude.{MatchOption, if◌then◌else◌}

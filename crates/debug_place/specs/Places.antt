@@ -1,3 +1,4 @@
+-- Rule: where a debugger stands: Placed, Stands
 -- Where a debugger stands: a closed cut of an audited recording, with its state.
 use Rattle.std.specs.Prelude.{◌≡◌, ℕ, List}
 use Rattle.rtr_types.specs.declared.cut.Cut.{Cut}

@@ -1,3 +1,4 @@
+-- Rule: the first stop of a way: IsFirstStop, GoesOn
 -- What stops a replay that goes on: a test of its state, before a core takes its next instruction.
 use Rattle.std.specs.Prelude.{◌≡◌, ℕ, Bool, true, false, List, [], ◌∷◌, ◌++◌, Option, MatchOption}
 use Rattle.rtr_types.specs.declared.cut.Cut.{Cut}

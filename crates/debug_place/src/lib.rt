@@ -1,5 +1,14 @@
-//! Where a debugger stands in a recorded run, and how it moves there: one live replay, which is always at a cut that is
-//! closed under the log.
+//! Where a debugger stands in a recorded run: one live replay, always at a closed cut, which moves on and back along
+//! the timeline.
+//!
+//! Proved: a `Place` is always at a closed cut, and its state is the one that every replay order has that comes there
+//! (`cut`: `stands`). `core`, `word` and `next_use` tell that state. `step` comes to the least closed cut with the
+//! core's next instruction, and `step_back` to the greatest one without its last. `seek` and `move_on` come to the cut
+//! that is asked for. `go_to` comes to the first cut of the way at which a test stops it before a core's place, or to
+//! the way's end. `back` comes to the last such cut of the way here from the closed cut that is gone back to, or to
+//! that cut. `timeline` is the order by rounds. The test is any function of the state and the core. All are refused for
+//! want of memory alone. Then `seek`, `step_back` and `back` leave the place as it was, and the others leave it at a
+//! closed cut between.
 #![tactic(auto)]
 
 mod backs;

@@ -1,4 +1,7 @@
-//! The regulated log, made while the run goes on: each reduced edge is put into a strided vector.
+//! The regulated log, made as retirements and edges come: strided vectors that imply the edges, without a history.
+//!
+//! Proved: `Regulator` makes exactly the greedy vectors of the edges that it is told, by what is known at the
+//! retirements that it is told (`follows`). It keeps no history. `greedy_law` says the vectors by runs of edges.
 #![tactic(auto)]
 
 pub mod laws;

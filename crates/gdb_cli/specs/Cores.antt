@@ -1,3 +1,4 @@
+-- Rule: the core file of a moment of a recorded run: IsStateOf, IsCoreAt
 -- The core file of a moment of a recorded run.
 use Rattle.std.specs.Prelude.{◌≡◌, ℕ, false, List}
 use Rattle.core_file.specs.CoreFiles.{core_bytes_of}

@@ -1,3 +1,4 @@
+-- Rule: a debugger's session on a recording, up to an exit: Debugs, IsHeld, IsDeclined
 -- A debugger's session on a recording: what is heard and said, and what each way to end says of the recording.
 use Rattle.std.specs.Prelude.{◌≡◌, ℕ, ◌⊎◌, false, true, List, [], Option, None}
 use Rattle.std.specs.Io.KnownBytes.{Keeps}

@@ -1,3 +1,4 @@
+-- Rule: which words ask for a session, by which log: session_log
 -- What words ask for.
 use Rattle.std.specs.Prelude.{ℕ, false, List, [], ◌∷◌, Option, Some, None, codes, if◌then◌else◌}
 use Rattle.std.specs.Str.{bytes_eq}

@@ -1,5 +1,8 @@
-//! The debugger's program but for its `main`: a debugger's session on a recording, over two streams, and the core file
-//! of a moment of a recorded run, whose state `rtr at` prints.
+//! The debugger's program but for `main`: a session with a debugger on a recording, over two streams, and the core file
+//! of a moment. The words of the latter are those of `rtr at`, which prints the same state.
+//!
+//! Proved: at `Done`, `debug` held a session by `gdb_session`'s definitions, and `write_core` gave the core file of the
+//! moment (clauses `answered`). docs/PROVED.md has these clauses one by one.
 #![tactic(auto)]
 
 mod cores;

@@ -1,3 +1,4 @@
+-- Rule: what is told of a word, an edge or a conflict: IsWriterTold
 -- What is told of a word, of the edges at an instruction and of its conflicts, by the audit of a recording.
 use Rattle.std.specs.Prelude.{◌≡◌, ℕ, ◌≤◌, List, [], ◌++◌, length, codes, Option, Some, None, MatchOption}
 use Rattle.std.specs.Prelude.{if◌then◌else◌}

@@ -1,3 +1,4 @@
+-- Rule: the meaning of a command of the debugger's user: command_of
 -- What a command's text means. Each has a meaning: one that is no command is unknown.
 use Rattle.std.specs.Prelude.{ℕ, List, [], ◌∷◌, Option, Some, None, codes, unwrap_or, if◌then◌else◌}
 use Rattle.std.specs.Option.{option_and_then, option_map, option_or}

@@ -1,3 +1,4 @@
+-- Rule: where such a command goes: GoesTo
 -- What a command does to a place, and what it tells.
 use Rattle.std.specs.Prelude.{◌≡◌, ℕ, ◌<◌, ◌≤◌, List, length, map, slice_index}
 use Rattle.std.specs.List.{range_with_len}

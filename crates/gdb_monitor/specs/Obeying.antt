@@ -1,3 +1,4 @@
+-- Rule: what such a command does to the place: Obeys
 -- What each command does, and what it tells.
 use Rattle.std.specs.Prelude.{◌≡◌, ℕ, List}
 use Rattle.rtr_types.specs.declared.cut.Cut as cuts

@@ -1,3 +1,4 @@
+-- Rule: the pc of an instruction: IsPcOf
 -- Where a core stands before an instruction.
 use Rattle.std.specs.Prelude.{◌≡◌, ℕ, ◌+◌, ◌-◌, ◌<◌, List, [], length, slice_index, slice_index_or}
 use Rattle.rtr_types.specs.declared.cut.Cut.{Cut}

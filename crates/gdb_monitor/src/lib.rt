@@ -1,6 +1,16 @@
-//! The commands by which a debugger's user asks for more than the debugger's protocol has: where a place is, which way
-//! it can go, and what of a recorded run comes before what. What a command's text means, what it is answered, and where
-//! the place stands behind it.
+//! The commands of the debugger's user: what their texts mean, where a place goes, and what is told of words, edges,
+//! conflicts and order.
+//!
+//! Proved: `command_of` gives each text the meaning that the grammar gives it, and `obey` obeys a command as follows.
+//! `goto C:N` comes to the least closed cut with the instruction. `goto N N ..` comes to that cut exactly where it is
+//! closed; else the least closed cut that contains it is told. `earliest` comes to the least closed cut with the core's
+//! last instruction, `latest` to the greatest without its next. Every other command leaves the place as it is. What is
+//! told of a word, an edge or a conflict is that of `race_queries`' definitions at the place's cut, by the audit of its
+//! recording. What is told of order is by the log. An instruction's pc is where its core is in the state of a closed
+//! cut that has all of the core's instructions before it, and not it. There is one (`IsPcOf`, `one_pc`). If what is
+//! named isn't there, the commands that there are are told, and nothing moves. `payloads_of`: one payload, or one for
+//! each part of at most 1000 bytes, in order, and one more. Each is refused for want of memory alone; `obey` then
+//! leaves the place as it was.
 #![tactic(auto)]
 
 mod asking;

@@ -1,3 +1,4 @@
+-- Rule: what a packet of gdb asks: ask_of
 -- What packets mean. Each has a meaning: one that begins as a packet with arguments and goes on otherwise is malformed,
 -- and every other is unknown.
 use Rattle.std.specs.Prelude.{◌≡◌, ℕ, ◌-◌, ◌==◌, Bool, true, false, List, [], ◌∷◌, Option, Some, None, Result, Ok, Err}

@@ -1,3 +1,4 @@
+-- Rule: a frame, and what bytes tell that have frames in them: framed, follow, tells, ReadBackLaw
 -- Frames: `$`, a body, `#` and two digits of the body's sum. A body spells a payload.
 use Rattle.std.specs.Prelude.{◌≡◌, ℕ, ◌+◌, ◌*◌, ◌/◌, ◌%◌, ◌≤◌, ◌==◌, ◌&&◌, ◌||◌, not, nat_le, Bool, false, bit_xor}
 use Rattle.std.specs.Prelude.{List, [], ◌∷◌, ◌++◌, length, sum, slice_index, Option, unwrap_or, if◌then◌else◌}

@@ -1,3 +1,4 @@
+-- Rule: how an answer to gdb is spelled: spelled
 -- How answers are spelled.
 use Rattle.std.specs.Prelude.{ℕ, zero, suc, ◌+◌, ◌==◌, List, [], ◌++◌, codes, if◌then◌else◌}
 use Rattle.hex.specs.Hex.{encode_lower}

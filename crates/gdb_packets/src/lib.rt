@@ -1,4 +1,12 @@
-//! GDB's remote protocol without a recording: frames, what packets ask, and how answers are spelled.
+//! GDB's remote protocol without a recording: frames, acknowledgements, what packets ask, and how answers are spelled.
+//!
+//! Proved: a frame tells its payload of at most 4096 bytes and nothing else, whatever stood before it, and takes
+//! nothing of what follows (`a_frame_is_read_back`). Bytes tell the same however they are cut
+//! (`pieces_make_no_difference`). `frame` is the frame by its definition, whose sum is the escaped body's.
+//! `Reader::feed` tells for every byte what the definition does of all bytes so far, and holds no more than one
+//! payload. `Line::hear` and `answer` write exactly the acks, and the frames, once more where one is wanted. `ask_of`
+//! is the packets' grammar: every payload asks something. `spell` is the answer's bytes. `are_digits` and `digit_value`
+//! tell digits of any base. All are refused for want of memory alone; `feed` never.
 #![tactic(auto)]
 
 mod asks;

@@ -1,3 +1,4 @@
+-- Rule: a debugger's session over two streams: Greets, Talks, Talked
 -- A debugger's session: what is heard byte by byte, and what is said.
 use Rattle.std.specs.Prelude.{◌≡◌, ℕ, ◌-◌, ◌^◌, ◌≤◌, ◌⊎◌, Bool, true, false, List, [], ◌∷◌, ◌++◌, length, Option}
 use Rattle.std.specs.Io.KnownBytes.{Appends, Consumes, IsAtEnd}

@@ -1,3 +1,4 @@
+-- Rule: what a packet is answered, and where the debugger stands behind it: Answers, Tells, Moves, Commands, Refuses
 -- What a packet is answered, and where the session stands behind it.
 use Rattle.std.specs.Prelude.{◌≡◌, List, [], ◌∷◌, Option, Some, None, ℕ}
 use Rattle.gdb_packets.specs.Asks.{ask_of}

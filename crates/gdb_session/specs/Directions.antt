@@ -1,3 +1,4 @@
+-- Rule: what lies ahead forwards or backwards, a step and a way there: ahead_in, LiesAhead, IsStepIn, GoesTo
 -- The directions along a recording: to later instructions, and back to earlier ones.
 use Rattle.std.specs.Prelude.{◌≡◌, ℕ, Bool, Option}
 use Rattle.rtr_types.specs.CoreSets.{no_cores, without_core}

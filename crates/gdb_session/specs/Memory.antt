@@ -1,3 +1,4 @@
+-- Rule: memory as it is told: byte_at
 -- What is told of the memory.
 use Rattle.std.specs.Prelude.{ℕ, ◌-◌, ◌*◌, ◌/◌, ◌%◌, ◌==◌, nat_le, nat_lt, List, map, slice_index, if◌then◌else◌}
 use Rattle.std.specs.Int.{to_le_bytes, w32}

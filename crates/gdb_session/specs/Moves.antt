@@ -1,3 +1,4 @@
+-- Rule: what a debugger's move comes to: Obeys, Steps, Goes, GoesWith, HaltsIn
 -- Moves of a place, and the stops that end them. Each comes to a closed cut: a place is at none other.
 use Rattle.std.specs.Prelude.{◌≡◌, ℕ, zero, suc, true, false, List, Option, Some, None, MatchOption, unwrap_or}
 use Rattle.std.specs.Prelude.{if◌then◌else◌}

@@ -1,3 +1,4 @@
+-- Rule: registers as they are told: register_words
 -- What is told of a core's registers.
 use Rattle.std.specs.Prelude.{ℕ, List, [], ◌∷◌, ◌++◌, map, slice_get, Option, Some, None}
 use Rattle.std.specs.Int.{to_le_bytes, w32}

@@ -1,3 +1,4 @@
+-- Rule: what stops a debugger's move: stops_at
 -- What stops a move, before a core takes its next instruction.
 use Rattle.std.specs.Prelude.{ℕ, ◌+◌, ◌&&◌, ◌||◌, Bool, is_some, nat_eq, List, slice_index, Option}
 use Rattle.rtr_types.specs.CoreSets.{has}

@@ -1,3 +1,4 @@
+-- Rule: threads as they are told: thread_text
 -- What is said of threads.
 use Rattle.std.specs.Prelude.{ℕ, zero, suc, ◌+◌, ◌==◌, false, nat_lt, List, [], ◌++◌, length, slice_index, codes}
 use Rattle.std.specs.Prelude.{decimal, if◌then◌else◌}

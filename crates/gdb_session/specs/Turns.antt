@@ -1,3 +1,4 @@
+-- Rule: whose turn it is where only some cores move: IsTurnIn, IsTurn, IsTurnBack
 -- Whose turn it is where only some cores move: by the timeline, one place after the other.
 use Rattle.std.specs.Prelude.{◌≡◌, ℕ, ◌+◌, ◌<◌, ◌≤◌, true, List, length, take, slice_index}
 use Rattle.rtr_types.specs.CoreSets.{has}

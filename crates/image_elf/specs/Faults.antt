@@ -1,3 +1,4 @@
+-- Rule: the faults of an ELF file, and the first: elf_fault
 -- What can be wrong with an ELF file for a memory of a number of words, each fault exactly where it comes.
 use Rattle.std.specs.Prelude.{ℕ, zero, suc, ◌+◌, ◌*◌, ◌%◌, Bool, false, ◌&&◌, ◌||◌, ◌==◌, not, nat_le, nat_lt}
 use Rattle.std.specs.Prelude.{if◌then◌else◌, List, length, Option, Some, None}

@@ -1,3 +1,4 @@
+-- Rule: the flat image of an ELF file: flat_image
 -- The flat image of an ELF file: the bytes from address 0 on that its segments, and a jump to its entry, make up.
 use Rattle.std.specs.Prelude.{ℕ, zero, suc, pos, ◌+◌, ◌-◌, ◌&&◌, ◌==◌}
 use Rattle.std.specs.Prelude.{not, nat_lt, max, if◌then◌else◌, List, map, slice_index, Option, Some, None, unwrap_or}

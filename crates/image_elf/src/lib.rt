@@ -1,5 +1,8 @@
-//! ELF32 files as flat images: the bytes from address 0 on that the segments of a linked RISC-V program make
-//! up, by the Tool Interface Standard's ELF specification, version 1.2, and the RISC-V ELF psABI.
+//! ELF32 files as flat images. A flat image is the bytes from address 0 on that the segments of a linked RISC-V program
+//! make up. The standards are the Tool Interface Standard's ELF specification, version 1.2, and the RISC-V ELF psABI.
+//!
+//! Proved: `flatten` gives the flat image of an ELF32 file, byte by byte, within the memory. Each fault comes exactly
+//! where it is the file's first, and first is first in the table (`fault_laws`).
 #![tactic(auto)]
 
 mod cells;

@@ -1,3 +1,4 @@
+-- Rule: what is known: IsKnownAt
 -- What happens one after the other among actors that send each other messages, and what of it leads to
 -- what: Lamport's relation.
 use Rattle.std.specs.Prelude.{◌≡◌, ℕ, zero, suc, ◌<◌, ◌==◌, ◌⊎◌, Bool, false, Option, Some, List, [], ◌∷◌, ◌++◌, drop}

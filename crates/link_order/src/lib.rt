@@ -1,4 +1,7 @@
-//! Ordered links of bounded length, between the actors of the machine.
+//! Ordered links of bounded length between the actors of the machine: queues whose places are lent.
+//!
+//! Proved: a link is a list of bounded length, oldest first (`push`, `pop`). A place that is lent ends as the newest
+//! item (`push_place`), and the oldest item can be lent (`head`).
 #![tactic(auto)]
 
 ghost use Rattle.std.specs.Prelude.{◌≡◌, ◌≤◌, ◌↔◌, ◌++◌, ◌∷◌, ◌+◌, ◌<◌, ◌⊎◌, drop, [], List, length, IfOk, IfErr};

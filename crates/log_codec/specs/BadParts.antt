@@ -1,3 +1,4 @@
+-- Rule: the first part of a recording that has no reading, by the grammar: WholeNames
 -- The first part that has no reading, in the grammar's own words: the parts below it are spelled by a front of the
 -- bytes, and no valid part follows there.
 use Rattle.std.specs.Prelude.{◌≡◌, ◌≢◌, ℕ, ◌*◌, ◌<◌, ◌≤◌, ◌↔◌, List, [], ◌++◌, length, slice_index_or, All, Result, Err}

@@ -1,3 +1,4 @@
+-- Rule: the reading of bytes: whole_at
 -- Reading a recording of either version from left to right. A number, a count or a byte that doesn't fit is a fault of
 -- the part in which it stands.
 use Rattle.std.specs.Prelude.{ℕ, ◌+◌, ◌*◌, List, [], length, take, drop, Result, Ok, Err, nat_lt, nat_le, nat_eq}

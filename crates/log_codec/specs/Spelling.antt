@@ -1,3 +1,4 @@
+-- Rule: the bytes of a recording: spelling
 -- The one spelling of each recording in each version, part by part. The versions differ in the header and in the
 -- fourth part.
 use Rattle.std.specs.Prelude.{◌≡◌, ℕ, ◌-◌, List, [], ◌++◌, length, map, nat_lt, if◌then◌else◌}

@@ -1,5 +1,13 @@
-//! Recordings as bytes: the parameters, the image, the totals and the two logs, in the one spelling
-//! that each recording has in each version of the format.
+//! Recordings as bytes, in the one spelling that each recording has in each of two versions of the format. The parts
+//! are parameters, image, totals and the two logs.
+//!
+//! Proved: `read` and `read_front` are exactly the reading of both versions, with the first part that has none
+//! (`found`, `only`, `exact`). `spell` gives version 2's spelling of every valid recording, whose limits are those of a
+//! run. `spell_v1` gives version 1's of those within its own narrower limits. `bad_part_law`: a reading that fails
+//! names part k exactly where the parts below are spelled by a front of the bytes and no valid part k follows.
+//! `read_all` reads all bytes by what was read of a front of them; `tso_read`, `read_certificate` and `read_thin` rest
+//! on it too. `spelling_laws` and `prefix_free`: what is read is spelled so, what is spelled is read, and no spelling
+//! begins another.
 #![tactic(auto)]
 
 mod codec_fault;

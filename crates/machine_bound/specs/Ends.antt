@@ -1,3 +1,4 @@
+-- Rule: where a run ends: end_of
 -- The moment at which a run ends, and what is promised of it.
 use Rattle.std.specs.Prelude.{◌≡◌, ◌<◌, ◌≤◌, ◌^◌, ℕ, ◌+◌, ◌*◌, Bool, zero, suc, if◌then◌else◌}
 use Rattle.image_mem.specs.Contents.{Contents}

@@ -1,6 +1,9 @@
-//! What every state of a run keeps of the data: the copies of a block that count have the words of the
-//! memory. So each access finds the value that the last access to its word left, and the memory at the
-//! end has what the last accesses left.
+//! What accesses find, and the final memory: the copies of a block that count have the words of the memory. The crate
+//! has laws alone.
+//!
+//! Proved: each access of a run finds what the last earlier access to its word left, or what the image has there
+//! (`an_access_finds_the_last_value`). So is each word of the final memory (`final_memory_law`).
+//! `every_step_keeps_data`: each step keeps the words of the copies that count.
 #![tactic(auto)]
 
 mod laws;

@@ -1,3 +1,4 @@
+-- Rule: the invariant of the machine: CoresHold, MachineHolds
 -- The invariant of the machine: what each state of a run keeps. That of other cores over the memory system is alike.
 use Rattle.std.specs.Prelude.{◌≡◌, ℕ, ◌<◌, ◌≤◌, ◌^◌, length, slice_index_or}
 use Rattle.access_times.specs.Riding.{Riding, Carrying}

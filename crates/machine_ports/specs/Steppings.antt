@@ -1,3 +1,4 @@
+-- Rule: which move a step takes, on either machine: Takes
 -- What a step takes, whatever a machine's moves are.
 use Rattle.std.specs.Prelude.{◌≡◌, ◌<◌, ℕ, ◌%◌, Bool, List, Option, Some, IsTrue, length, slice_index_or}
 

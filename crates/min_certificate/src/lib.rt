@@ -1,5 +1,9 @@
-//! Certificates that a recording's reduced log is least: `certify` makes one of an audited recording, and
-//! `check` says whether one shows what it says, whoever made it.
+//! Certificates that a recording's reduced log is least: `certify` makes one, and `check` judges one, whoever made it.
+//!
+//! Proved: `check` says yes only where the recording is determinate and its reduced log is least, whoever made the
+//! certificate. Else it names the first failure in the order of the tests, and it accepts what `certify` gave.
+//! `certify` gives exact entries, or names the first edge that is implied or no conflict. `certificate_tests`: whether
+//! a certificate's entries are good or exact and an edge is needed can be computed.
 #![tactic(auto)]
 
 mod answers;

@@ -1,6 +1,13 @@
-//! Which moves can be made, one bit a core in a set for each kind of move, and what the home's turns change of
-//! them. Each machine over a memory system keeps such marks, so that no step looks at all cores for the moves that
-//! can be made.
+//! Which moves can be made, kept from step to step: one bit a core in a set for each kind of move. The crate also says
+//! what a turn of the home changes of them. Each machine over a memory system keeps such marks, so that no step looks
+//! at all cores.
+//!
+//! Proved: `set`, `mark_all` and `clear_all` change the marks that they name, core by core and kind by kind, and
+//! nothing else. `count` is how many are marked, and `pick` the one of a number in the list of the marked moves, by
+//! kinds and cores. `mark_turn`: after a turn of the home exactly the messages that it sent are marked too, and the
+//! requests for its block as it got free or busy. `take_request` and `take_response` make the home's turn with the
+//! marks. These are those of what can be done at the ports after it, where they were before. `with_late` and
+//! `make_room`: the one request that isn't looked at yet is marked as it can be taken.
 #![tactic(auto)]
 
 mod late;

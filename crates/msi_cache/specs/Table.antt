@@ -1,3 +1,4 @@
+-- Rule: the cache's table: want_row, row
 -- The cache controller's table, as data. It stands beside the tables of the Primer's chapter 8
 -- (Nagarajan, Sorin, Hill and Wood, 2nd edition), in the profile in which the home collects the
 -- acknowledgements: a cache counts none, and one BlockData ends each miss. No rider is in it. What

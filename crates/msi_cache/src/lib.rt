@@ -1,7 +1,10 @@
-//! The cache controller of one core: sixteen lines that are kept coherent by messages from and to the
-//! home, by the MSI protocol of the Primer on Memory Consistency and Cache Coherence (Nagarajan,
-//! Sorin, Hill and Wood, 2nd edition, chapter 8) in a profile in which the home collects the
-//! acknowledgements.
+//! The cache controller of one core, for any rider: sixteen direct-mapped lines, kept coherent by messages from and to
+//! the home. The protocol is MSI of the Primer on Memory Consistency and Cache Coherence (Nagarajan, Sorin, Hill and
+//! Wood, 2nd edition, chapter 8). In its profile the home collects the acknowledgements.
+//!
+//! Proved: each call of `Cache` is its row of the table, for every rider (`want`, `on_home`). Messages come by value,
+//! with their riders lent, or handed over where a line takes them or a copy ends. Riders change nothing of the plain
+//! part (`riders_change_no_plain_part`).
 #![tactic(auto)]
 
 mod cache;

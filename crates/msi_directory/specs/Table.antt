@@ -1,3 +1,4 @@
+-- Rule: the home's table: request_row, response_row
 -- The home controller's table, as data. It stands beside the directory's table of the Primer's
 -- chapter 8 (Nagarajan, Sorin, Hill and Wood, 2nd edition), in the profile in which the home blocks
 -- while it collects the acknowledgements or the owner's data, and then sends one BlockData. No rider

@@ -1,7 +1,11 @@
-//! The home: the directory of who holds which block, and the memory's own copy of each, kept by the MSI
-//! protocol of the Primer on Memory Consistency and Cache Coherence (Nagarajan, Sorin, Hill and Wood,
-//! 2nd edition, chapter 8) in a profile in which the home blocks while it collects acknowledgements or
-//! the owner's data.
+//! The home controller, for any rider: the directory of who holds which block, and memory's own copy of each. The
+//! protocol is MSI of the Primer on Memory Consistency and Cache Coherence (Nagarajan, Sorin, Hill and Wood, 2nd
+//! edition, chapter 8). In its profile the home blocks while it collects acknowledgements or the owner's data.
+//!
+//! Proved: each call of `Home` is its row of the table, for every rider (`on_request`, `on_response`). Messages come by
+//! value, with their riders lent, or handed over where the home takes them or a cache comes to own the block. Riders
+//! change nothing of the plain part (`riders_change_no_plain_part`). The home keeps an entry for touched blocks alone,
+//! and `touched` counts them.
 #![tactic(auto)]
 
 mod entry;

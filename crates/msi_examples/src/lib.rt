@@ -1,5 +1,9 @@
-//! Small runs of the machine, worked out by hand, that its definitions are proved to give. Each is
-//! computed from the definitions of state, moves and step alone.
+//! Small runs of the machine, worked out by hand, that its definitions are proved to give. Each is computed from the
+//! definitions of state, moves and step alone.
+//!
+//! Proved: the definitions of the machine give twelve worked runs: stops, retired counts, registers, changed words and
+//! loads, and of two of them each of sixteen steps. These were worked out by hand; the numbers of steps of most runs
+//! were not.
 #![tactic(auto)]
 
 ghost use Rattle.msi_examples.specs.Examples.{OneHandsOver, HandedOver, ShareFalsely, StoreBytes, SumInTurn};

@@ -1,3 +1,4 @@
+-- Rule: the invariant of the memory system: MemoryHolds
 -- The invariant of the memory system, whoever uses it.
 use Rattle.std.specs.Prelude.{◌≡◌, ◌≢◌, ℕ, ◌%◌, ◌<◌, ◌≤◌, true, length, slice_index_or, IsTrue}
 use Rattle.access_times.specs.Riding.{Riding, Carrying}

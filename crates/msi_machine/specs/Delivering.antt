@@ -1,3 +1,4 @@
+-- Rule: what retires with a message: MessagesRetire, retires_with
 -- What retires as a core takes a message from home.
 use Rattle.std.specs.Prelude.{◌≡◌, ℕ, Option, Some, None, List, ◌∷◌}
 use Rattle.access_times.specs.Riding.{Riding, Carrying}

@@ -1,11 +1,17 @@
-//! The machine: cores of RV32I over private caches and one home that keeps them coherent, for every type
-//! of riders and carries. A run is made of single steps, each chosen by a number, and a clerk is told of
-//! each instruction that retires.
+//! The machine in code: cores of RV32I over private caches and one home that keeps them coherent. It holds for every
+//! type of riders and carries. A run is made of single steps, each chosen by a number, and a clerk is told of each
+//! instruction that retires.
 //!
-//! `Machine` keeps the invariant on which its moves rest, so that a caller needs to know nothing of
-//! protocols: a step can be made as long as some core isn't done. What a run's states promise stands
-//! with the calls: one writer and then no reader, a bound on the steps, and each read finds what the last
-//! write to its word left.
+//! `Machine` keeps the invariant on which its moves rest, so a caller needs to know nothing of protocols. A step can be
+//! made as long as some core isn't done.
+//!
+//! Proved: `step` takes the move that the choice numbers among those of the plain part (`taken`). It can be called
+//! wherever some core isn't done, there is room, and the clerk accepts. It does what the definition does and tells the
+//! clerk (`moved`, `retired`, `told`). It is paid for, and finds in each word what was last written there. It leaves at
+//! most one cache that may write a block, and then no other that may read it (`keeps`). `new` is at the definition's
+//! start. At `done` the links are empty, and `final_words` are what was last written. `step_timed` is `step` on riders
+//! that record times, with what `machine_times` says of it. A machine as `new` makes it stands for nothing retired.
+//! `data_alone_retire`: a block's data retire the waiting core's instruction, and no other message retires one.
 #![tactic(auto)]
 
 mod machine;

@@ -1,3 +1,4 @@
+-- Rule: the acts, and where they can be made: Act, can, after_act
 -- The acts of the memory system, for every type of riders and carries. A core asks at its port for what an access
 -- needs, touches a word there, which it reads or writes, and says what it retired; the home takes requests and
 -- responses; a port takes what the home sent.

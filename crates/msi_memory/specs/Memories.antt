@@ -1,3 +1,4 @@
+-- Rule: states of the memory system: Memory, memory_start
 -- The memory system: caches, links and home, without the cores that use it.
 use Rattle.std.specs.Prelude.{ℕ, ◌/◌, ◌%◌, Bool, List, [], slice_index, slice_index_or, replicate}
 use Rattle.access_times.specs.Riding.{Riding, Carrying}

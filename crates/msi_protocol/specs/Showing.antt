@@ -1,3 +1,4 @@
+-- Rule: what is shown of a block: Shows, KeptBy
 -- The one link from what the home and the cores have of a block to the block with its copies: what they show, whole
 -- messages with words and riders, is the picture of a block whose phases fit its stage, and of which a property holds.
 -- The property may be any that the moves of a block keep: none, that the copies that count have these words, or that

@@ -1,7 +1,10 @@
-//! The MSI protocol of the cache controllers and the home, seen one block at a time: its moves, by the two
-//! controllers' tables, its invariant, and what follows from it. The crate has laws alone: they are about
-//! every list of moves of the cores below `CORES_MAX`, and so of any smaller number of cores too, whose
-//! lists are those in which no other core moves.
+//! One block under any moves: its invariant and laws, the block with its copies, and what home and caches show of it.
+//! The laws are about every list of moves of the cores below `CORES_MAX`. They hold of fewer cores too, whose lists are
+//! those in which no other core moves. The crate has laws alone.
+//!
+//! Proved: at most one cache may write a block, and then no other may read it (`one_writer`). This holds of every
+//! number of cores up to sixteen and of every list of moves. Each message has a row where it arrives
+//! (`each_message_has_a_row`), and a busy block has something under way (`a_busy_block_moves`).
 #![tactic(auto)]
 
 mod laws;

@@ -1,4 +1,7 @@
-//! Runs of the machine from their start to their end that keep no record but each core's loads.
+//! A run of the machine from its start to its end, without a log: each core's loads alone are kept.
+//!
+//! Proved: `run_image` answers the definition's outcome of exactly this image, these parameters and this schedule
+//! (`outcome`), with nothing that rides and no log. `image` comes back.
 #![tactic(auto)]
 
 mod run;

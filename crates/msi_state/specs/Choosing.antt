@@ -1,3 +1,4 @@
+-- Rule: the state after some choices: state_after
 -- What moves by choices: at each of its states there are some moves, in order, of which a choice takes one.
 use Rattle.std.specs.Prelude.{◌≡◌, ◌<◌, ℕ, ◌%◌, Bool, true, false, Option, Some, None, List, [], ◌∷◌}
 use Rattle.std.specs.Prelude.{length, slice_index_or, zero, suc}

@@ -1,3 +1,4 @@
+-- Rule: states of any cores over a memory system: CoresState
 -- The states of cores of any type over a memory system.
 use Rattle.std.specs.Prelude.{ℕ, List, map, Bool}
 use Rattle.std.specs.List.{range_with_len, list_all}

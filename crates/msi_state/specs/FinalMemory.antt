@@ -1,3 +1,4 @@
+-- Rule: the final memory: final_word
 -- The memory that a state has: for each block the owner's words where a cache owns it, and the home's
 -- elsewhere.
 use Rattle.std.specs.Prelude.{ℕ, List, map}

@@ -1,3 +1,4 @@
+-- Rule: the moves that a machine can have, in their order: candidates
 -- The moves that a machine of some cores can have, in their order.
 use Rattle.std.specs.Prelude.{ℕ, ◌+◌, ◌*◌, ◌-◌, List, map, if◌then◌else◌, nat_lt}
 use Rattle.std.specs.List.{range_with_len}

@@ -1,3 +1,4 @@
+-- Rule: a run, its accesses and its loads: run, accesses, loads_of
 -- The runs of the plain machine: its state after so many choices, when a run ends, what retires in it
 -- and what its accesses are.
 use Rattle.std.specs.Prelude.{ℕ, ◌==◌, ◌&&◌, Option, List, [], ◌∷◌, ◌++◌, map, zero, suc, if◌then◌else◌}

@@ -1,3 +1,4 @@
+-- Rule: states of the machine: State, state_start
 -- The states of a machine: cores over a memory system.
 use Rattle.std.specs.Prelude.{ℕ, List, slice_index_or, Bool}
 use Rattle.access_times.specs.Riding.{Riding, Carrying}

@@ -1,3 +1,4 @@
+-- Rule: enabled moves, and a step: moves, step, acts, event
 -- The moves of the machine and what they do, for every type of riders and carries. A move is some acts of the memory
 -- system, one after the other, and what its core becomes. The clerk may leave another rider on the copy that an access
 -- touched: definitions take the rider that it left.

@@ -1,4 +1,10 @@
 //! The reduced log, made while the run goes on: each access gets the edges that nothing else implies.
+//!
+//! Proved: `Reducer`'s calls are its definitions, for all times that are handed in. Where these are exact, `retire`
+//! answers exactly the covering pairs into the access, once and by rising source core (`exact_for_law`, `retire_law`).
+//! Then its clock is exact, all edges together are the least set (`least_law`), and each pair's list rises in both
+//! counts (`listed_law`). `retire_into` is `retire` with the edges in places that are lent. One retirement after
+//! `ready` takes no memory. `sizes_law`: a list of edges has room for 17.
 #![tactic(auto)]
 
 mod edge_places;

@@ -1,5 +1,7 @@
-//! Values from outside for the crates of the order: clocks, times, least sets and the online reduction, on short lists
-//! of accesses. It has tests alone.
+//! Clocks, times, least sets and the online reduction, on short lists of accesses with values from outside. It has
+//! tests alone.
+//!
+//! Tested: `clock_core`, `conflict_edge`, `access_times` and `online_reduce`, by calls with values from outside.
 #![tactic(auto)]
 
 #[cfg(test)]

@@ -1,5 +1,7 @@
 //! Places in a recording of two cores, and moves from one to another. It has tests alone, and stands apart so that the
 //! crate of places is proved without them.
+//!
+//! Tested: `debug_place`: steps and steps back, cuts that are gone to, and breakpoints, in a recording of two cores.
 #![tactic(auto)]
 
 #[cfg(test)]

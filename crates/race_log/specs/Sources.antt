@@ -1,3 +1,4 @@
+-- Rule: the edges of a log: log_edges, HasEdge
 -- The edges of a recording's logs, and which of them lead to an instruction.
 use Rattle.std.specs.Prelude.{◌≡◌, ℕ, ◌<◌, ◌≤◌, ◌↔◌, List, [], map, length, slice_index, slice_index_or}
 use Rattle.std.specs.List.{Contains, flat_map, range_with_len}

@@ -1,3 +1,4 @@
+-- Rule: which recordings are valid: Valid
 -- Which recordings are valid.
 use Rattle.std.specs.Prelude.{◌≡◌, ℕ, ◌*◌, ◌%◌, ◌<◌, ◌≤◌, ◌^◌, List, [], length, slice_index, slice_index_or, All, Bool}
 use Rattle.std.specs.Prelude.{◌&&◌, nat_le, nat_lt, nat_eq, if◌then◌else◌}

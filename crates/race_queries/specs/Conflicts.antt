@@ -1,3 +1,4 @@
+-- Rule: the accesses with which an instruction's conflicts: conflicts_at
 -- The accesses around an instruction's with which it conflicts, among the accesses of a run in their order.
 use Rattle.std.specs.Prelude.{ℕ, Bool, ◌&&◌, ◌||◌, not, nat_eq, List, [], ◌∷◌, filter, Option, Some, None}
 use Rattle.std.specs.Prelude.{if◌then◌else◌}

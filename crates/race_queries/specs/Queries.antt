@@ -1,3 +1,4 @@
+-- Rule: the last write of a word in a cut, the loads since: IsLastWrite, IsReadSince
 -- What is asked of the accesses and the log of an audited recording. The accesses are those of the low order; every
 -- whole replay order has the same ones, with the same values.
 use Rattle.std.specs.Prelude.{◌≡◌, ◌↔◌, ◌⊎◌, ℕ, ◌<◌, Bool, true, not, ◌&&◌, nat_eq, nat_le, List, [], ◌∷◌}

@@ -1,6 +1,14 @@
-//! What a debugger of races asks of an audited recording: who wrote a word last, who has read it since, what comes
-//! before what, with which accesses an instruction's conflicts, and which edges of the log lead to an instruction and
-//! from it.
+//! What is asked about races: last writes, loads since, all accesses to a word, conflicts, edges, and which instruction
+//! comes before which.
+//!
+//! Proved: of an audited recording, `last_write` is the write of the word in the cut to which each other write of it in
+//! the cut leads. It is None exactly where the cut has none. `reads_since` has exactly the loads of the word in the cut
+//! to which each write of it in the cut leads, each once. `history` has exactly the accesses to the word.
+//! `conflicts_of` has the access of an instruction, and the accesses of other cores to its word with which it
+//! conflicts, in that order. They reach back to and with the last write before it, and up to and with the next behind
+//! it. `edges_into` and `edges_out_of` have exactly the instructions from which an edge of the log leads to one, and to
+//! which one leads from it, each once. `leads_to` says whether by the log the one instruction comes before the other. A
+//! cut has at most one last write of a word (`one_last_write`).
 #![tactic(auto)]
 
 mod conflicts;

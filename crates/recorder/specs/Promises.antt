@@ -1,3 +1,4 @@
+-- Rule: what is promised of the recording that a run leaves: IsRecordingOf
 -- What is promised of the recording that a run leaves.
 use Rattle.std.specs.Prelude.{◌≡◌}
 use Rattle.conflict_edge.specs.Least.{IsLeast}

@@ -1,7 +1,12 @@
-//! The recorder: one run of an image on the machine, under one schedule, with what orders it. While the
-//! run goes on each access gets the edges that nothing else implies, from times that lie beside the
-//! caches' copies; the recorder holds no list of accesses. What a recording is, and what holds of it, stands
-//! in `run_records`.
+//! The recorder in code: one run of an image under one schedule, with both logs. While the run goes on each access gets
+//! the edges that nothing else implies, from times that lie beside the caches' copies. The recorder holds no list of
+//! accesses.
+//!
+//! Proved: `record_run` answers the definition's outcome and recording of exactly this image, these parameters and this
+//! schedule (`outcome`, and `recording` in `IsRecordingOf`). `least`: the reduced log is the least set of the run's
+//! accesses. `regulated`: the regulated log has each pair's greedy vectors of the reduced edges, by whatever counts
+//! what is known in the run. `valid`: it can be spelled. There is no step budget: the loop's measure is the bound.
+//! `record_image`, which the tool's `record` calls, promises the same record of the recording alone.
 #![tactic(auto)]
 
 mod run;

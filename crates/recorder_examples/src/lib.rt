@@ -1,5 +1,8 @@
-//! Runs that are recorded, against the least set and the greedy vectors by their plain definitions. It has
-//! tests alone, and stands apart so that the crates above the recorder don't wait for it.
+//! Recorded runs against the least set and the greedy vectors by their plain definitions. It has tests alone, and
+//! stands apart so that the crates above the recorder don't wait for it.
+//!
+//! Tested: `recorder`: runs of all cores against a slow program that answers the least set, and a slow program that
+//! makes the vectors position by position.
 #![tactic(auto)]
 
 #[cfg(test)]

@@ -1,3 +1,4 @@
+-- Rule: determinate by a log, with given values too: IsDeterminate, DecidesValued
 -- Recordings that are determinate by a log.
 use Rattle.std.specs.Prelude.{ℕ, List}
 use Rattle.rtr_types.specs.declared.access.Access.{Access}

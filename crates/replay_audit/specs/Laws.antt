@@ -1,3 +1,4 @@
+-- Rule: what agrees with an order that decides with given values: AgreesValued, EveryValuedLaw
 -- Laws of replay orders, whole or not.
 use Rattle.std.specs.Prelude.{◌≡◌, ◌≢◌, ℕ, zero, suc, ◌+◌, ◌<◌, ◌≤◌, ◌⊎◌, ◌↔◌, false, All, List, ◌++◌, length}
 use Rattle.std.specs.Prelude.{slice_index, Some, None, IsTrue}

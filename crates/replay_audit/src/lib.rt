@@ -1,5 +1,13 @@
-//! Whether a recording is determinate by one of its logs: whether the log orders each two accesses that
-//! conflict, so that every replay that obeys it gives each load the same value and ends alike.
+//! Whether a recording is determinate by one of its logs: every replay order gives each load the same value and ends
+//! alike. The audit decides it, and the laws hold with given values too.
+//!
+//! Proved: `audit` passes exactly where the recording is determinate by the log, and refuses with exactly the first
+//! reason. `ordered` and `judge` decide the same from counts and from the accesses of any whole order. So do
+//! `WholeOrder::of` and `WholeOrder::judge`, which go along one walk. Where some whole order decides, every order
+//! plays, agrees and goes on (`every_order_agrees`, clause `agrees`). Two accesses that conflict are never both ready
+//! (`never_both`). Clause `valued` is about a whole order that decides with the values that each order is given. Then
+//! every replay order plays, and has its conflicts before by the log. It gives each core the first of its loads, goes
+//! on until it is whole, and ends in the same outcome.
 #![tactic(auto)]
 
 mod audit_fault;

@@ -1,3 +1,4 @@
+-- Rule: replay orders, the low order: IsReplayOrder, IsWhole, low_order
 -- Replay orders of a log, whole ones, and the low order. How far a list has come is a count for each core, as a
 -- function.
 use Rattle.std.specs.Prelude.{◌≡◌, ℕ, zero, suc, ◌+◌, ◌<◌, ◌≤◌, ◌==◌, Bool, true, ◌&&◌, ◌||◌, not, nat_lt, nat_le}

@@ -1,3 +1,4 @@
+-- Rule: a play, and one with given values: play, accesses_from, Given, place_given, valued_play, valued_accesses_from
 -- The play of a list of cores: at each place its core retires one instruction, over one flat memory. What a play has
 -- come to is an outcome; the accesses stand apart from it, so that two lists can end in the same outcome.
 use Rattle.std.specs.Prelude.{◌≡◌, ◌==◌, ℕ, ◌+◌, ◌<◌, false, List, [], ◌∷◌, ◌++◌, length, map, replicate, slice_index}

@@ -1,3 +1,4 @@
+-- Rule: the low order, place by place: Tallied, IsLow
 -- How far each core has come, and the sources of what comes next.
 use Rattle.std.specs.Prelude.{◌≡◌, ℕ, ◌+◌, ◌<◌, ◌≤◌, List, Option, Some, None, length, slice_index, slice_index_or}
 use Rattle.std.specs.Prelude.{slice_set}

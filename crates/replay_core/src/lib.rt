@@ -1,6 +1,11 @@
-//! Replays of a recording by one of its logs: which core may retire its next instruction, and what the
-//! instructions leave over one flat memory. The low order takes the lowest-numbered ready core at each
-//! place.
+//! Replays of a recording by one of its logs: replay orders, the low order, and plays with and without given values. A
+//! play goes over one flat memory. The low order takes the lowest-numbered ready core at each place.
+//!
+//! Proved: `run` is the play of the low order, with `Stuck` and `Short` exactly where that order ends early or falls
+//! short. `Stuck` has its cut, and `Short` its core and count. `Replay::ready` holds for a core exactly where its place
+//! can be added to the replay order that was played, and `advance` is one place of the play. A play goes by image,
+//! limit and totals alone (`plays_go_by_the_image`). `run_given` is the same with given values. `core`, `word`,
+//! `next_need` and `next_use` tell what a replay under way has come to, and what comes next.
 #![tactic(auto)]
 
 mod answers;

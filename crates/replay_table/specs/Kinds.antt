@@ -1,3 +1,4 @@
+-- Rule: the kinds of step of the table: SeesDone, LoadsWord, ExchangesWord
 -- The eight kinds of step: what each asks of the view of the seat that makes it, and what it changes in it. What the
 -- rule then tells of a step stands beside (`Told.antt`).
 use Rattle.std.specs.Prelude.{◌≡◌, ℕ, zero, suc, ◌+◌, ◌-◌, ◌≤◌, ◌==◌, List, [], ◌∷◌, ◌++◌, length, replicate}

@@ -1,3 +1,4 @@
+-- Rule: the rule of the table: TableRule, OrderStands
 -- The rule of the table: what holds of its words and views between any two steps.
 use Rattle.std.specs.Prelude.{◌≡◌, ℕ, ◌+◌, ◌^◌, ◌<◌, ◌≤◌, List, [], ◌∷◌, length, slice_index, Some}
 use mathlib.Core.Option.{some}

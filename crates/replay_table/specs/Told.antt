@@ -1,3 +1,4 @@
+-- Rule: what the rule tells of a step: ToldLoad, ToldExchange
 -- What the rule tells of each kind of step: the step, and what follows of the word that it found, and of the core that
 -- it leaves. Where a core has gone on, some order plays to it.
 use Rattle.std.specs.Prelude.{◌≡◌, ℕ, ◌^◌, ◌<◌, ◌≤◌}

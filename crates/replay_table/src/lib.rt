@@ -1,5 +1,14 @@
-//! The table that the workers of a replay share: one word for each word of memory, and one done word
-//! for each core. Each worker has a seat.
+//! The table that the workers of a replay share: a word for each word of memory, a done word and a seat for each core.
+//!
+//! Proved: each seat call names its one step of the table by a relation, and what the rule tells of it. `make` deals
+//! each core a seat that has done, seen and holds nothing. The opening memory with done counts of 0 keeps the table's
+//! rule, and as long as nothing was executed no other words do (`a_table_opens`). Rule and step give what is told of it
+//! (`rule_and_step_tell`). Each of the eight kinds of step keeps the table's rule, by which some replay order of the
+//! log stands for the words and views (`steps_keep_the_rule`). Whichever order stood before, that order with the step's
+//! instructions at its end stands afterwards (`orders_go_on`, `orders_stay`). Where the recording is determinate by the
+//! log, `load_word` answers the low order's value (`low`), and `store_word` is never refused (`sure`). `close` gives
+//! what the play of a whole replay order leaves, and its accesses by core. It is refused for want of memory alone, with
+//! table and seats as they were. No call waits, and the seat calls take no memory but for `make_room`.
 #![tactic(auto)]
 
 mod close;

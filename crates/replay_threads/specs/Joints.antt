@@ -1,3 +1,4 @@
+-- Rule: what a replay on several threads answers: IsJointOf
 -- What a replay on several threads answers.
 use Rattle.std.specs.Prelude.{◌≡◌}
 use Rattle.rtr_types.specs.declared.pairs.Which.{Which}

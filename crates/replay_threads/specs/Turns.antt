@@ -1,3 +1,4 @@
+-- Rule: how a worker's turn ends: EndsBy
 -- What a worker's turn does, and how it ends.
 use Rattle.std.specs.Prelude.{◌≡◌, ℕ, ◌+◌, ◌-◌, ◌^◌, ◌<◌, ◌≤◌, true, slice_index, sum_by}
 use Rattle.rtr_types.specs.declared.instr.Instr.{Instr}

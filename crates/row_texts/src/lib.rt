@@ -1,5 +1,7 @@
-//! Bytes and words as the rows of tests spell them, recordings that several crates' tests read, and counts of
-//! three cores.
+//! What tests by rows share: the bytes and words of rows out of their texts, recordings that several crates read, and
+//! counts of three cores.
+//!
+//! Tested: by the examples that use it; it has no tests of its own.
 #![tactic(auto)]
 
 mod counts;

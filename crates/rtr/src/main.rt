@@ -1,4 +1,6 @@
-//! `rtr`, a race recorder and replayer for a small multiprocessor.
+//! `rtr`, a race recorder and replayer for a small multiprocessor: one call of `rtr_program`.
+//!
+//! Tested: its stored run.
 #![tactic(auto)]
 
 use rtr_program::run_program;

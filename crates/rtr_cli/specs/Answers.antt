@@ -1,3 +1,4 @@
+-- Rule: what the tool answers: Answers
 -- What each way to end says of the input and the output.
 use Rattle.std.specs.Prelude.{◌≡◌, ℕ, ◌+◌, ◌≤◌, ◌⊎◌, List, [], length, Option, Some, None}
 use Rattle.std.specs.Option.{option_map}

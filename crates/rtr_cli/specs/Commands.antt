@@ -1,3 +1,4 @@
+-- Rule: what each command makes, and what is promised of it: Makes, Promised, Refuses, IsTsoReplayed, KeepsTsoRun
 -- What each command makes of an input.
 use Rattle.std.specs.Prelude.{◌≡◌, ℕ, ◌*◌, ◌<◌, ◌≤◌, ◌↔◌, ◌⊎◌, Bool, true, false, if◌then◌else◌, List, [], ◌++◌}
 use Rattle.std.specs.Prelude.{length}

@@ -1,3 +1,4 @@
+-- Rule: what each command accepts: Accepts
 -- The inputs of which each command makes an output, unless memory runs out: among them whatever another command wrote.
 use Rattle.std.specs.Prelude.{◌≡◌, ℕ, ◌*◌, ◌<◌, ◌≤◌, ◌⊎◌, Bool, true, List, [], length, slice_index, Option}
 use Rattle.std.specs.Prelude.{Some, None}

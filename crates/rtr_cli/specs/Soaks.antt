@@ -1,3 +1,4 @@
+-- Rule: the text of a soak: soak_lines
 -- The text of a soak: what a run of a generated image came to.
 use Rattle.std.specs.Prelude.{ℕ, zero, suc, ◌+◌, ◌==◌, if◌then◌else◌, List, ◌++◌, length, sum_by, slice_index}
 use Rattle.std.specs.Prelude.{codes, decimal}

@@ -1,4 +1,8 @@
-//! The top call of the tool: from words and an input to an output, a report and a way to end.
+//! The top call of the tool: from words and an input to an output, a report and an exit.
+//!
+//! Proved: for words that mean a command, `run_tool` says by `answered` what each exit guarantees of input and output;
+//! `Usage` comes exactly where words mean nothing (`usage`). `complete`: a command ends at `Done` for each input that
+//! it accepts, unless memory runs out or a stream fails. docs/PROVED.md has these clauses one by one.
 #![tactic(auto)]
 
 mod buffers;

@@ -1,4 +1,6 @@
-//! `rtr_gdb`, recorded runs in a debugger.
+//! `rtr_gdb`, recorded runs in a debugger: one call of `gdb_cli`.
+//!
+//! Tested: its stored run.
 #![tactic(auto)]
 
 use gdb_cli::run_program;

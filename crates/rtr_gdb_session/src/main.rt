@@ -1,4 +1,6 @@
-//! The debugger's program in a session: its stored run has the packets of a debugger and what is answered to them.
+//! The debugger's program, whose stored run is a session.
+//!
+//! Tested: its stored run has the packets of a debugger and what is answered to them.
 #![tactic(auto)]
 
 use gdb_cli::run_program;

@@ -1,5 +1,10 @@
-//! Where bytes come from and go to: the two traits that the tool reads and writes by, a reader to
-//! the end and a writer of all, and the streams over memory and over std's readers and writers.
+//! Sources and sinks of bytes, reading to the end and writing all, over memory and over std's streams. `Source` and
+//! `Sink` are the two traits by which the tool reads and writes.
+//!
+//! Proved: `read_all` gives all that was left, or says which fault came and how much was taken. At `TooLarge` that is
+//! just one byte more than `max`, at `ReadFault` at most `max`, and for want of memory at most one more. `write_all`
+//! gives all or a part. The clauses of `MemSource` and `MemSink` say which calls fail and how much the others move.
+//! `StdSource` and `StdSink` move what their reader or writer moves, wherever that tells it.
 #![tactic(auto)]
 
 mod memory_streams;

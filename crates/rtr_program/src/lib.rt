@@ -1,4 +1,7 @@
-//! The program but for its `main`: what it does with the standard streams and the words of its command line.
+//! The program but for `main`: streams, words, status, and what a person sees who waits.
+//!
+//! Proved: `conclude` ends the process with the status of the exit by which the tool answers (`answered`). That exit's
+//! text goes to the report and to nothing else. docs/PROVED.md has its clauses.
 #![tactic(auto)]
 
 mod program;

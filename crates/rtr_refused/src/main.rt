@@ -1,4 +1,6 @@
-//! The program on words that mean nothing: its stored run wants the status of a refusal, and an empty output.
+//! The program on words that mean nothing, whose stored run is refused.
+//!
+//! Tested: its stored run wants the status of a refusal, and an empty output.
 #![tactic(auto)]
 
 use rtr_program::run_program;

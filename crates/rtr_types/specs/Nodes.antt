@@ -1,3 +1,4 @@
+-- Rule: a node, an instruction that totals have: IsNode
 -- The nodes of the order graph: the instructions that cores retire which have these totals.
 use Rattle.std.specs.Prelude.{ℕ, ◌<◌, ◌≤◌, List, length, slice_index}
 use Rattle.rtr_types.specs.declared.instr.Instr.{Instr}

@@ -1,5 +1,8 @@
-//! A run that was worked out by hand, as a play: the order in which its instructions retired is played over
-//! one flat memory. Each value is computed from the definitions alone.
+//! The worked run of a handed over word, as a play: its order of retirement is played over one flat memory. Each value
+//! is computed from the definitions alone.
+//!
+//! Proved: the order of retirement of the worked run, played, gives its outcome (`a_handed_over_word_is_played`,
+//! clauses `order` and `play`).
 #![tactic(auto)]
 
 ghost use Rattle.run_examples.specs.HandingOver.{HandedOverByPlay, HandedOverInOrder};

@@ -1,3 +1,4 @@
+-- Rule: the machine over every run: RunHolds
 -- What holds of the machine over every run.
 use Rattle.std.specs.Prelude.{◌≡◌, ℕ, ◌+◌, ◌*◌, ◌<◌, ◌≤◌, true, false, IsTrue, length}
 use Rattle.access_times.specs.Riding.{none_carrying, none_riding}

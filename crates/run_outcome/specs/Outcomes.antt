@@ -1,3 +1,4 @@
+-- Rule: what a run comes to: outcome_of
 -- What a run of the machine comes to.
 use Rattle.std.specs.Prelude.{◌≡◌, ℕ, ◌<◌, ◌≤◌, All, List, length, map}
 use Rattle.rtr_types.specs.Parameters.{Fits}

@@ -1,3 +1,4 @@
+-- Rule: what a run records, and what is promised of a recording: recording_of, IsRecorded
 -- What a run is recorded as.
 use Rattle.std.specs.Prelude.{◌≡◌, ℕ, List, map, Ok}
 use Rattle.image_mem.specs.Contents.{Contents}

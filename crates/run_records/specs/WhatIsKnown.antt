@@ -1,3 +1,4 @@
+-- Rule: what counts what is known: CountsKnown
 -- What a count of what is known in a run counts.
 use Rattle.std.specs.Prelude.{◌≤◌, ◌↔◌}
 use Rattle.image_mem.specs.Contents.{Contents}

@@ -1,3 +1,4 @@
+-- Rule: the regulated log of a run: RegulatesRun
 -- Both logs of what a run records.
 use Rattle.std.specs.Prelude.{◌≡◌, ℕ, ◌*◌, ◌≤◌, [], length, slice_index_or}
 use Rattle.image_mem.specs.Contents.{Contents}

@@ -1,3 +1,4 @@
+-- Rule: a run is a play: PlaysRun
 -- A run as a play of its recording.
 use Rattle.std.specs.Prelude.{◌≡◌, ℕ, List, map}
 use Rattle.image_mem.specs.Contents.{Contents}

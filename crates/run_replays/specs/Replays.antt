@@ -1,3 +1,4 @@
+-- Rule: every order follows the run: ReplaysRun
 -- The replays of what a run records.
 use Rattle.std.specs.Prelude.{◌≡◌, ℕ, ◌*◌, ◌≤◌, ◌⊎◌, ◌↔◌, List, ◌++◌, length}
 use Rattle.image_mem.specs.Contents.{Contents}

@@ -1,3 +1,4 @@
+-- Rule: what a run rests on: IsSetUp
 -- What a run rests on, and what is on its way through one.
 use Rattle.std.specs.Prelude.{◌≡◌, ℕ}
 use Rattle.image_mem.specs.Contents.{Contents}

@@ -1,3 +1,4 @@
+-- Rule: what an instruction needs, does and writes: need, after, wrote
 -- What a core's next instruction needs, the core after it, and the word's value after it. Where several
 -- stops hold, the first of their order is taken.
 use Rattle.std.specs.Prelude.{ℕ, ◌+◌, ◌*◌, ◌/◌, ◌%◌, ◌==◌, nat_le, Bool, true, false, if◌then◌else◌, Option, Some, None}

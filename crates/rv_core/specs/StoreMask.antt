@@ -1,3 +1,4 @@
+-- Rule: what a store replaces of its word: store_mask
 -- What a store replaces of its word, whatever the word holds: which bits, and what they become.
 use Rattle.std.specs.Prelude.{◌≡◌, ℕ, ◌-◌, ◌%◌, ◌^◌, Bool, true, false, Option, Some, None, bit_and, bit_or}
 use Rattle.std.specs.Int.{bit_not, w32}

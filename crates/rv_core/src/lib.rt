@@ -1,8 +1,11 @@
-//! One core of RV32I, the base integer instruction set of the RISC-V Unprivileged ISA, version
-//! 20191213, chapter 2, with the nine atomic memory operations on a word of the A extension, chapter 8:
-//! what its next instruction needs of memory, and its state after that instruction. The layers above know
-//! an instruction only by what it needs, what it leaves and what it wrote, and by the laws of the module
-//! `laws`.
+//! One core: what its next instruction needs of memory, and its state after it. It is a core of RV32I (RISC-V
+//! Unprivileged ISA, version 20191213, chapter 2) with the nine atomic memory operations on a word of chapter 8. The
+//! layers above know an instruction only by what it needs, leaves and writes, and by the laws of the module `laws`.
+//!
+//! Proved: `Core::need` and `finish` are the definitions `need`, `after` and `wrote`. The module `laws` has the laws of
+//! a step, by whether the needed access reads and writes its word. `Program::op` is the instruction at an address by
+//! its definition. `store_mask` is the mask and bits of a store. For every old word they give what the store writes,
+//! and the bits lie within the mask (`masks_give_what_stores_write`).
 #![tactic(auto)]
 
 mod atomics;

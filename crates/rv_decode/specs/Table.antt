@@ -1,3 +1,4 @@
+-- Rule: which words are instructions: decoded
 -- The table of RV32I and of the atomic memory operations of RV32A: which instruction a word is, by opcode,
 -- then funct3, then funct7 or its upper five bits, in the order of the RISC-V Unprivileged ISA's listing of
 -- chapter 24.

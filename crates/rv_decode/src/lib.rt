@@ -1,8 +1,9 @@
-//! Instruction words of RV32I, the base integer instruction set of the RISC-V Unprivileged ISA,
-//! version 20191213, chapter 2, and of the nine atomic memory operations on a word of its A extension,
-//! chapter 8: a word's instruction, an instruction's word, and which instructions have a word. Everything
-//! else is no instruction here, such as FENCE.I, the CSR instructions, the M and C extensions, and LR and
-//! SC of the A extension.
+//! Instruction words of RV32I and of the atomic memory operations on a word. The standard is the RISC-V Unprivileged
+//! ISA, version 20191213: chapter 2, and of chapter 8 the nine operations. Everything else is no instruction here:
+//! FENCE.I, the CSR instructions, the extensions M and C, and LR and SC of A.
+//!
+//! Proved: `decode` is the table of the standard (`table`), and what it answers is in range (`in_range`). `encode` is
+//! the formats, and `decode(encode(op)) = op` (`word`, `read_back`).
 #![tactic(auto)]
 
 mod decoder;

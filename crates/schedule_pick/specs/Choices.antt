@@ -1,3 +1,4 @@
+-- Rule: the choices of a schedule: choice_at
 -- The choices of a schedule.
 use Rattle.std.specs.Prelude.{◌≡◌, ℕ, zero, suc, ◌+◌, ◌-◌, List, [], ◌∷◌, length, slice_index, nat_lt, if◌then◌else◌}
 use Rattle.rand_pcg.specs.Lcg.{Lcg, increment_of, started}

@@ -1,5 +1,9 @@
 //! Sessions of a debugger, packet by packet. It has tests alone, and stands apart so that the crate of sessions is
 //! proved without them.
+//!
+//! Tested, not proved of gdb: a session of gdb 13.1 on a program that ends by a fault is answered to the byte, but for
+//! one user's command. Steps, breakpoints of both kinds, watched ranges of each kind, refusals, interrupts and ends are
+//! worked out by hand on a recording of two cores.
 #![tactic(auto)]
 
 #[cfg(test)]

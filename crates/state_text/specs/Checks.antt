@@ -1,3 +1,4 @@
+-- Rule: the text of a check: check_lines
 -- The texts of checks that found nothing wrong.
 use Rattle.std.specs.Prelude.{ℕ, List, ◌++◌, codes, decimal}
 use Rattle.state_text.specs.Pieces.{line}

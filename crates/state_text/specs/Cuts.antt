@@ -1,3 +1,4 @@
+-- Rule: the text of a state at a cut: cut_state_lines
 -- The text of the state at a cut of a recording.
 use Rattle.std.specs.Prelude.{ℕ, Bool, List, ◌++◌, codes}
 use Rattle.image_mem.specs.Contents.{Contents}

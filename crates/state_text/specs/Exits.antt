@@ -1,3 +1,4 @@
+-- Rule: exits, their numbers and reports: status_of, fault_line
 -- The exit status and the fault text of each way to end.
 use Rattle.std.specs.Prelude.{ℕ, List, [], ◌++◌, codes, decimal, take}
 use Rattle.std.specs.List.{flat_map}

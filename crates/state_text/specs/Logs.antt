@@ -1,3 +1,4 @@
+-- Rule: the text of the logs: logs_lines
 -- The text of a recording's totals and logs. A total stands beside its core, and the list of a pair of
 -- cores beside the pair's place, of which the pair's two cores are read.
 use Rattle.std.specs.Prelude.{◌≡◌, ℕ, nat_lt, if◌then◌else◌, List, [], ◌++◌, length, sum_by, codes, decimal}

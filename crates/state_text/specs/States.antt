@@ -1,3 +1,4 @@
+-- Rule: the text of a state: state_lines
 -- The text of the state that a run or a replay left. A core, a word and a core's loads stand beside
 -- their places, which number cores and words from 0 on.
 use Rattle.std.specs.Prelude.{◌≡◌, ℕ, ◌*◌, ◌<◌, ◌≤◌, ◌==◌, if◌then◌else◌, Bool, List, [], ◌++◌, length, codes, decimal}

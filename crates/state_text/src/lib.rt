@@ -1,6 +1,8 @@
-//! The texts that the tool prints: how a command ended, the state that a run or a replay left or a cut comes to, the
-//! logs of a recording, and that a check found a log least or its vectors needed. Each line ends with one line feed,
-//! and each text is a list of bytes that the definitions in `specs/` give line by line.
+//! The texts that the tool prints: exits with their reports, states, logs, cuts and checks. Each line ends with one
+//! line feed, and each text is a list of bytes that the definitions in `specs/` give line by line.
+//!
+//! Proved: `state_text`, `cut_state_text`, `logs_text`, `check_text`, `needed_text`, `fault_text` and `status` are
+//! their definitions, byte for byte.
 #![tactic(auto)]
 
 mod checks;

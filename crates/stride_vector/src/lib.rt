@@ -1,4 +1,7 @@
 //! Strided vectors: several edges from one core to another, equally far apart on both.
+//!
+//! Proved: `last`, `position`, `next` and `source_of` answer what the definition says of a vector. `vector_laws`: its
+//! edges rise on both cores.
 #![tactic(auto)]
 
 ghost use Rattle.std.specs.Prelude.{◌≡◌, ℕ, ◌<◌, ◌^◌, Some, IfSome};

@@ -1,5 +1,7 @@
 //! Thinned recordings, worked out by hand and beside a slow program that thins by the definition. It has tests alone,
 //! and stands apart so that the crates above don't wait for it.
+//!
+//! Tested: `vector_reduce`, against a slow program by reachability, and on a file with each byte changed.
 #![tactic(auto)]
 
 #[cfg(test)]

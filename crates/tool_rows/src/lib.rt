@@ -1,5 +1,7 @@
-//! Worked examples of the whole tool, as tables over the top call. A row is data, so that a test is one
-//! loop over a table.
+//! Worked examples of the whole tool, as tables over the top call. A row is data, so that a test is one loop over a
+//! table.
+//!
+//! Tested: the worked examples of the whole tool, by calls of `rtr_cli`.
 #![tactic(auto)]
 
 #[cfg(test)]

@@ -1,3 +1,4 @@
+-- Rule: the meaning of words: meaning
 -- What words mean: they are cut into settings, which are put in one after the other.
 use Rattle.std.specs.Prelude.{◌≡◌, ℕ, nat_lt, List, [], ◌∷◌, length, Option, Some, None, is_some, ◌==◌, Bool}
 use Rattle.std.specs.Prelude.{if◌then◌else◌}

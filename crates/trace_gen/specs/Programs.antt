@@ -1,3 +1,4 @@
+-- Rule: the generated programs and their images: program, generated
 -- The programs, instruction by instruction, and their images.
 use Rattle.std.specs.Prelude.{ℕ, pos, ◌+◌, ◌*◌, ◌/◌, ◌%◌, ◌==◌, ◌&&◌, nat_le, Bool, true, if◌then◌else◌, List, [], ◌∷◌}
 use Rattle.std.specs.Prelude.{◌++◌, length, map}

@@ -1,6 +1,8 @@
-//! Who is told of what cores with store buffers do, in program order: an instruction that touches no data, an access
-//! that is ordered, or a load that is logged. What such a clerk comes to once it was told of a whole step, of which it
-//! may be told several instructions, is a definition over the list that the step tells.
+//! The observer of retirements on cores with store buffers (`TsoClerk`): each instruction is told once, in program
+//! order. It is an instruction that touches no data, an access that is ordered, or a load that is logged.
+//!
+//! Proved: nothing by itself, since it is a trait with definitions. They say what a clerk that is told of a list of
+//! instructions comes to, and what it accepts to be told.
 #![tactic(auto)]
 
 mod clerk;

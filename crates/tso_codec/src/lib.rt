@@ -1,6 +1,11 @@
-//! Recordings of runs on cores with store buffers (total store order, as RISC-V's extension Ztso has it), as
-//! bytes: the parameters, the image, the totals and the reduced log as version 2 of a recording has them, and
-//! then the words of the loads that are logged. Numbers are unsigned LEB128 in its shortest form.
+//! Recordings of cores with store buffers as bytes (version 3): the reduced log and the words of logged loads. The
+//! order of memory is total store order, as RISC-V's extension Ztso has it. Parameters, image, totals and the reduced
+//! log are spelled as version 2 of a recording has them.
+//!
+//! Proved: `tso_read` reads exactly what `tso_spell` writes (`found`, `only`, `exact`). Each recording has one
+//! spelling, and none begins another (`spelling_laws`). `bad_part_law`: each of the parts 1 to 6 is named exactly where
+//! the parts below are spelled by a front of the bytes and no valid one follows. Both readers of other recordings
+//! answer part 1 to these bytes, and this reader answers it to theirs (`spelling_laws`).
 #![tactic(auto)]
 
 pub mod laws;

@@ -1,7 +1,10 @@
-//! What every state of a run of the machine with store buffers keeps of the data: the copies of a block that count have
-//! the words of the memory that the ordered accesses make. So each ordered access finds the value that the last one to
-//! its word left, a load that isn't logged got that value, and the memory at the end has what the last ones left. The
-//! crate has laws alone.
+//! What ordered accesses find, which loads are logged, and the final memory. The copies of a block that count have the
+//! words of the memory that the ordered accesses make. The crate has laws alone.
+//!
+//! Proved: an ordered access finds what the last ordered write to its word left (`an_access_finds_the_last_value`). A
+//! pending load is ordered exactly where its port can read the block and has its value still, and is logged with its
+//! value elsewhere (`a_load_leaves_with_its_value`). The final memory is what the last ordered writes left
+//! (`final_memory_law`).
 #![tactic(auto)]
 
 mod laws;

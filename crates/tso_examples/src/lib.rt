@@ -1,5 +1,9 @@
 //! Small runs of the machine with store buffers that its definitions are proved to give. Each is computed from the
-//! definitions of state, moves and step alone, and a plain program gave what is claimed.
+//! definitions of state, moves and step alone.
+//!
+//! Proved: the definitions give six runs. Both loads are logged (thirty steps), one is, a core sees its own store, and
+//! bytes of one word are shared. Sums are made by atomic memory operations, and two blocks share a line with a FENCE.
+//! The values come from a plain program outside the repository.
 #![tactic(auto)]
 
 ghost use Rattle.tso_examples.specs.Examples.{BothLogged, BytesBuffered, MixedEnds};

@@ -1,3 +1,4 @@
+-- Rule: what a run with store buffers under a schedule comes to: tso_outcome_of
 -- What a run of cores with store buffers comes to under a schedule, and where it stands before.
 use Rattle.std.specs.Prelude.{◌≡◌, ℕ, List, length, map}
 use Rattle.std.specs.List.{range_with_len}

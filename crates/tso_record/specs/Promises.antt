@@ -1,3 +1,4 @@
+-- Rule: what is promised of a recording of cores with store buffers: IsTsoRecordingOf
 -- What is promised of the recording that a run of cores with store buffers leaves.
 use Rattle.std.specs.Prelude.{◌≡◌}
 use Rattle.conflict_edge.specs.Least.{IsLeast}

@@ -1,7 +1,14 @@
-//! The recorder of cores with store buffers: one run of an image under one schedule, with the least set of edges that
-//! orders its ordered accesses, and the words of the loads that are logged. While the run goes on each ordered access
-//! gets the edges that nothing else implies, from times that lie beside the caches' copies; the recorder holds no list
-//! of accesses. What a recording is, and what holds of it, stands in `tso_recordings`.
+//! The recorder of cores with store buffers, in code: the reduced log of the ordered accesses, and the words of the
+//! logged loads. While the run goes on each ordered access gets the edges that nothing else implies, from times that
+//! lie beside the caches' copies. The recorder holds no list of accesses.
+//!
+//! Proved: `tso_record` answers the definition's outcome and recording of exactly this image, these parameters and this
+//! schedule (`outcome`, and `recording` in `IsTsoRecordingOf`). `valid`: the recording can be spelled. `least`: its
+//! reduced log is the least set of the accesses that the run ordered. `logged`: its values are the words of exactly the
+//! loads that left their queue where their core's port couldn't read the word, or the word differed. `replayed`: every
+//! replay order of it plays by the run's accesses, and gives each core the first of the run's loads, each with its
+//! word. It can go on until it is whole, and a whole one ends in the outcome. `tso_record_image`: the same of the
+//! recording alone.
 #![tactic(auto)]
 
 mod run;

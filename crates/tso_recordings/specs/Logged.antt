@@ -1,3 +1,4 @@
+-- Rule: which loads a run with store buffers logs: AreLogged
 -- Which loads a run logs.
 use Rattle.std.specs.Prelude.{◌≡◌, ℕ, ◌<◌, ◌↔◌, ◌⊎◌, false, List, [], ◌∷◌, Some, slice_index_or}
 use Rattle.access_times.specs.Riding.{none_carrying, none_riding}

@@ -1,3 +1,4 @@
+-- Rule: what a run with store buffers is recorded as: tso_recording_of
 -- What the run of an image under a schedule is recorded as, by cores with store buffers, and what replays of that
 -- answer.
 use Rattle.std.specs.Prelude.{◌≡◌, ℕ, List}

@@ -1,4 +1,7 @@
-//! Runs of cores with store buffers from their start to their end that keep no record but each core's loads.
+//! A run of cores with store buffers from its start to its end, without a log: each core's loads alone are kept.
+//!
+//! Proved: `tso_run` answers the definition's outcome of exactly this image, these parameters and this schedule
+//! (`outcome`). It has all loads and atomic memory operations, with the words that they got. `image` comes back.
 #![tactic(auto)]
 
 mod run;

@@ -1,3 +1,4 @@
+-- Rule: what happens with store buffers, and what is told: event_executing, event_ordering, event_receiving, tellings
 -- What a core does in a move, what becomes of it, and what the clerk is told, for every type of riders and carries.
 use Rattle.std.specs.Prelude.{ℕ, ◌+◌, ◌-◌, ◌/◌, ◌==◌, ◌&&◌, List, [], ◌∷◌, ◌++◌, drop, map, if◌then◌else◌}
 use Rattle.std.specs.List.{range_with_len}

@@ -1,3 +1,4 @@
+-- Rule: what a core's loads see of its own pending stores: left_by, forwarded
 -- The pending accesses of a core, oldest first, and what its own loads see of them.
 use Rattle.std.specs.Prelude.{ℕ, ◌==◌, Bool, true, false, List, [], ◌∷◌, length, if◌then◌else◌}
 use Rattle.std.specs.List.{filter}

@@ -1,3 +1,4 @@
+-- Rule: a run with store buffers, its ordered accesses and logged loads: run, accesses, logged_loads, outcome_at
 -- The runs of the plain machine: its state after so many choices, when a run ends, which accesses are ordered in it and
 -- which loads are logged, in which order instructions are told, and what it leaves.
 use Rattle.std.specs.Prelude.{ℕ, ◌==◌, ◌&&◌, Option, List, [], ◌∷◌, ◌++◌, map, zero, suc, if◌then◌else◌}

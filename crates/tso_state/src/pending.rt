@@ -1,4 +1,6 @@
 //! The accesses that a core has executed and that aren't ordered yet.
+//!
+//! Rule: pending accesses of a core with a store buffer: Pending, Asker
 
 /// How many accesses of a core may be pending.
 pub const PENDING_MAX: usize = 16;

@@ -1,4 +1,8 @@
-//! Exact times of a machine with store buffers, by the accesses that were ordered. The crate has laws alone.
+//! Riders that record times have those of the ordered accesses, at each step. The crate has laws alone.
+//!
+//! Proved: riders that record times have the last write, and each core's last read since, of each word, by the accesses
+//! ordered so far (`timed_steps`). An ordered access finds these. Riders that meet have the same last writes
+//! (`riders_meet_alike`).
 #![tactic(auto)]
 
 mod laws;

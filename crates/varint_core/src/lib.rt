@@ -1,5 +1,8 @@
-//! Numbers below 2^32 as unsigned LEB128 in its shortest form: seven bits a byte, the low ones
-//! first, with the top bit set in each byte but the last.
+//! Numbers below 2^32 as bytes, by unsigned LEB128 in its shortest form. Each byte has seven bits, the low ones first,
+//! and the top bit is set in each byte but the last.
+//!
+//! Proved: `put_u32` appends a number's spelling, and `take_u32` is the reading. The laws `round_trip`, `one_spelling`
+//! and `prefix_free` say that each number has one spelling, which is read back, and that none begins another.
 #![tactic(auto)]
 
 ghost use Rattle.std.specs.Prelude.{◌≡◌, ◌+◌, ◌++◌, ◌<◌, ◌≤◌, OnOk, OnErr, IfOk, length};

@@ -1,3 +1,4 @@
+-- Rule: a log that was thinned: IsThinningOf
 -- What thinning and its check answer.
 use Rattle.std.specs.Prelude.{◌≡◌, ◌≢◌, ℕ, ◌+◌, ◌<◌, ◌≤◌, ◌⊎◌, ◌↔◌, List, length}
 use Rattle.rtr_types.specs.declared.instr.Instr.{Instr}

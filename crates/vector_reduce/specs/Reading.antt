@@ -1,3 +1,4 @@
+-- Rule: the reading of a thin file: thinned_at
 -- Reading a thinned recording from left to right. A number that doesn't fit is a fault of the part in which it stands.
 use Rattle.std.specs.Prelude.{ℕ, List, length, Result, Ok, Err, nat_eq, if◌then◌else◌}
 use Rattle.std.specs.List.{starts_with}

@@ -1,3 +1,4 @@
+-- Rule: what shows a vector to be needed: IsShown
 -- What shows that a vector is needed.
 use Rattle.std.specs.Prelude.{◌≡◌, ℕ, ◌<◌, List, [], length, slice_index_or, Option, Some, None}
 use Rattle.rtr_types.specs.declared.TheConstants.{CORES_MAX}

@@ -1,3 +1,4 @@
+-- Rule: the bytes of a thin file: spelling
 -- The spellings of thinned recordings: the first five parts of a recording in version 2, then what shows that each
 -- vector is needed.
 use Rattle.std.specs.Prelude.{◌≡◌, ℕ, List, ◌++◌}

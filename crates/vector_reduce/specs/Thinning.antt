@@ -1,3 +1,4 @@
+-- Rule: vectors that the others imply, and what thinning leaves: IsImplied, Thins
 -- Thinning: each vector is tried once, in order, and left out where the others imply it.
 use Rattle.std.specs.Prelude.{◌≡◌, ℕ, ◌<◌, ◌⊎◌, List, [], ◌∷◌, ◌++◌, length}
 use Rattle.rtr_types.specs.declared.instr.Instr.{Instr}
