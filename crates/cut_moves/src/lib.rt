@@ -1,6 +1,9 @@
 //! How a debugger moves: steps from closed cut to closed cut and back, the order of the run by rounds, and the ways
 //! along it.
 //!
+//! Several cores go on by rounds, and not by the low order, which runs core 0 as far as the log lets it. The order is
+//! fixed for a recording, so backward passes what forward passed.
+//!
 //! Proved: of an audited recording, `step` comes from a closed cut to the least one that contains it and holds the
 //! core's next instruction (`step`). `step_back` comes to the greatest one within it that lacks the core's last
 //! (`back`), and the core moves by exactly one (`one`). `earliest` and `latest` are the least and the greatest closed

@@ -1,6 +1,9 @@
 //! Where a recorded run stood at an instruction: its two closed cuts (consistent global states), and the state at a
 //! closed cut. They are the least one with the instruction and the greatest one without it.
 //!
+//! A clock counts the least closed cut with its instruction, so `cut_with` is one look-up, and `cut_without` finds its
+//! numbers by halving. Neither takes memory.
+//!
 //! Proved: of an audited recording, `cut_with` is closed under the log, holds the instruction, and is contained in
 //! every closed cut that holds it. `cut_without` is closed, doesn't hold it, and contains every closed cut that
 //! doesn't; neither is refused. `state_of` gives the cores, memory and loads of the play of every replay order whose

@@ -1,6 +1,10 @@
 //! Where a debugger stands in a recorded run: one live replay, always at a closed cut, which moves on and back along
 //! the timeline.
 //!
+//! Going on costs what is retired, and going back replays from the beginning. What stops a place is a test of the state
+//! and of the core whose instruction comes next, given by a trait. If memory runs out, a move that goes on stays where
+//! it came to.
+//!
 //! Proved: a `Place` is always at a closed cut, and its state is the one that every replay order has that comes there
 //! (`cut`: `stands`). `core`, `word` and `next_use` tell that state. `step` comes to the least closed cut with the
 //! core's next instruction, and `step_back` to the greatest one without its last. `seek` and `move_on` come to the cut

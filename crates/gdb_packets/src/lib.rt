@@ -1,5 +1,8 @@
 //! GDB's remote protocol without a recording: frames, acknowledgements, what packets ask, and how answers are spelled.
 //!
+//! `$` begins a frame also behind its `#`: the frame before is lost, and the next one isn't. A frame takes no more
+//! memory however long it is. What packets ask is one total definition, by their first bytes.
+//!
 //! Proved: a frame tells its payload of at most 4096 bytes and nothing else, whatever stood before it, and takes
 //! nothing of what follows (`a_frame_is_read_back`). Bytes tell the same however they are cut
 //! (`pieces_make_no_difference`). `frame` is the frame by its definition, whose sum is the escaped body's.

@@ -1,6 +1,9 @@
 //! A debugger's session over two streams, whoever answers: bytes are heard, acknowledged at once, and each packet
 //! answered before the next byte.
 //!
+//! The first packet is acknowledged before anything slow is done. Else gdb sends it again after two seconds, and then
+//! takes each answer for that of the packet behind. An interrupt before it is passed over.
+//!
 //! Proved: `greet` hears bytes to the end of the first packet, or to the input's end where no packet comes (`Greets`).
 //! The packet is acknowledged and not answered yet, and just what has to be said at once is given. `talk` goes on from
 //! there byte by byte (`Talked`). It gives just the acks, the frames again where they are wanted, and the frames of the

@@ -2,6 +2,10 @@
 //! has registers, memory and threads of a place, steps, breakpoints and watched ranges, forth and back, of all cores or
 //! only some, and the user's commands.
 //!
+//! What moves is a relation, since a walk's cut is; all other answers are functions of place, wishes and points. A
+//! fault is foreseen before the last instruction, and told behind it. A step back goes the way back and doesn't jump,
+//! so no watched access is passed. No stop is told for a core that wasn't asked to move.
+//!
 //! Proved: to every packet `Session::answer` answers the definition's place, wishes, points and payloads (`Answers`),
 //! so every stop is at a closed cut (`cut`: `stands`). `g`, `p` and `m` tell the registers and words of that cut's
 //! state, each word's lowest byte first. A step goes the way to the least closed cut with the core's next instruction.

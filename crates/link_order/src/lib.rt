@@ -1,5 +1,8 @@
 //! Ordered links of bounded length between the actors of the machine: queues whose places are lent.
 //!
+//! A link is a ring of places, each of which holds a value at all times (`Blank`). A sender writes an item where it
+//! lies, and a receiver reads it where it lies, so no message is moved.
+//!
 //! Proved: a link is a list of bounded length, oldest first (`push`, `pop`). A place that is lent ends as the newest
 //! item (`push_place`), and the oldest item can be lent (`head`).
 #![tactic(auto)]

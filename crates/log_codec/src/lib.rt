@@ -1,6 +1,10 @@
 //! Recordings as bytes, in the one spelling that each recording has in each of two versions of the format. The parts
 //! are parameters, image, totals and the two logs.
 //!
+//! Readers never reserve memory by a count from the file. The tests of a header or a vector come after all its numbers
+//! are read. Version 1 keeps its limits as numbers of its own; those of version 2 are what a run may have. The edges
+//! into a core are merged from one list a source core, and only the front that was taken is renewed.
+//!
 //! Proved: `read` and `read_front` are exactly the reading of both versions, with the first part that has none
 //! (`found`, `only`, `exact`). `spell` gives version 2's spelling of every valid recording, whose limits are those of a
 //! run. `spell_v1` gives version 1's of those within its own narrower limits. `bad_part_law`: a reading that fails

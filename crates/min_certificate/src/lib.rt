@@ -1,5 +1,9 @@
 //! Certificates that a recording's reduced log is least: `certify` makes one, and `check` judges one, whoever made it.
 //!
+//! An entry is good if it has its own count at its own place, and elsewhere at least what the entry before it on its
+//! core has. Everywhere it has at least what the entries of its logged sources have. So good entries are never too low.
+//! One that is too high makes an edge look unneeded, and is refused.
+//!
 //! Proved: `check` says yes only where the recording is determinate and its reduced log is least, whoever made the
 //! certificate. Else it names the first failure in the order of the tests, and it accepts what `certify` gave.
 //! `certify` gives exact entries, or names the first edge that is implied or no conflict. `certificate_tests`: whether

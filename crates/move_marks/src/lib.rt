@@ -2,6 +2,10 @@
 //! what a turn of the home changes of them. Each machine over a memory system keeps such marks, so that no step looks
 //! at all cores.
 //!
+//! Four sets of cores lie in one word, so the number of moves is a count of bits. A choice's move is found by passing
+//! whole kinds over. A move renews only the bits of what it changed. The request of a core that asked is looked at when
+//! room is made for it, or else before the next move.
+//!
 //! Proved: `set`, `mark_all` and `clear_all` change the marks that they name, core by core and kind by kind, and
 //! nothing else. `count` is how many are marked, and `pick` the one of a number in the list of the marked moves, by
 //! kinds and cores. `mark_turn`: after a turn of the home exactly the messages that it sent are marked too, and the

@@ -1,5 +1,9 @@
 //! The reduced log, made while the run goes on: each access gets the edges that nothing else implies.
 //!
+//! Only what the core's previous clock doesn't know of is a candidate. A store's candidates are the reads since the
+//! last write, or that write if there are none, so a core has at most one candidate. The new clock merges the clocks of
+//! all candidates, kept or not.
+//!
 //! Proved: `Reducer`'s calls are its definitions, for all times that are handed in. Where these are exact, `retire`
 //! answers exactly the covering pairs into the access, once and by rising source core (`exact_for_law`, `retire_law`).
 //! Then its clock is exact, all edges together are the least set (`least_law`), and each pair's list rises in both

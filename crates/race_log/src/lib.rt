@@ -1,6 +1,8 @@
 //! Recordings as values: parameters, image, totals and both logs, which of them are valid, and each log's edges. The
 //! crate knows no bytes.
 //!
+//! Replays, audits, cuts and the debugger stand on values alone, so a change of the format proves none of them again.
+//!
 //! Proved: `source` is the count of the one edge from a core to an instruction, or none, in either log (clauses
 //! `found`, `only`). `reduced_source_near` answers the same by a guess, and `edge_count` is the length of the log's
 //! list of edges. `copied` is the same recording, and `copied_with` is the same but for its regulated log.

@@ -1,6 +1,9 @@
 //! What is asked about races: last writes, loads since, all accesses to a word, conflicts, edges, and which instruction
 //! comes before which.
 //!
+//! It answers by the accesses of the low order and by clocks. The answers don't depend on that order, since writes of a
+//! word conflict. `edges_out_of` takes time by the length of the run, since logs are kept by target.
+//!
 //! Proved: of an audited recording, `last_write` is the write of the word in the cut to which each other write of it in
 //! the cut leads. It is None exactly where the cut has none. `reads_since` has exactly the loads of the word in the cut
 //! to which each write of it in the cut leads, each once. `history` has exactly the accesses to the word.

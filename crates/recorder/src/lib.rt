@@ -2,6 +2,9 @@
 //! the edges that nothing else implies, from times that lie beside the caches' copies. The recorder holds no list of
 //! accesses.
 //!
+//! It keeps no outcome. `record_run` makes the run twice, by `run_image` and by `record_image`: run and recording are
+//! one function of image, parameters and schedule, so both speak of one run.
+//!
 //! Proved: `record_run` answers the definition's outcome and recording of exactly this image, these parameters and this
 //! schedule (`outcome`, and `recording` in `IsRecordingOf`). `least`: the reduced log is the least set of the run's
 //! accesses. `regulated`: the regulated log has each pair's greedy vectors of the reduced edges, by whatever counts

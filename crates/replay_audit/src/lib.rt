@@ -1,6 +1,10 @@
 //! Whether a recording is determinate by one of its logs: every replay order gives each load the same value and ends
 //! alike. The audit decides it, and the laws hold with given values too.
 //!
+//! An audit keeps clocks only of instructions to which an edge leads. `Undetermined` names the earliest access in the
+//! low order that has an earlier one in conflict which the log doesn't order, and of those the latest. Room is taken
+//! beforehand only up to a bound, since totals may say anything before they are replayed.
+//!
 //! Proved: `audit` passes exactly where the recording is determinate by the log, and refuses with exactly the first
 //! reason. `ordered` and `judge` decide the same from counts and from the accesses of any whole order. So do
 //! `WholeOrder::of` and `WholeOrder::judge`, which go along one walk. Where some whole order decides, every order

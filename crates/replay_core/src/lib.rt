@@ -1,6 +1,11 @@
 //! Replays of a recording by one of its logs: replay orders, the low order, and plays with and without given values. A
 //! play goes over one flat memory. The low order takes the lowest-numbered ready core at each place.
 //!
+//! There is one definition of a play. It takes for each core and count a value or none, and a play without values is
+//! the one in which none is given. `run` and the audit go along the same `LowOrder`, which looks each instruction's
+//! sources up once. If the low order falls short and would get stuck later, or the other way round, the reason that it
+//! meets first is told.
+//!
 //! Proved: `run` is the play of the low order, with `Stuck` and `Short` exactly where that order ends early or falls
 //! short. `Stuck` has its cut, and `Short` its core and count. `Replay::ready` holds for a core exactly where its place
 //! can be added to the replay order that was played, and `advance` is one place of the play. A play goes by image,

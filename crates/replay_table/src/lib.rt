@@ -1,5 +1,10 @@
 //! The table that the workers of a replay share: a word for each word of memory, a done word and a seat for each core.
 //!
+//! The rule says that some order stands, and no history is kept of which. A store of a part of a word is a load and
+//! then a compare-exchange, and so is an atomic memory operation. The exchange isn't tried again: if the recording is
+//! determinate, it never fails. A seat looks up its next instruction and its logged sources once. A core that runs
+//! local instructions takes no step.
+//!
 //! Proved: each seat call names its one step of the table by a relation, and what the rule tells of it. `make` deals
 //! each core a seat that has done, seen and holds nothing. The opening memory with done counts of 0 keeps the table's
 //! rule, and as long as nothing was executed no other words do (`a_table_opens`). Rule and step give what is told of it

@@ -1,5 +1,8 @@
 //! The program but for `main`: streams, words, status, and what a person sees who waits.
 //!
+//! Who waits at a terminal sees the seconds there, told by a thread beside the top call. What goes to a file or a pipe
+//! has no such line.
+//!
 //! Proved: `conclude` ends the process with the status of the exit by which the tool answers (`answered`). That exit's
 //! text goes to the report and to nothing else. docs/PROVED.md has its clauses.
 #![tactic(auto)]

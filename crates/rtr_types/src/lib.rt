@@ -1,6 +1,10 @@
 //! Instructions, accesses, the edges between them, sets of cores and the parameters of a run: the types of every layer.
 //! The crate also has the sizes that all layers cite, lists of items, and pairs of cores with the edges of each.
 //!
+//! Sets of cores are known by laws above this crate, but in three crates whose code reads their bits: `move_marks`,
+//! `access_times` and `online_reduce`. More cores change the definition and the field of their width, the places and
+//! the mask of `move_marks`, and the room of an `EdgeList`.
+//!
 //! Proved: `sizes_law` ties each size to its number, the lines of a cache among them, and `Params::fits` is exactly the
 //! ranges. One of these is that of cores times limit. `pair_at` is the place of an ordered pair of cores, and these
 //! places have no gap (`pair_laws`). `CoreSet` is a set by its calls' clauses and by `core_set_laws`.

@@ -1,5 +1,8 @@
 //! What the words of a command line mean: one command with all its options filled in, or nothing.
 //!
+//! While words are read, choices are kept as the text that spells them, so reading takes no memory. So want of memory
+//! never hides that words mean nothing.
+//!
 //! Proved: `meaning` is the definition of what words mean. `what_words_mean_fits`: its parameters are in range, cores
 //! times limit is, and a shape that it names has an image of its number. The number of threads is at most 8 by the
 //! definition itself.

@@ -1,6 +1,10 @@
 //! Leaving out whole vectors of a regulated log, checking that each that is left is needed, and the bytes of thin
 //! files.
 //!
+//! A vector is tried with one cut that grows along its edges, since their targets rise. What is shown is found anew
+//! once all are tried, since a vector that is left out later may have implied an earlier edge. The check asks for any
+//! cut that is closed, has the target and lacks the source: a yes rests on that alone.
+//!
 //! Proved: `thin` leaves exactly the vectors of the definition, and `check_thin` says yes only where the recording is
 //! determinate by its regulated log and each vector is needed. `thin` tries each once, in order. It leaves a vector out
 //! where each of its edges is before by the edges of the others that aren't left out so far. What is left has the same
