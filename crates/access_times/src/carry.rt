@@ -4,8 +4,8 @@ ghost use Rattle.access_times.specs.Riding.{Carrying};
 
 use rtr_types::Instr;
 
-/// What rides on an actor, a core with its cache or the home, and on each message: a message has a
-/// copy of its sender's carry, which is joined with the receiver's.
+/// Instrumentation metadata attached to an agent, a core with its cache or the home, and to each message. A message has
+/// a copy of its sender's carry, which is joined with the receiver's.
 pub trait Carry: Copy {
     /// What the three calls compute.
     ghost carrying: { Carrying Self };

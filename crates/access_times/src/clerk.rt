@@ -6,8 +6,8 @@ use crate::carry::Carry;
 use crate::rider::Rider;
 use rtr_types::{Access, Instr};
 
-/// Who is told of each retired instruction, once, by the one of its two calls that fits. Both need
-/// the instruction to be one that the clerk accepts; a clerk whose calls take no room accepts all.
+/// Observer of retirements: it is told of each retired instruction, once, by the one of its two calls that fits. Both
+/// need the instruction to be one that the clerk accepts; a clerk whose calls take no room accepts all.
 pub trait Clerk<R: Rider, K: Carry> {
     /// The instructions that the clerk accepts.
     ghost accepts: { Self → Instr → Type 0 };

@@ -2,8 +2,8 @@
 ghost use Rattle.std.specs.Prelude.{◌≡◌};
 ghost use Rattle.access_times.specs.Riding.{Riding};
 
-/// What rides on a copy of a block: it lies beside the words in each cache's line and at the home,
-/// and goes with the messages that move the copy. The controllers never look into it.
+/// Instrumentation metadata attached to a copy of a block. It lies beside the words in each cache's line and at the
+/// home, and goes with the messages that move the copy. The controllers never look into it.
 pub trait Rider: Drop {
     /// What a rider that holds nothing is, and what absorbing computes.
     ghost riding: { Riding Self };

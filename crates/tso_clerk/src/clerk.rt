@@ -5,8 +5,8 @@ ghost use Rattle.rtr_types.specs.declared.instr.Instr.{Instr};
 use access_times::{Carry, Clerk, Rider};
 use rtr_types::Instr;
 
-/// Who is told of each instruction of cores with store buffers, once. A core's instructions are told in program
-/// order: an access as it is ordered, by `touched`; a load that leaves its queue and isn't ordered, by `logged`; and an
+/// Observer of retirements on cores with store buffers. Each instruction is reported once, in its core's program order:
+/// an access as it is ordered, by `touched`; a load that leaves its queue and isn't ordered, by `logged`; and an
 /// instruction that touches no data once none of its core's accesses before it is pending, by `alone`. In one step a
 /// clerk may be told of several instructions of one core, of which the first alone may be an access or a logged load.
 ///

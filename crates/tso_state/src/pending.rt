@@ -28,7 +28,7 @@ pub enum Pending {
     },
 }
 
-/// For whose access a core's port waits.
+/// The requester of a core's outstanding miss: for whose access its port waits.
 #[derive(Clone, Copy, Debug, PartialEq, Eq)]
 pub enum Asker {
     /// The port doesn't wait.
