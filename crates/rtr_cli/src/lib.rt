@@ -2,7 +2,7 @@
 //!
 //! Proved: for words that mean a command, `run_tool` says by `answered` what each exit guarantees of input and output;
 //! `Usage` comes exactly where words mean nothing (`usage`). `complete`: a command ends at `Done` for each input that
-//! it accepts, unless memory runs out or a stream fails. docs/PROVED.md has these clauses one by one.
+//! it accepts, unless memory runs out or a stream fails. These clauses stand one by one in docs/PROVED.md.
 #![tactic(auto)]
 
 mod buffers;

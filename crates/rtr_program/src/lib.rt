@@ -4,7 +4,7 @@
 //! has no such line.
 //!
 //! Proved: `conclude` ends the process with the status of the exit by which the tool answers (`answered`). That exit's
-//! text goes to the report and to nothing else. docs/PROVED.md has its clauses.
+//! text goes to the report and to nothing else. Its clauses stand in docs/PROVED.md.
 #![tactic(auto)]
 
 mod program;
