@@ -1,2 +1,2 @@
-mod Filled
-pub mod Kept
+mod FilledTimes
+pub mod KeptReads

@@ -1,7 +1,7 @@
 pub mod Parts
-pub mod Whole
+pub mod CertificateLaws
 pub mod Marks
-pub mod Ends
-pub mod Named
-pub mod Numbered
+pub mod EdgeEndLists
+pub mod PartNames
+pub mod EndNumbers
 pub mod RowLaws

@@ -12,12 +12,12 @@ use Rattle.log_codec.specs.Spelling.{number}
 use Rattle.rtr_types.specs.Turns.{StandInTurn, stay, count_up}
 use Rattle.log_codec.specs.Turns.{read_in_turn, spelled_in_turn, alike}
 use Rattle.race_log.specs.Validity.{Valid}
-use Rattle.log_codec.proofs.Steps.{bind_ok, guard_ok, Takes, Takes-then}
+use Rattle.log_codec.proofs.ReadingSteps.{bind_ok, guard_ok, Takes, Takes-then}
 use Rattle.log_codec.proofs.CoreCountLaws.{counts_again, counts_take}
 use Rattle.log_codec.proofs.FieldLaws.{number_again, number_takes}
 use Rattle.log_codec.proofs.InTurn.{turns_take, turns_again}
 use Rattle.race_log.proofs.InTurn.{stand-places}
-use Rattle.race_log.proofs.Counted.{totals_small}
+use Rattle.race_log.proofs.CountedEdges.{totals_small}
 use Rattle.clock_entries.proofs.Numbers.{few}
 use Rattle.certificate_codec.specs.declared.certificate.TheConstants.{CLOCKS}
 use Rattle.certificate_codec.specs.Ends.{reduced_edges, end_count}

@@ -1,4 +1,4 @@
-pub mod Listed
-pub mod Merging
+pub mod EdgeLists
+pub mod MergedClocks
 pub mod Paths
 pub mod Reach

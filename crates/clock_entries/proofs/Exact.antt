@@ -15,7 +15,7 @@ use Rattle.clock_entries.specs.Ends.{instr}
 use Rattle.clock_entries.specs.Entries.{Entry, IsLastEntry, AreGood, AreExact, IsNeeded, IsKnownOtherwise, IsImplied}
 use Rattle.clock_entries.specs.Laws.{IsLog, EveryClockLaw, NextClockLaw, IsBelowSources, ExactIsGoodLaw, NeededLaw}
 use Rattle.clock_entries.specs.Laws.{ImpliedLaw, NeededOrKnownLaw}
-use Rattle.clock_entries.proofs.Ends.{end_source, end_target, end_counts, Floor, NoFloor, floor, floor_of}
+use Rattle.clock_entries.proofs.LastEntries.{end_source, end_target, end_counts, Floor, NoFloor, floor, floor_of}
 use Rattle.clock_entries.proofs.Good.{rises, own_stands, known}
 
 -- ---- paths

@@ -10,7 +10,7 @@ use Rattle.clock_core.proofs.Reach.{own_same, own_other}
 use Rattle.clock_entries.specs.Ends.{instr, is_end, IsEnd}
 use Rattle.clock_entries.specs.Entries.{Entry, IsLastEntry, AreGood}
 use Rattle.clock_entries.specs.Laws.{GoodIsAtLeastLaw}
-use Rattle.clock_entries.proofs.Ends.{end_source, end_target, not_end, minus_one}
+use Rattle.clock_entries.proofs.LastEntries.{end_source, end_target, not_end, minus_one}
 
 rises_once : (edges : List Edge) (entry : Entry) → IsLastEntry edges entry → AreGood edges entry → (c n i : ℕ) → i ≢ c →
     entry (instr c n) i ≤ entry (instr c (suc n)) i

@@ -8,7 +8,7 @@ use Rattle.std.proofs.lemmas.List.{get_or_append_left, get_or_push, length_push}
 use Rattle.std.proofs.lemmas.List.Sorted.{IsNonDecreasingBy-from_default}
 use Rattle.rtr_types.specs.declared.instr.Edge.{Edge}
 use Rattle.clock_entries.specs.Ends.{instr, is_end, ends_to}
-use Rattle.clock_entries.proofs.Ends.{ends_none, ends_more, ends_stay, at_most}
+use Rattle.clock_entries.proofs.LastEntries.{ends_none, ends_more, ends_stay, at_most}
 
 -- what a list of ends is one count further on
 pub record Grown (edges : List Edge) (c n : ℕ) : Type 0 where

@@ -11,7 +11,7 @@ use Rattle.conflict_edge.specs.Clocks.{last_write, last_read, Candidate, Candida
 use Rattle.conflict_edge.specs.Times.{IsNoteOf, IsNoted, TimesLaw}
 use Rattle.conflict_edge.proofs.History.{Pair, Rising}
 use Rattle.conflict_edge.proofs.Online.{Leads, itself, onward, by_own, source_leads, some_is, none_some}
-use Rattle.conflict_edge.proofs.Reversed.{pair_back, pair_forth, reverse-next}
+use Rattle.conflict_edge.proofs.NewestFirst.{pair_back, pair_forth, reverse-next}
 use Rattle.conflict_edge.proofs.Reach.{rising_next}
 
 pub candidates_law : CandidatesLaw

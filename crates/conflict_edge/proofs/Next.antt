@@ -11,9 +11,9 @@ use Rattle.clock_core.specs.Order.{Among, previous}
 use Rattle.clock_core.specs.declared.clock.Clock.{Clock}
 use Rattle.conflict_edge.proofs.Clocks.{clock-older}
 use Rattle.conflict_edge.proofs.History.{Pair, Rising, ends, older, reaches-no}
-use Rattle.conflict_edge.proofs.Kept.{Cover, kept_covers, covers_kept}
-use Rattle.conflict_edge.proofs.Reversed.{reverse-next, pair_back, pair_forth, stands_forth}
-use Rattle.conflict_edge.proofs.Steps.{stands_at}
+use Rattle.conflict_edge.proofs.CoveringPairs.{Cover, kept_covers, covers_kept}
+use Rattle.conflict_edge.proofs.NewestFirst.{reverse-next, pair_back, pair_forth, stands_forth}
+use Rattle.conflict_edge.proofs.ScanSteps.{stands_at}
 use Rattle.conflict_edge.specs.Clocks.{clock}
 use Rattle.conflict_edge.specs.Conflicts.{AreCores, StandsIn, ConflictPair, CountsRise, are_after, do_counts_rise}
 use Rattle.conflict_edge.specs.Conflicts.{is_short_history}
@@ -25,7 +25,7 @@ use Rattle.rtr_types.specs.declared.TheConstants.{CORES_MAX}
 use Rattle.rtr_types.specs.declared.access.Access.{Access}
 use Rattle.rtr_types.specs.declared.instr.Edge.{Edge}
 use Rattle.rtr_types.specs.declared.instr.Instr.{Instr}
-use Rattle.conflict_edge.proofs.Standing.{stands_left}
+use Rattle.conflict_edge.proofs.AccessPlaces.{stands_left}
 
 -- ---- one access more
 

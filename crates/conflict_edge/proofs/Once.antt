@@ -9,10 +9,10 @@ use Rattle.std.proofs.lemmas.List.Sorted.{sum_by-IsPermutation}
 use Rattle.std.proofs.lemmas.List.Sums.{sum_by-append}
 use Rattle.clock_core.specs.Order.{Among}
 use Rattle.conflict_edge.proofs.History.{Rising}
-use Rattle.conflict_edge.proofs.Kept.{Cover}
+use Rattle.conflict_edge.proofs.CoveringPairs.{Cover}
 use Rattle.conflict_edge.proofs.Ranks.{rank}
 use Rattle.conflict_edge.proofs.Scan.{FoundFrom, Reached, rank-newer, rank-mid}
-use Rattle.conflict_edge.proofs.Steps.{At, push_found, skip_found, uncovered}
+use Rattle.conflict_edge.proofs.ScanSteps.{At, push_found, skip_found, uncovered}
 use Rattle.conflict_edge.specs.Conflicts.{Conflicts, StandsIn}
 use Rattle.conflict_edge.specs.Least.{is_edge, AreOnce}
 use Rattle.rtr_types.specs.declared.TheConstants.{CORES_MAX}

@@ -9,7 +9,7 @@ use Rattle.clock_core.proofs.Paths.{joined, one}
 use Rattle.clock_core.specs.Order.{Before, previous}
 use Rattle.conflict_edge.proofs.Clocks.{clock-before, clock-up_to, clock-older, clock-own, UpTo, widen_up}
 use Rattle.conflict_edge.proofs.History.{Source, Pair, Rising, ends, older, reaches-no}
-use Rattle.conflict_edge.proofs.Kept.{Kept, Cover, kept_covers, covers_kept, stands_pos}
+use Rattle.conflict_edge.proofs.CoveringPairs.{Kept, Cover, kept_covers, covers_kept, stands_pos}
 use Rattle.conflict_edge.proofs.Ranks.{no_cycle}
 use Rattle.conflict_edge.specs.Clocks.{clock, last_write, last_read, Candidate, IsKept}
 use Rattle.conflict_edge.specs.Conflicts.{Conflicts, StandsIn}

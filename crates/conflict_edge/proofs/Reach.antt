@@ -6,10 +6,10 @@ use Rattle.clock_core.specs.Order.{Within, Step, Before, IsOrLeads, previous}
 use Rattle.conflict_edge.proofs.Clocks.{UpTo, clock-older, own_clock, clock-before, clock-up_to, clock-own}
 use Rattle.conflict_edge.proofs.Clocks.{clock-program, clock-pair}
 use Rattle.conflict_edge.proofs.History.{Pair, Rising, reaches-no}
-use Rattle.conflict_edge.proofs.Kept.{Cover}
+use Rattle.conflict_edge.proofs.CoveringPairs.{Cover}
 use Rattle.conflict_edge.proofs.Online.{online_rule, Leads, itself, onward, by_own, source_leads, candidate_source}
 use Rattle.conflict_edge.proofs.Online.{before_a, source_clock, pair_source}
-use Rattle.conflict_edge.proofs.Reversed.{pair_back, pair_forth, rising_back, reverse-next}
+use Rattle.conflict_edge.proofs.NewestFirst.{pair_back, pair_forth, rising_back, reverse-next}
 use Rattle.conflict_edge.specs.Clocks.{clock, Candidate, IsKept, ClockLaw, OnlineLaw, OnlineClockLaw, KeptClockLaw}
 use Rattle.conflict_edge.specs.Conflicts.{ConflictPair, CountsRise}
 use Rattle.conflict_edge.specs.Least.{Covering}

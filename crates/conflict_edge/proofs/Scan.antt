@@ -10,7 +10,7 @@ use Rattle.clock_core.proofs.Reach.{reached_by}
 use Rattle.conflict_edge.proofs.Clocks.{UpTo, clock-before, clock-up_to, clock-own, clock-program, clock-pair}
 use Rattle.conflict_edge.proofs.Clocks.{clock-older}
 use Rattle.conflict_edge.proofs.History.{Source, Pair, Rising, ends, older, reaches-yes}
-use Rattle.conflict_edge.proofs.Kept.{Kept, Cover, kept_covers, covers_kept, stands_pos}
+use Rattle.conflict_edge.proofs.CoveringPairs.{Kept, Cover, kept_covers, covers_kept, stands_pos}
 use Rattle.conflict_edge.proofs.Online.{before_a, source_clock, pair_source}
 use Rattle.conflict_edge.proofs.Ranks.{rank, rank-newest, rank-older, rank-le, rank-before, no_cycle}
 use Rattle.conflict_edge.specs.Clocks.{reaches, clock}
@@ -19,7 +19,7 @@ use Rattle.rtr_types.specs.declared.TheConstants.{CORES_MAX}
 use Rattle.rtr_types.specs.declared.access.Access.{Access}
 use Rattle.rtr_types.specs.declared.instr.Edge.{Edge}
 use Rattle.rtr_types.specs.declared.instr.Instr.{Instr}
-use Rattle.conflict_edge.proofs.Standing.{stands_left, stands_right, stands_which}
+use Rattle.conflict_edge.proofs.AccessPlaces.{stands_left, stands_right, stands_which}
 
 -- b leads to a by one step, or along the core
 abbrev pub Direct : Access → Access → Type 0

@@ -5,9 +5,9 @@ use Rattle.clock_core.proofs.Paths.{one, more}
 use Rattle.clock_core.specs.Order.{Within, Before, Among}
 use Rattle.conflict_edge.proofs.History.{Pair, pair_cores}
 use Rattle.conflict_edge.proofs.Independent.{implied, in_each, others_suffice, without}
-use Rattle.conflict_edge.proofs.Kept.{Cover, covering_suffices}
+use Rattle.conflict_edge.proofs.CoveringPairs.{Cover, covering_suffices}
 use Rattle.conflict_edge.proofs.Ranks.{no_cycle}
-use Rattle.conflict_edge.proofs.Reversed.{pair_back, pair_forth, rising_back}
+use Rattle.conflict_edge.proofs.NewestFirst.{pair_back, pair_forth, rising_back}
 use Rattle.conflict_edge.specs.Conflicts.{ConflictPair, CountsRise}
 use Rattle.conflict_edge.specs.Least.{Suffices, IsLeast, Covering, Others, CoveringLaw, IndependentLaw, OneLeastLaw}
 use Rattle.conflict_edge.specs.Least.{SourceLaw}

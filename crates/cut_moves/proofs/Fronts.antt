@@ -12,7 +12,7 @@ use Rattle.rtr_types.specs.declared.TheConstants.{CORES_MAX}
 use Rattle.rtr_types.specs.declared.cut.Cut.{Cut}
 use Rattle.rtr_types.specs.declared.instr.Instr.{Instr}
 use Rattle.rtr_types.specs.declared.pairs.Which.{Which}
-use Rattle.clock_core.proofs.Listed.{contains_among}
+use Rattle.clock_core.proofs.EdgeLists.{contains_among}
 use Rattle.race_log.specs.declared.recording.Recording.{Recording}
 use Rattle.race_log.specs.Sources.{log_edges}
 use Rattle.race_log.specs.Validity.{Valid}
@@ -26,7 +26,7 @@ use Rattle.replay_core.proofs.Lists.{one_more, ordered_on}
 use Rattle.replay_core.proofs.Places.{play_law}
 use Rattle.replay_audit.specs.Audits.{IsInstrOf}
 use Rattle.replay_audit.specs.Determinate.{IsDeterminate, low_order_of}
-use Rattle.replay_audit.proofs.Agreed.{tame_play, tame_start}
+use Rattle.replay_audit.proofs.OrdersAgree.{tame_play, tame_start}
 use Rattle.replay_audit.proofs.Logs.{Closed}
 use Rattle.cut_replay.specs.ClosedCuts.{count_in, IsClosed}
 use Rattle.cut_replay.proofs.Cuts.{has_within}

@@ -1,8 +1,8 @@
 pub mod Unions
 pub mod Hulls
-pub mod Stepping
+pub mod OneStep
 pub mod Fronts
 pub mod Rounds
 pub mod Along
-pub mod Taking
-pub mod Going
+pub mod TakenRounds
+pub mod TakenWay

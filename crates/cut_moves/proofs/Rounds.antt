@@ -11,7 +11,7 @@ use Rattle.replay_core.proofs.Lists.{ordered_on}
 use Rattle.replay_core.proofs.Low.{left, left_nought, left_step}
 use Rattle.replay_audit.specs.Determinate.{low_order_of}
 use Rattle.replay_audit.specs.Laws.{GoesOn}
-use Rattle.replay_audit.proofs.Agreed.{every_order_law}
+use Rattle.replay_audit.proofs.OrdersAgree.{every_order_law}
 use Rattle.replay_audit.proofs.Front.{sourced_more}
 use Rattle.cut_moves.specs.Ways.{with_place}
 use Rattle.cut_moves.specs.Rounds.{ready_among, round, rounds_from, rounds_of, timeline_of, RoundsEndLaw}

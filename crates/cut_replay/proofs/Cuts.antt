@@ -11,7 +11,7 @@ use Rattle.rtr_types.specs.declared.instr.Instr.{Instr}
 use Rattle.rtr_types.specs.declared.pairs.Which.{Which}
 use Rattle.clock_core.specs.Order.{Before, IsOrLeads, Among}
 use Rattle.clock_core.specs.Reach.{IsClock}
-use Rattle.clock_core.proofs.Listed.{among_contains, contains_among}
+use Rattle.clock_core.proofs.EdgeLists.{among_contains, contains_among}
 use Rattle.clock_core.proofs.Paths.{joined, one}
 use Rattle.race_log.specs.declared.recording.Recording.{Recording}
 use Rattle.race_log.specs.Sources.{HasEdge, EdgeWithin, log_edges}

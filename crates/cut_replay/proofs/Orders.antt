@@ -24,7 +24,7 @@ use Rattle.replay_core.proofs.Places.{start_known}
 use Rattle.replay_core.proofs.Ready.{source_within, within_sourced}
 use Rattle.replay_audit.specs.Determinate.{Decides}
 use Rattle.replay_audit.specs.Laws.{Agrees}
-use Rattle.replay_audit.proofs.Agreed.{every_order_law}
+use Rattle.replay_audit.proofs.OrdersAgree.{every_order_law}
 use Rattle.replay_audit.proofs.Front.{Tame, Fronts, fronts}
 use Rattle.replay_audit.proofs.Logs.{closed_none}
 use Rattle.cut_replay.specs.ClosedCuts.{count_in}

@@ -12,7 +12,7 @@ use Rattle.rtr_types.specs.declared.instr.Instr.{Instr}
 use Rattle.rtr_types.specs.declared.pairs.Which.{Which}
 use Rattle.clock_core.specs.Order.{Among, IsOrLeads}
 use Rattle.clock_core.specs.Reach.{IsClock}
-use Rattle.clock_core.proofs.Listed.{contains_among}
+use Rattle.clock_core.proofs.EdgeLists.{contains_among}
 use Rattle.clock_core.proofs.Paths.{one}
 use Rattle.rv_core.specs.declared.outcome.Outcome.{Outcome}
 use Rattle.rv_core.specs.Steps.{is_done}
@@ -33,7 +33,7 @@ use Rattle.replay_core.proofs.Ready.{ready_true, ready_is, within_sourced}
 use native.Mathlib.Decide.{ℕ_discrete}
 use Rattle.replay_audit.specs.Audits.{IsInstrOf}
 use Rattle.replay_audit.specs.Determinate.{Decides}
-use Rattle.replay_audit.proofs.Agreed.{every_order_law, tame_play, tame_start}
+use Rattle.replay_audit.proofs.OrdersAgree.{every_order_law, tame_play, tame_start}
 use Rattle.replay_audit.proofs.Logs.{Closed, ready_before}
 use Rattle.cut_replay.specs.ClosedCuts.{count_in, IsClosed}
 use Rattle.cut_replay.specs.CutStates.{Reaches, IsStateAt}

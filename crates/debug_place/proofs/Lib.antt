@@ -1,5 +1,5 @@
 pub mod OwnCuts
-pub mod Walking
-pub mod Stopping
-pub mod Looking
-pub mod Backing
+pub mod WalkedWay
+pub mod StopTest
+pub mod LastStop
+pub mod StateAtStop

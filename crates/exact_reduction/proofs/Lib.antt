@@ -1,1 +1,1 @@
-pub mod Reducing
+pub mod RetirementReduction

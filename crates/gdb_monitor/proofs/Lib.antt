@@ -1,5 +1,5 @@
-pub mod Answered
-pub mod Going
+pub mod AnswerFrames
+pub mod AskedCuts
 pub mod WordLemmas
-pub mod Noting
+pub mod NotedPcs
 pub mod OnePc

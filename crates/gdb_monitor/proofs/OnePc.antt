@@ -19,7 +19,7 @@ use Rattle.replay_core.proofs.Places.{place_given_law}
 use Rattle.replay_audit.specs.Determinate.{IsDeterminate}
 use Rattle.cut_replay.specs.ClosedCuts.{IsClosed, IsContained, count_in}
 use Rattle.cut_replay.specs.CutStates.{IsStateAt}
-use Rattle.cut_moves.proofs.Going.{leading_way, ordered_way}
+use Rattle.cut_moves.proofs.TakenWay.{leading_way, ordered_way}
 use Rattle.cut_moves.proofs.Hulls.{empty_cut, none_in}
 use Rattle.cut_moves.proofs.Unions.{IsLesser, intersection_closed, lesser}
 use Rattle.cut_moves.specs.Rounds.{rounds_of}

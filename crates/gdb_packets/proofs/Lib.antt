@@ -1,4 +1,4 @@
-pub mod Unescaped
+pub mod BodyBytes
 pub mod ReadBack
 pub mod ReaderLemmas
 pub mod TextLemmas

@@ -13,7 +13,7 @@ use Rattle.gdb_packets.specs.Readers.{Holds, IsAt, Keeps}
 use Rattle.gdb_packets.specs.declared.TheConstants.{PAYLOAD_MAX}
 use Rattle.gdb_packets.specs.declared.reader.Reader.{Reader}
 use Rattle.gdb_packets.specs.declared.reader.Stage.TheVariants as stages
-use Rattle.gdb_packets.proofs.Unescaped.{added, checksum_more, is_cut_more, unescaped_more}
+use Rattle.gdb_packets.proofs.BodyBytes.{added, checksum_more, is_cut_more, unescaped_more}
 
 -- there is room, so the byte is taken
 pub take_room : (m : ℕ) (xs : List ℕ) (b : ℕ) → length (take m xs) < m → take m (xs ++ b ∷ []) ≡ take m xs ++ b ∷ []

@@ -25,8 +25,8 @@ use Rattle.cut_replay.specs.ClosedCuts.{count_in, IsContained}
 use Rattle.cut_moves.specs.Steps.{next_in}
 use Rattle.cut_moves.specs.Rounds.{rounds_of}
 use Rattle.cut_moves.proofs.Rounds.{rounds_ordered}
-use Rattle.cut_moves.proofs.Going.{total_small}
-use Rattle.cut_moves.proofs.Taking.{bumped}
+use Rattle.cut_moves.proofs.TakenWay.{total_small}
+use Rattle.cut_moves.proofs.TakenRounds.{bumped}
 use Rattle.debug_place.specs.Places.{IsKept, Placed, cut_at, plan_at}
 use Rattle.gdb_session.specs.declared.direction.Direction.TheVariants.{Forward}
 use Rattle.gdb_session.specs.Moves.{Follow, StepsFree, TakesTurn}

@@ -8,7 +8,7 @@ use Rattle.rtr_types.specs.declared.instr.Edge.{Edge}
 use Rattle.rtr_types.specs.declared.instr.Instr.{Instr}
 use Rattle.rtr_types.proofs.Instrs.{instr_eq}
 use Rattle.clock_core.specs.Order.{Among}
-use Rattle.clock_core.proofs.Listed.{among_contains, contains_among}
+use Rattle.clock_core.proofs.EdgeLists.{among_contains, contains_among}
 use Rattle.replay_core.specs.Play.{instr}
 use Rattle.gdb_session.specs.Waits.{source_in}
 

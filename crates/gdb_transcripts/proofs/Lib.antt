@@ -1,1 +1,1 @@
-mod Left
+mod ListRests

@@ -58,7 +58,7 @@ impl<'a> Player<'a> {
     }
 
     /// Whether all that the session answered was compared.
-    #[tactic(auto, using(crate::proofs::Left::left_nil))]
+    #[tactic(auto, using(crate::proofs::ListRests::left_nil))]
     pub fn is_heard(&self) -> bool
         ensures { IsTrue result ↔ (self.now.left ≡ []) }
     {

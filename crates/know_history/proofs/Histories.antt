@@ -12,7 +12,7 @@ use Rattle.know_history.specs.Knowledge.{count_in}
 use Rattle.know_history.specs.Happenings.{Happening, IsKnownAt}
 use Rattle.know_history.specs.Laws.{HistoryKnows, HistoryLaw, HistoryStartLaw, SameHistoryLaw}
 use Rattle.know_history.specs.Notes.{Notes, known_at, noted_count}
-use Rattle.know_history.proofs.Counting.{zero_at}
+use Rattle.know_history.proofs.CarryCounts.{zero_at}
 use Rattle.know_history.proofs.KnownAt.{known_stays_law}
 
 pub none_noted : (cores core : ℕ) → length (slice_index_or {A = List Clock} (replicate cores []) core []) ≤ 0

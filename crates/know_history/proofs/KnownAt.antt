@@ -10,9 +10,9 @@ use Rattle.know_history.specs.Happenings.{AtCore, Happening, IsKnownAt, Leads}
 use Rattle.know_history.specs.Knowing.{CountsTo, IsNext, IsOrLeads, RetiresIn, carry_left, retired_in}
 use Rattle.know_history.specs.Laws.{AreOrderly, CarriesKnowLaw, IsKnownCount, KnownCountLaw, KnownEarlierLaw}
 use Rattle.know_history.specs.Laws.{KnownStaysLaw}
-use Rattle.know_history.proofs.Leading.{leads_before, leads_joined}
-use Rattle.know_history.proofs.Counting.{retired_below, retires_once}
-use Rattle.know_history.proofs.Knowing.{all_know_more, counts_left}
+use Rattle.know_history.proofs.LastSteps.{leads_before, leads_joined}
+use Rattle.know_history.proofs.CarryCounts.{retired_below, retires_once}
+use Rattle.know_history.proofs.KnownCarries.{all_know_more, counts_left}
 
 pub carries_know_law : CarriesKnowLaw
 carries_know_law event t actor c d orderly own follows h = all_know_more event t actor c d own (λ u lt. orderly u)

@@ -1,9 +1,9 @@
-pub mod Leading
-pub mod Counting
-pub mod Knowing
+pub mod LastSteps
+pub mod CarryCounts
+pub mod KnownCarries
 pub mod KnownAt
 pub mod Histories
 pub mod OneList
 pub mod Places
-pub mod Noted
-pub mod Noting
+pub mod HistoryNotes
+pub mod NotedRetirement

@@ -71,7 +71,7 @@ fn is_next(count: u32, next: u32) -> bool
 }
 
 /// The retirements with their history.
-#[tactic(auto, using(crate::proofs::Counted::begun, crate::proofs::Counted::noted, crate::proofs::Counted::next_one))]
+#[tactic(auto, using(crate::proofs::Counts::begun, crate::proofs::Counts::noted, crate::proofs::Counts::next_one))]
 fn note_all(alloc: Global, rows: Vec<Told>) -> Result<Noted, AllocError>
     ensures { IfOk result (λ noted. AreCounted noted.history.notes noted.counts) }
 {

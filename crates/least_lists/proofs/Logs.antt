@@ -6,7 +6,7 @@ use Rattle.rtr_types.specs.Pairs.{pair_place}
 use Rattle.rtr_types.specs.declared.instr.Edge.{Edge}
 use Rattle.rtr_types.specs.declared.instr.Instr.{Instr}
 use Rattle.rtr_types.specs.declared.pairs.Which.TheVariants.{Reduced as ReducedLog}
-use Rattle.clock_core.proofs.Listed.{contains_among, among_contains}
+use Rattle.clock_core.proofs.EdgeLists.{contains_among, among_contains}
 use Rattle.clock_core.specs.Order.{Among}
 use Rattle.conflict_edge.proofs.TwoForms.{covering_law}
 use Rattle.conflict_edge.specs.Least.{Covering}

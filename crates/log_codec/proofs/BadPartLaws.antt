@@ -18,9 +18,10 @@ use Rattle.log_codec.proofs.FieldLaws.{header_again, header_takes}
 use Rattle.log_codec.proofs.FourParts as four
 use Rattle.log_codec.proofs.FourParts.{NamesFour, ReadsHeader, never-both, no-reading, rest-bytes}
 use Rattle.race_log.proofs.InTurn.{places-stand, stand-places}
-use Rattle.log_codec.proofs.Named.{Missing, Names, bind-err, guard-names, header-names, missing_within, regulated-names}
-use Rattle.log_codec.proofs.Steps.{bind_ok, ok_is}
-use Rattle.log_codec.proofs.Whole.{after_header, after_reduced, regulated_again, regulated_takes, totals_fit}
+use Rattle.log_codec.proofs.PartNames.{Missing, Names, bind-err, guard-names}
+use Rattle.log_codec.proofs.PartNames.{header-names, missing_within, regulated-names}
+use Rattle.log_codec.proofs.ReadingSteps.{bind_ok, ok_is}
+use Rattle.log_codec.proofs.RecordingLaws.{after_header, after_reduced, regulated_again, regulated_takes, totals_fit}
 use Rattle.race_log.proofs.Parts.{made_of}
 
 -- ---- the first four parts

@@ -9,10 +9,10 @@ use Rattle.log_codec.specs.Laws.{IsBytes}
 use Rattle.log_codec.specs.Reading.{number_at}
 use Rattle.log_codec.specs.Spelling.{number}
 use Rattle.log_codec.specs.Turns.{read_in_turn, spelled_in_turn, alike}
-use Rattle.log_codec.proofs.Steps.{bind_ok, guard_ok, Takes}
+use Rattle.log_codec.proofs.ReadingSteps.{bind_ok, guard_ok, Takes}
 use Rattle.log_codec.proofs.FieldLaws.{number_again, number_takes}
 use Rattle.log_codec.proofs.InTurn.{turns_take, turns_again}
-use Rattle.log_codec.proofs.Named.{Names, bind-names, guard-names, number-names, turns-name}
+use Rattle.log_codec.proofs.PartNames.{Names, bind-names, guard-names, number-names, turns-name}
 
 count_takes : (part : ℕ) (totals : List ℕ) (core : ℕ) (bytes : List ℕ) (n : ℕ) (rest : List ℕ) → IsBytes bytes →
     count_at part totals core bytes ≡ Ok (n, rest) → Takes bytes (number n) rest × CountStands totals core n

@@ -11,7 +11,7 @@ use Rattle.std.proofs.lemmas.Bool.{and_parts}
 use Rattle.rtr_types.specs.declared.params.Params.{Params}
 use Rattle.varint_core.specs.declared.Varint.{Varint}
 use Rattle.varint_core.specs.Leb128.{reading}
-use Rattle.varint_core.proofs.Spelled as varint
+use Rattle.varint_core.proofs.ShortestSpelling as varint
 use Rattle.log_codec.specs.declared.codec_fault.TheConstants.{HEADER, IMAGE, TOTALS}
 use Rattle.log_codec.specs.Faults.{◌>>=◌}
 use Rattle.log_codec.specs.Laws.{IsBytes}
@@ -22,7 +22,7 @@ use Rattle.log_codec.specs.Spelling.{number, sizes_text, header_text}
 use Rattle.log_codec.specs.Reading.{after_number, number_at, version_at, params_of, sizes_at, header_at, image_at}
 use Rattle.log_codec.specs.Reading.{total_at}
 use Rattle.log_codec.proofs.Limits.{fits-true, true-fits}
-use Rattle.log_codec.proofs.Steps.{bind_ok, guard_ok, refuse_ok, ok_is, bytes-drop, Takes, Takes-then}
+use Rattle.log_codec.proofs.ReadingSteps.{bind_ok, guard_ok, refuse_ok, ok_is, bytes-drop, Takes, Takes-then}
 
 -- ---- numbers
 

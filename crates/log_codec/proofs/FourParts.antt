@@ -13,10 +13,10 @@ use Rattle.log_codec.specs.Reading.{image_at, reduced_at, totals_at}
 use Rattle.log_codec.specs.Spelling.{reduced_text, totals_text}
 use Rattle.log_codec.specs.Versions.{FitsIn}
 use Rattle.log_codec.proofs.FieldLaws.{Headed, image_again, image_takes}
-use Rattle.log_codec.proofs.Named.{Missing, Names, image-names, reduced-names, totals-name}
+use Rattle.log_codec.proofs.PartNames.{Missing, Names, image-names, reduced-names, totals-name}
 use Rattle.log_codec.proofs.ReducedLaws.{reduced_again, reduced_takes}
-use Rattle.log_codec.proofs.Whole.{AfterFour, after_header, after_image, after_totals, totals_again, totals_fit}
-use Rattle.log_codec.proofs.Whole.{totals_take}
+use Rattle.log_codec.proofs.RecordingLaws.{AfterFour, after_header, after_image, after_totals, totals_again, totals_fit}
+use Rattle.log_codec.proofs.RecordingLaws.{totals_take}
 
 -- ---- a part that is read, and one that isn't
 

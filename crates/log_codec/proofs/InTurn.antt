@@ -9,7 +9,7 @@ use Rattle.log_codec.specs.Faults.{◌>>=◌, Fails}
 use Rattle.rtr_types.specs.Turns.{StandInTurn}
 use Rattle.log_codec.specs.Turns.{read_in_turn, spelled_in_turn}
 use Rattle.log_codec.specs.Laws.{IsBytes}
-use Rattle.log_codec.proofs.Steps.{bind_ok, ok_is, Takes, Takes-then, Takes-none}
+use Rattle.log_codec.proofs.ReadingSteps.{bind_ok, ok_is, Takes, Takes-then, Takes-none}
 
 -- ---- a loop that reads
 

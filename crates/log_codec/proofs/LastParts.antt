@@ -7,7 +7,7 @@ use Rattle.log_codec.specs.Laws.{IsBytes}
 use Rattle.log_codec.specs.Reading.{front_at}
 use Rattle.log_codec.proofs.BadPartLaws.{at_end, end-names, end-some, read-all}
 use Rattle.log_codec.proofs.FourParts.{never-both}
-use Rattle.log_codec.proofs.Named.{Names}
+use Rattle.log_codec.proofs.PartNames.{Names}
 
 -- five valid parts, and no sixth after them
 abbrev pub NoSixth : {K : Type 0} → (Recording → List ℕ → K → List ℕ → Type 0) → List ℕ → Type 0

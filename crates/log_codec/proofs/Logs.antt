@@ -16,9 +16,9 @@ use Rattle.race_log.specs.Validity.{VectorStands, AreVectors, end_of, vector_sta
 use Rattle.log_codec.specs.Spelling.{number, edge_text, edges_text, strides_text, vector_text, vectors_text}
 use Rattle.log_codec.specs.Reading.{number_at, edge_at, edges_at, two_strides, strides_at, standing, vector_at}
 use Rattle.log_codec.specs.Reading.{vectors_at}
-use Rattle.log_codec.proofs.Steps.{bind_ok, guard_ok, ok_is, Takes, Takes-then, Takes-none}
+use Rattle.log_codec.proofs.ReadingSteps.{bind_ok, guard_ok, ok_is, Takes, Takes-then, Takes-none}
 use Rattle.log_codec.proofs.FieldLaws.{number_takes, number_again}
-use Rattle.log_codec.proofs.Counted.{counted_again, counted_takes}
+use Rattle.log_codec.proofs.CountedLists.{counted_again, counted_takes}
 use Rattle.race_log.proofs.Logs.{StridesStand, few_edges, few_vectors}
 use Rattle.race_log.proofs.Logs.{true-vector}
 use Rattle.race_log.proofs.Logs.{vector-true, vector_small}

@@ -16,7 +16,7 @@ use Rattle.log_codec.specs.Incoming.{last_target, left, merged_edges, newest, ta
 use Rattle.log_codec.specs.Fronts.{AreFronts, IsFront, IsLeast}
 use Rattle.log_codec.proofs.Merges.{Merges, Reaches, Rises, Sorted, all-map, else-reaches, from_same, from_other}
 use Rattle.log_codec.proofs.Merges.{merge-is, merged-merges}
-use Rattle.log_codec.proofs.Ordered.{all-from}
+use Rattle.log_codec.proofs.EdgeOrder.{all-from}
 
 -- ---- the first of the next ones
 

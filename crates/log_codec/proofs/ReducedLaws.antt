@@ -27,17 +27,18 @@ use Rattle.log_codec.specs.Spelling.{number, edges_text, incoming_text, into_tex
 use Rattle.log_codec.specs.Spelling.{reduced_text}
 use Rattle.log_codec.specs.Reading.{number_at, edges_at, incoming_at, into_at, pairs_at, reduced_at, standing_into}
 use Rattle.log_codec.specs.Reading.{targets_at}
-use Rattle.log_codec.proofs.Counted.{counted_again, counted_takes, pair_by_pair_again}
+use Rattle.log_codec.proofs.CountedLists.{counted_again, counted_takes, pair_by_pair_again}
 use Rattle.log_codec.proofs.FieldLaws.{number_takes, number_again}
 use Rattle.log_codec.proofs.InTurn.{turns_take, turns_again}
 use Rattle.race_log.proofs.InTurn.{stand-map, stand-places, places-stand}
 use Rattle.log_codec.proofs.Logs.{edges_take, edges_again}
 use Rattle.race_log.proofs.Logs.{few_edges}
 use Rattle.log_codec.proofs.Merges.{Merges, Rises, all-map, merge-is, merged-merges, length-merged}
-use Rattle.log_codec.proofs.Ordered.{InOrder, ReachesAll, last_counts, rises-turn, turn-order, each, from-all, all-from}
-use Rattle.log_codec.proofs.Ordered.{from-none, bounded, rises-of}
-use Rattle.log_codec.proofs.Ordered.{length-joined}
-use Rattle.log_codec.proofs.Steps.{bind_ok, guard_ok, ok_is, Takes, Takes-then}
+use Rattle.log_codec.proofs.EdgeOrder.{InOrder, ReachesAll, last_counts, rises-turn, turn-order}
+use Rattle.log_codec.proofs.EdgeOrder.{each, from-all, all-from}
+use Rattle.log_codec.proofs.EdgeOrder.{from-none, bounded, rises-of}
+use Rattle.log_codec.proofs.EdgeOrder.{length-joined}
+use Rattle.log_codec.proofs.ReadingSteps.{bind_ok, guard_ok, ok_is, Takes, Takes-then}
 use Rattle.race_log.proofs.Parts.{AllEdges, AllStand, all-placed, placed-all}
 use Rattle.race_log.proofs.Parts.{total-small}
 

@@ -7,7 +7,7 @@ use Rattle.std.proofs.lemmas.List.{append-nil, nil_from_length}
 use Rattle.log_codec.specs.declared.codec_fault.CodecFault.{CodecFault}
 use Rattle.log_codec.specs.Faults.{Gives, Reads, read_all}
 use Rattle.log_codec.specs.Laws.{IsBytes}
-use Rattle.log_codec.proofs.Steps.{bind_ok, bytes-from_index, guard_ok, ok_is, Takes}
+use Rattle.log_codec.proofs.ReadingSteps.{bind_ok, bytes-from_index, guard_ok, ok_is, Takes}
 
 -- ---- a front and all bytes
 

@@ -17,7 +17,7 @@ use Rattle.msi_state.specs.Moves.{core_of}
 use Rattle.msi_state.specs.Steps.{enabled, event, step}
 use Rattle.machine_invariant.specs.Holds.{MachineHolds}
 use Rattle.machine_bound.specs.Bound.{earned, capacity, total_owed, total_earned, left}
-use Rattle.machine_invariant.proofs.Stepping.{core_after, step_cores}
+use Rattle.machine_invariant.proofs.StepFrame.{core_after, step_cores}
 use Rattle.machine_bound.proofs.Sums.{sum_kept, sum_at_most}
 use Rattle.machine_bound.proofs.PortEarns.{base_le, done_base}
 use Rattle.machine_bound.proofs.Payments.{cores_set, earns}

@@ -1,10 +1,10 @@
 pub mod Sums
-pub mod Owed
+pub mod OwedSums
 pub mod PortEarns
 pub mod Requests
 pub mod Payments
 pub mod Capacity
 pub mod Firsts
-pub mod Paying
-pub mod Ends
-pub mod Promised
+pub mod PaidSteps
+pub mod RunEnds
+pub mod BoundPromise

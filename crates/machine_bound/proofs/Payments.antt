@@ -44,11 +44,11 @@ use Rattle.msi_state.specs.Steps.{enabled, event, cores_after, step}
 use Rattle.machine_invariant.specs.Holds.{MachineHolds}
 use Rattle.machine_bound.specs.Bound.{owed, base_in, earned, total_owed, total_earned, Earns}
 use Rattle.machine_invariant.proofs.Awaits.{core_enabled, enabled_core, core_port, core_cases}
-use Rattle.machine_invariant.proofs.Stepping.{core_after, port_told, port_worked, core_memory, message_memory}
+use Rattle.machine_invariant.proofs.StepFrame.{core_after, port_told, port_worked, core_memory, message_memory}
 use Rattle.machine_invariant.proofs.Awaits.{CanWork, message_cases}
 use Rattle.msi_laws.proofs.Ready.{memory_ready}
 use Rattle.machine_bound.proofs.Sums.{sum_set, sum_set_second}
-use Rattle.machine_bound.proofs.Owed.{answer_debt, owed_delivered, sum_delivered}
+use Rattle.machine_bound.proofs.OwedSums.{answer_debt, owed_delivered, sum_delivered}
 use Rattle.machine_bound.proofs.PortEarns.{retiring_earns, asking_earns, data_owes, taking_earns}
 use Rattle.machine_bound.proofs.Requests.{step_debt, answer_debt_is, request_alone, request_need, response_debt}
 

@@ -35,7 +35,7 @@ use Rattle.msi_laws.specs.Waits.{Awaited}
 use Rattle.machine_bound.specs.Bound.{debt, debts, owed, line_base, block_base, base_in, earned}
 use Rattle.msi_laws.proofs.Lines.{set_at, waits_none}
 use Rattle.msi_laws.proofs.PortWaits.{waiting_place}
-use Rattle.machine_bound.proofs.Owed.{answers, owed_answering}
+use Rattle.machine_bound.proofs.OwedSums.{answers, owed_answering}
 
 retire_pays : (cores c b e : ℕ) → b ≤ 2 * cores + 3 → (2 * cores + 4) * c + b + 1 ≤ (2 * cores + 4) * (c + 1) + e
 retire_pays cores c b e le = let f : (2 * cores + 4) * (c + 1) ≡ (2 * cores + 4) * c + (2 * cores + 4) * 1 =

@@ -44,10 +44,10 @@ use Rattle.machine_bound.specs.Bound.{debt, line_base, block_base, base_in}
 use Rattle.msi_laws.proofs.KindsShown.{blocks_hold}
 use Rattle.msi_laws.proofs.Lines.{waits_none}
 use Rattle.msi_laws.proofs.Ready.{memory_ready, links_hold}
-use Rattle.msi_laws.proofs.Standing.{view_waits}
-use Rattle.msi_laws.proofs.Waiting.{phase_asks}
+use Rattle.msi_laws.proofs.PortsAndBlocks.{view_waits}
+use Rattle.msi_laws.proofs.MessageWants.{phase_asks}
 use Rattle.msi_laws.proofs.PortWaits.{waiting_place}
-use Rattle.machine_bound.proofs.Owed.{members, answer_debt, members-without, no_members}
+use Rattle.machine_bound.proofs.OwedSums.{members, answer_debt, members-without, no_members}
 
 -- ---- what an answer brings to others, by its kind alone
 

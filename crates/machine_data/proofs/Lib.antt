@@ -1,7 +1,7 @@
 pub mod Memory
-pub mod Opening
+pub mod OpeningWords
 pub mod Values
 pub mod Recalls
-pub mod Steps
+pub mod WordSteps
 pub mod Final
 pub mod Remembers

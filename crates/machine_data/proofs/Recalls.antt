@@ -16,7 +16,7 @@ use Rattle.msi_laws.specs.Holds.{MemoryHolds}
 use Rattle.msi_laws.specs.Moving.{links_empty}
 use Rattle.msi_laws.specs.Words.{HaveWords}
 use Rattle.msi_laws.proofs.Final.{final_current}
-use Rattle.msi_laws.proofs.Starts.{words_start}
+use Rattle.msi_laws.proofs.StartInvariant.{words_start}
 use Rattle.msi_state.specs.Choosing.{by_choice, by_move, chosen_of, state_after}
 use Rattle.msi_state.specs.CoreStates.{CoresState, PlainCores, cores_start}
 use Rattle.msi_state.specs.Events.{Event, Nothing}
@@ -24,7 +24,7 @@ use Rattle.msi_state.specs.Runs.{accesses_in}
 use Rattle.machine_invariant.specs.Promises.{EachRunHas}
 use Rattle.machine_data.specs.Coherent.{Finds, memory_after}
 use Rattle.machine_data.specs.LastValues.{last_value, memory_left, RunsFindLast, RunsLeaveLast}
-use Rattle.machine_data.proofs.Opening.{home_memory}
+use Rattle.machine_data.proofs.OpeningWords.{home_memory}
 use Rattle.machine_data.proofs.Values.{Found, Honest, found_none, found_more}
 
 -- the state after a move is coherent with the memory after its access, which found the memory's word

@@ -10,11 +10,11 @@ use Rattle.msi_state.specs.FinalMemory.{final_memory}
 use Rattle.msi_state.specs.Runs.{run, plain_moves, plain_step, plain_event, accesses}
 use Rattle.msi_state.specs.States.{all_done}
 use Rattle.machine_invariant.specs.Holds.{MachineHolds}
-use Rattle.machine_invariant.proofs.Begins.{chosen_enabled, holds_run}
-use Rattle.machine_invariant.proofs.Ended.{links_left}
+use Rattle.machine_invariant.proofs.StartInvariant.{chosen_enabled, holds_run}
+use Rattle.machine_invariant.proofs.DoneCores.{links_left}
 use Rattle.machine_data.specs.LastValues.{memory_left, EachFindsLast}
 use Rattle.machine_data.proofs.Recalls.{RunsRecall, runs_recall}
-use Rattle.machine_data.proofs.Steps.{step_works}
+use Rattle.machine_data.proofs.WordSteps.{step_works}
 
 pub recalled : RunsRecall run all_done accesses
 recalled =

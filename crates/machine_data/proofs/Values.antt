@@ -13,7 +13,7 @@ use Rattle.machine_data.specs.Coherent.{memory_after, Finds, WordsFit, word_of}
 use Rattle.msi_state.specs.Runs.{accesses_in}
 use Rattle.machine_data.specs.LastValues.{last_value, EachFindsLast}
 use Rattle.machine_data.proofs.Memory.{last_write_found}
-use Rattle.machine_data.proofs.Opening.{home_memory, home_fits, opening_at}
+use Rattle.machine_data.proofs.OpeningWords.{home_memory, home_fits, opening_at}
 
 -- the last value with one access more
 pub last_value-snoc : (opening word : ℕ) (list : List Access) (a : Access) → last_value opening word (list ++ a ∷ [])

@@ -28,7 +28,7 @@ use Rattle.msi_state.specs.Steps.{acts, acts_of, acts_working, event, enabled}
 use Rattle.machine_invariant.specs.Holds.{MachineHolds}
 use Rattle.msi_laws.proofs.Awaits.{Granted, data_granted}
 use Rattle.msi_laws.proofs.PortsKept.{there_of}
-use Rattle.machine_invariant.proofs.Happening.{working_cases, receiving_cases}
+use Rattle.machine_invariant.proofs.CoreEvents.{working_cases, receiving_cases}
 
 -- ---- an enabled move
 

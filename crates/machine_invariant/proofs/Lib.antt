@@ -1,9 +1,9 @@
-pub mod Acting
-pub mod Stepping
-pub mod Happening
+pub mod ActLists
+pub mod StepFrame
+pub mod CoreEvents
 pub mod Awaits
-pub mod Kept
-pub mod Choosing
-pub mod Begins
-pub mod Promised
-pub mod Ended
+pub mod MoveInvariant
+pub mod ChoiceStates
+pub mod StartInvariant
+pub mod InvariantPromise
+pub mod DoneCores

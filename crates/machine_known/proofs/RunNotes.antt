@@ -11,20 +11,20 @@ use Rattle.know_history.specs.Happenings.{Happening}
 use Rattle.know_history.specs.Knowledge.{known_carrying}
 use Rattle.know_history.specs.Notes.{IsNoted, no_notes}
 use Rattle.know_history.specs.Rows.{with_note}
-use Rattle.know_history.proofs.Noting.{is_noted}
+use Rattle.know_history.proofs.NotedRetirement.{is_noted}
 use Rattle.msi_state.specs.Events.{Accesses, Event, Nothing, Retires, instr_of}
 use Rattle.machine_plain.specs.Plain.{plain}
 use Rattle.msi_state.specs.Runs.{chosen, run}
 use Rattle.msi_state.specs.States.{PlainState, State}
 use Rattle.msi_state.specs.Steps.{carry_told, enabled, event}
 use Rattle.msi_state.specs.declared.moves.Move.{Move}
-use Rattle.machine_plain.proofs.Forgetting as forgetting
+use Rattle.machine_plain.proofs.ForgetfulSteps as forgetting
 use Rattle.machine_known.specs.Events.{happening_at, happening_by, happening_of}
 use Rattle.machine_known.specs.Histories.{HistoryTold, KnowsAt}
 use Rattle.machine_known.specs.Known.{known_stepped}
 use Rattle.machine_known.specs.RunHistory.{carrying_at, notes_at, with_event, with_move}
-use Rattle.machine_known.proofs.Noting.{knows_start, knows_step, retires_within}
-use Rattle.machine_known.proofs.Runs.{run_orderly_law, run_plain, taken_enabled}
+use Rattle.machine_known.proofs.NotedRuns.{knows_start, knows_step, retires_within}
+use Rattle.machine_known.proofs.KnownRuns.{run_orderly_law, run_plain, taken_enabled}
 
 module _ (image : Contents) (params : Params) (choices : ℕ → ℕ) (few : params.cores ≤ CORES_MAX) where
   abbrev events : ℕ → Happening

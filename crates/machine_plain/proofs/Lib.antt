@@ -1,5 +1,5 @@
 pub mod Plains
 pub mod PlainActs
-pub mod Forgetting
+pub mod ForgetfulSteps
 pub mod SameMoves
 pub mod Shows

@@ -1,3 +1,3 @@
 pub mod AtHand
 pub mod Elsewhere
-pub mod Counting
+pub mod CoreRanges

@@ -1,3 +1,3 @@
-pub mod Rested
+pub mod MoveGrounds
 pub mod Stuck
-pub mod Ending
+pub mod DoneMachine

@@ -18,8 +18,8 @@ use Rattle.msi_state.specs.States.{State, core_at, all_done}
 use Rattle.msi_state.specs.Steps.{enabled, moves}
 use Rattle.machine_invariant.specs.Holds.{MachineHolds}
 use Rattle.machine_invariant.proofs.Awaits.{enabled_core, core_port}
-use Rattle.msi_laws.proofs.Moves.{among_some, not_all}
-use Rattle.msi_laws.proofs.Moving.{by_take, waiting_moves}
+use Rattle.msi_laws.proofs.MoveNumbers.{among_some, not_all}
+use Rattle.msi_laws.proofs.TakenMessages.{by_take, waiting_moves}
 
 -- a move stands at its number among the candidates
 number_within : (cores : ℕ) (m : Move) → core_of m < cores → number_of cores m < 4 * cores

@@ -15,15 +15,15 @@ use Rattle.machine_times.specs.History.{WordTimes, AbsorbsWell, HasNoted}
 use Rattle.machine_times.specs.History.{FitsLast, IsPast, read_rank, Exact, IsExactFor, MayAccess}
 use Rattle.msi_protocol.specs.Seats.{allows}
 use Rattle.rtr_types.specs.Accesses.{is_write}
-use Rattle.msi_protocol.proofs.Found.{main_core, at_core, found_in, found_request, found_response, found_message}
-use Rattle.msi_protocol.proofs.Found.{found_wish}
+use Rattle.msi_protocol.proofs.NewestReads.{main_core, at_core, found_in, found_request, found_response, found_message}
+use Rattle.msi_protocol.proofs.NewestReads.{found_wish}
 use Rattle.machine_times.proofs.Past.{absorbed_past, absorbed_grows, noted_past, others_past, read_cases}
 use Rattle.msi_protocol.specs.Showing.{KeptBy}
-use Rattle.msi_protocol.proofs.Keeping.{holders_kept}
-use Rattle.msi_protocol.proofs.Moves.{stands_request, stands_response, stands_message, stands_wish, stands_access}
-use Rattle.msi_protocol.proofs.Moves.{has_load, has_store, still_has}
-use Rattle.msi_protocol.proofs.Moves.{allows_read, reads_line, writer_away}
-use Rattle.machine_times.proofs.Relined.{found_rehomed, found_relined}
+use Rattle.msi_protocol.proofs.CopiesKept.{holders_kept}
+use Rattle.msi_protocol.proofs.PhaseMoves.{stands_request, stands_response, stands_message, stands_wish, stands_access}
+use Rattle.msi_protocol.proofs.PhaseMoves.{has_load, has_store, still_has}
+use Rattle.msi_protocol.proofs.PhaseMoves.{allows_read, reads_line, writer_away}
+use Rattle.machine_times.proofs.DeadCopies.{found_rehomed, found_relined}
 
 -- each move of a block keeps its riders right
 pub exact_kept : {X : Type 0} (t : WordTimes X) → AbsorbsWell t → (h : List NotedAccess) (word : ℕ) →

@@ -12,11 +12,11 @@ use Rattle.rtr_types.specs.Accesses.{is_write}
 use Rattle.rtr_types.specs.declared.access.Access.{Access}
 use Rattle.rtr_types.specs.declared.instr.Instr.{Instr}
 use Rattle.conflict_edge.proofs.History.{Rising}
-use Rattle.conflict_edge.proofs.Reversed.{stands_forth, reverse-cons, stands_front, stands_last}
+use Rattle.conflict_edge.proofs.NewestFirst.{stands_forth, reverse-cons, stands_front, stands_last}
 use Rattle.conflict_edge.specs.Clocks.{last_write as last_write_in, last_read as last_read_in}
 use Rattle.conflict_edge.specs.Conflicts.{CountsRise, StandsIn}
 use Rattle.conflict_edge.specs.Times.{IsExactClock, IsNoteOf}
-use Rattle.machine_times.proofs.Counting.{retired_more}
+use Rattle.machine_times.proofs.CoreCounts.{retired_more}
 use Rattle.machine_times.specs.ExactTimes.{with_access, retired_accesses, IsClockOf, HaveExactClocks, ExactTimesLaw}
 use Rattle.machine_times.specs.ExactTimes.{OrderedLaw}
 use Rattle.machine_times.specs.History.{last_noted_write, last_noted_read}

@@ -18,10 +18,10 @@ use Rattle.rtr_types.specs.declared.access.Access.{Access}
 use Rattle.clock_core.specs.declared.clock.Clock.{Clock}
 use Rattle.access_times.specs.declared.times.SlotTimes.{SlotTimes}
 use Rattle.access_times.specs.declared.times.Times.{Times}
-use Rattle.access_times.proofs.Kept.{absorbed_at}
+use Rattle.access_times.proofs.KeptReads.{absorbed_at}
 use Rattle.rtr_types.specs.Accesses.{is_write}
 use Rattle.machine_times.specs.StandsFor.{word_number, AbsorbsAll}
-use Rattle.machine_times.proofs.Begins.{IsFresh}
+use Rattle.machine_times.proofs.NewMachine.{IsFresh}
 use Rattle.machine_times.specs.Retirements.{RiderNotes}
 use Rattle.machine_times.specs.TimedSteps.{times_parts}
 

@@ -11,7 +11,7 @@ use Rattle.msi_memory.specs.Memories.{Memory, port_at, rider_at}
 use Rattle.msi_protocol.specs.Shown.{Payload}
 use Rattle.msi_laws.specs.Holds.{MemoryHolds}
 use Rattle.msi_laws.specs.Links.{TouchGives, payload_at, words_left}
-use Rattle.msi_laws.proofs.Acting.{acts_keep}
+use Rattle.msi_laws.proofs.ActsInTurn.{acts_keep}
 use Rattle.msi_laws.proofs.LinksKept.{is_touch, links_kept, links_touched}
 use Rattle.msi_laws.proofs.PortsKept.{can_of, there_of}
 use Rattle.machine_times.specs.History.{NotedAccess, core_of as noted_core, rank, last_noted_read}

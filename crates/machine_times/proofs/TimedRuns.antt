@@ -11,13 +11,13 @@ use Rattle.msi_memory.specs.declared.port.Port.{Port}
 use Rattle.msi_memory.specs.Memories.{rider_at}
 use Rattle.msi_state.specs.Events.{Event, Nothing, Retires, Accesses}
 use Rattle.msi_state.specs.Steps.{enabled, event, retiring, step}
-use Rattle.machine_invariant.proofs.Begins.{holds_start}
-use Rattle.machine_invariant.proofs.Kept.{holds_kept}
-use Rattle.machine_times.proofs.Absorbing.{meet_alike}
-use Rattle.machine_times.proofs.Begins.{machine_start}
+use Rattle.machine_invariant.proofs.StartInvariant.{holds_start}
+use Rattle.machine_invariant.proofs.MoveInvariant.{holds_kept}
+use Rattle.machine_times.proofs.MetRiders.{meet_alike}
+use Rattle.machine_times.proofs.NewMachine.{machine_start}
 use Rattle.machine_times.proofs.RiderLaws.{times_absorb, times_fresh, times_notes}
-use Rattle.machine_times.proofs.Timed.{timed_step, finds_exact}
-use Rattle.machine_times.proofs.Told.{event_reversed}
+use Rattle.machine_times.proofs.MoveTimes.{timed_step, finds_exact}
+use Rattle.machine_times.proofs.NotedRiders.{event_reversed}
 use Rattle.machine_times.specs.Retirements.{Retirement, StandsAfter, MachineStandsFor, RiderFits, RiderNotes}
 use Rattle.machine_times.specs.Retirements.{with_event}
 use Rattle.machine_times.specs.TimedRuns.{TimedMove, TimedState, rider_noted, timed_taking, timed_run, timed_start}

@@ -11,8 +11,8 @@ use Rattle.msi_directory.specs.Blocks.{entry_at}
 use Rattle.msi_protocol.specs.Seats.{Seat, allows as phase_allows}
 use Rattle.msi_protocol.specs.Showing.{KeptBy, Shows}
 use Rattle.msi_protocol.specs.Shown.{Payload, Sight, line_with, payload_absorbed}
-use Rattle.msi_protocol.proofs.Shown.{shown_allows}
-use Rattle.msi_protocol.proofs.Shown.{copy_in}
+use Rattle.msi_protocol.proofs.TablesAndSeats.{shown_allows}
+use Rattle.msi_protocol.proofs.TablesAndSeats.{copy_in}
 use Rattle.msi_memory.specs.Acts.{allows}
 use Rattle.msi_memory.specs.Memories.{Memory, port_at, rider_at}
 use Rattle.msi_laws.specs.Links.{TouchGives, line_if, payload_at, port_sight}

@@ -13,7 +13,7 @@ use Rattle.race_log.specs.declared.recording.Recording.{Recording}
 use Rattle.race_log.specs.Validity.{Valid}
 use Rattle.race_log.proofs.InTurn.{places-stand, all-stand}
 use Rattle.clock_entries.specs.Ends.{Clocks, instr, ends_to, entry_at}
-use Rattle.clock_entries.proofs.Ends.{end_counts}
+use Rattle.clock_entries.proofs.LastEntries.{end_counts}
 use Rattle.replay_audit.proofs.Logs.{recorded_log, leads_back}
 use Rattle.certificate_codec.specs.declared.certificate.Certificate.{Certificate}
 use Rattle.certificate_codec.specs.Ends.{reduced_edges, IsWithin}
@@ -22,7 +22,7 @@ use Rattle.certificate_codec.specs.Validity.{AreEntries, IsCertificate}
 use Rattle.min_certificate.specs.Clocks.{end_of, IsEntryOf, AreClocksOf, HasClocks}
 use Rattle.min_certificate.specs.Places.{AreExactIn}
 use Rattle.min_certificate.proofs.First.{Placed, place_of, IsListed, end_in_list}
-use Rattle.min_certificate.proofs.Shown.{end_within, totals_closed}
+use Rattle.min_certificate.proofs.CertifiedRecordings.{end_within, totals_closed}
 
 -- ---- the counts of a clock
 

@@ -11,11 +11,11 @@ use Rattle.rtr_types.specs.declared.instr.Instr.{Instr}
 use Rattle.rtr_types.specs.declared.instr.Edge.{Edge}
 use Rattle.rtr_types.specs.declared.pairs.Which.TheVariants.{Reduced}
 use Rattle.clock_core.specs.Order.{Among}
-use Rattle.clock_core.proofs.Listed.{place_among}
+use Rattle.clock_core.proofs.EdgeLists.{place_among}
 use Rattle.race_log.specs.declared.recording.Recording.{Recording}
 use Rattle.race_log.specs.Validity.{Valid}
 use Rattle.clock_entries.specs.Ends.{instr, is_end, IsEnd, ends_to}
-use Rattle.clock_entries.proofs.Ends.{ends_more, end_counts}
+use Rattle.clock_entries.proofs.LastEntries.{ends_more, end_counts}
 use Rattle.clock_entries.proofs.Numbers.{few, at_low, ends_rise, fronted, longer}
 use Rattle.replay_audit.proofs.Logs.{recorded_log}
 use Rattle.certificate_codec.specs.declared.certificate.Certificate.{Certificate}
@@ -23,7 +23,7 @@ use Rattle.certificate_codec.specs.Ends.{reduced_edges, IsWithin}
 use Rattle.certificate_codec.proofs.Marks.{one_more}
 use Rattle.min_certificate.specs.Places.{IsGoodIn, LeadsTo}
 use Rattle.min_certificate.specs.Firsts.{FailsFirst, IsFirstBadOf, AreGoodOf}
-use Rattle.min_certificate.proofs.Shown.{end_within}
+use Rattle.min_certificate.proofs.CertifiedRecordings.{end_within}
 use Rattle.replay_core.proofs.Sources.{edge_within}
 
 -- ---- edges

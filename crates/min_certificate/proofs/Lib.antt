@@ -1,8 +1,8 @@
 pub mod Lows
-pub mod Shown
-pub mod Indexed
-pub mod Looked
+pub mod CertifiedRecordings
+pub mod AccessPlaces
+pub mod LookedUpEntries
 pub mod First
 pub mod Exactly
-pub mod Judged
-pub mod Tested
+pub mod FirstFailure
+pub mod CertificateTests

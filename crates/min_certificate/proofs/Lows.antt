@@ -12,7 +12,7 @@ use Rattle.replay_core.specs.Plans.{plan_of}
 use Rattle.replay_core.specs.Play.{accesses_of}
 use Rattle.clock_entries.specs.Laws.{IsAcyclic}
 use Rattle.replay_audit.specs.Determinate.{Decides, IsDeterminate, low_accesses, low_order_of}
-use Rattle.replay_audit.proofs.Agreed.{low_ordered, every_order_law, any_whole_law}
+use Rattle.replay_audit.proofs.OrdersAgree.{low_ordered, every_order_law, any_whole_law}
 use Rattle.replay_audit.proofs.Logs.{acyclic_law}
 use Rattle.replay_audit.proofs.Rise.{accesses_rise, accesses_within}
 use Rattle.certificate_codec.specs.Ends.{reduced_edges}

@@ -13,7 +13,7 @@ use Rattle.msi_memory.specs.declared.port.Port.{Port}
 use Rattle.msi_memory.specs.Acts.{Act, can, can_at, port_of}
 use Rattle.msi_memory.specs.Memories.{Memory, no_port, port_at}
 use Rattle.msi_memory.specs.Rests.{requests_at}
-use Rattle.move_marks.proofs.Delivered.{below_is, past_is}
+use Rattle.move_marks.proofs.AnswerMarks.{below_is, past_is}
 
 module _ {R K : Type 0} where
   -- what is read of a port, in the list of what is read of all

@@ -21,7 +21,7 @@ use Rattle.move_marks.specs.declared.marks.MoveMarks.{MoveMarks}
 use Rattle.move_marks.specs.Kinds.{marked, marked_at_ports, marked_of, place_of, set_of}
 use Rattle.move_marks.specs.Members.{members}
 use Rattle.move_marks.proofs.KindBits.{in_set}
-use Rattle.move_marks.proofs.Listing.{kind_and_others, kind_listed}
+use Rattle.move_marks.proofs.MoveOrder.{kind_and_others, kind_listed}
 use Rattle.move_marks.proofs.SetBits.{is_bit}
 use Rattle.move_marks.proofs.Bits.{as_digit}
 

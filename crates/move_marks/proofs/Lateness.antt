@@ -16,7 +16,7 @@ use Rattle.move_marks.specs.declared.marks.MoveMarks.{MoveMarks}
 use Rattle.move_marks.specs.Kinds.{set_of}
 use Rattle.move_marks.specs.Ports.{PortsMarked, PortsMarkedBut, PortsNoted}
 use Rattle.move_marks.proofs.Acts.{can_here, can_past, requests_within}
-use Rattle.move_marks.proofs.Following.{each}
+use Rattle.move_marks.proofs.TurnMarks.{each}
 
 module _ {R K : Type 0} where
   -- the late request is marked as it can be taken

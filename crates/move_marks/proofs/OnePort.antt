@@ -18,7 +18,7 @@ use Rattle.move_marks.specs.declared.marks.MoveMarks.{MoveMarks}
 use Rattle.move_marks.specs.Kinds.{set_of}
 use Rattle.move_marks.specs.Ports.{PortsMarked, PortsMarkedBut}
 use Rattle.move_marks.proofs.Acts.{can_by, requests_within, set_elsewhere}
-use Rattle.move_marks.proofs.Following.{each}
+use Rattle.move_marks.proofs.TurnMarks.{each}
 
 -- the list after one of its places changed, with what is there now
 pub record OneSet {A : Type 0} (old new : List A) (c : ℕ) : Type 0 where

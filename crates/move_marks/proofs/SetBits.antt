@@ -13,7 +13,7 @@ use Rattle.rtr_types.specs.CoreSets.{has, no_cores, with_core, without_core}
 use Rattle.rtr_types.specs.declared.TheConstants.{CORES_MAX}
 use Rattle.rtr_types.specs.declared.core_set.CoreSet.{CoreSet}
 use Rattle.rtr_types.proofs.Members.{has-no_cores, has-with_other, has-with_same, has-without_other}
-use Rattle.move_marks.proofs.Delivered.{below_is, past_is}
+use Rattle.move_marks.proofs.AnswerMarks.{below_is, past_is}
 
 digit : (x : ℕ) → x < 2 → (x ≡ 0) ⊎ (x ≡ 1)
 digit x within = grind arith

@@ -213,7 +213,7 @@ impl<R: Rider> Cache<R> {
 
     /// Takes a message for which the table has a row at the line that holds its block. Only that line
     /// changes.
-    #[tactic(auto, using(crate::proofs::Counting::counted_before))]
+    #[tactic(auto, using(crate::proofs::WaitCounts::counted_before))]
     pub fn hear(&mut self, message: FromHome<&R>)
         requires { let seen = message_seen message in
             IsTrue (has_row (line_for R.riding.fresh self.old (block_of seen)) seen) }
@@ -228,7 +228,7 @@ impl<R: Rider> Cache<R> {
 
     /// Takes a message that the table answers, as `on_home` does, and puts the answer there. Where the copy ends, its
     /// rider is handed over to the answer.
-    #[tactic(auto, using(crate::proofs::Counting::counted_before))]
+    #[tactic(auto, using(crate::proofs::WaitCounts::counted_before))]
     pub fn respond(&mut self, message: FromHome<&R>, reply: &mut ResponseSlot<R>)
         requires row { let seen = message_seen message in
             IsTrue (has_row (line_for R.riding.fresh self.old (block_of seen)) seen) }
@@ -246,7 +246,7 @@ impl<R: Rider> Cache<R> {
 
     /// Takes the message that lies here as `hear` does. What is left here means nothing: a rider that the line takes
     /// is handed over, not copied.
-    #[tactic(auto, using(crate::proofs::Counting::counted_before))]
+    #[tactic(auto, using(crate::proofs::WaitCounts::counted_before))]
     pub fn take(&mut self, slot: &mut FromHomeSlot<R>)
         requires { IsTrue (has_row (line_for R.riding.fresh self.old (block_of slot.old)) slot.old) }
         ensures { self.new ≡ lines_after R.riding self.old slot.old }

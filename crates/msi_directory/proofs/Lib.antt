@@ -1,7 +1,7 @@
 pub mod Openings
 pub mod Fits
 pub mod Forgets
-pub mod Seen
-pub mod Keeping
+pub mod LentRequests
+pub mod KeptEntries
 pub mod Sparse
 pub mod Rows

@@ -15,7 +15,7 @@ use Rattle.msi_memory.specs.Acts.{Act, TakeMessage, can, can_all, after_act, aft
 use Rattle.msi_memory.specs.Memories.{Memory, port_at}
 use Rattle.msi_laws.specs.Holds.{MemoryHolds, place_at}
 use Rattle.msi_laws.specs.Waits.{Awaited, is_want}
-use Rattle.msi_laws.proofs.Acting.{acts_keep}
+use Rattle.msi_laws.proofs.ActsInTurn.{acts_keep}
 use Rattle.msi_laws.proofs.Lines.{still_serves, waits_none}
 use Rattle.msi_laws.proofs.PortsKept.{length_act}
 use Rattle.msi_laws.proofs.Waits.{waits_law, still_law, grants_law, port_there}

@@ -33,7 +33,7 @@ use Rattle.msi_laws.specs.Links.{of_block, line_if}
 use Rattle.msi_laws.specs.Links.{port_sight, AllShow}
 use Rattle.msi_laws.proofs.Sent.{Sends}
 use Rattle.msi_laws.proofs.Sent.{sight-delivered}
-use Rattle.msi_laws.proofs.Taken.{Taken, after_taken, length_taken, request_taken, response_taken}
+use Rattle.msi_laws.proofs.HomeMessages.{Taken, after_taken, length_taken, request_taken, response_taken}
 use Rattle.msi_laws.proofs.Views.{port_at-set}
 
 module _ {R K : Type 0} where

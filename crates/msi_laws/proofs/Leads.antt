@@ -21,7 +21,7 @@ use Rattle.msi_laws.specs.Links.{of_block, line_here, line_if}
 use Rattle.msi_protocol.specs.Seats.{FullBlock, PhasesFit, allows as phase_allows}
 use Rattle.msi_protocol.specs.Shown.{Payload, payload_absorbed, Sight, sight_received, sight_asking, sight_accessed}
 use Rattle.msi_protocol.specs.Shown.{line_with}
-use Rattle.msi_protocol.proofs.Shown.{shown_allows}
+use Rattle.msi_protocol.proofs.TablesAndSeats.{shown_allows}
 use Rattle.msi_protocol.proofs.Shows.{sight_at}
 use Rattle.msi_memory.specs.declared.port.Port.{Port}
 use Rattle.msi_memory.specs.Memories.{Memory, port_at}
@@ -30,8 +30,8 @@ use Rattle.msi_laws.proofs.Views.{port_at-set}
 use Rattle.msi_protocol.specs.Showing.{KeptBy, Shows}
 use Rattle.msi_laws.specs.Links.{AllShow, TouchGives, payload_at, words_left, port_sight}
 use Rattle.msi_protocol.proofs.Shows.{for_message, for_wish, for_touch, same_sights}
-use Rattle.msi_protocol.proofs.Shown.{copy_in}
-use Rattle.msi_protocol.proofs.Relined.{SameSight, alike_sights}
+use Rattle.msi_protocol.proofs.TablesAndSeats.{copy_in}
+use Rattle.msi_protocol.proofs.DeadCopies.{SameSight, alike_sights}
 use Rattle.msi_laws.proofs.Ports.{sight-received, sight-received_other, sight-asking, sight-asking_other}
 use Rattle.msi_laws.proofs.Ports.{asked_needed, asked_there, left_line, left_other}
 

@@ -20,7 +20,7 @@ use Rattle.msi_laws.specs.Holds.{MemoryHolds}
 use Rattle.msi_protocol.specs.Showing.{KeptBy}
 use Rattle.msi_laws.specs.Links.{AllShow, TouchGives, payload_at, words_left}
 use Rattle.msi_laws.proofs.Lines.{waits_none}
-use Rattle.msi_laws.proofs.Standing.{request_within, response_within, message_row}
+use Rattle.msi_laws.proofs.PortsAndBlocks.{request_within, response_within, message_row}
 use Rattle.msi_laws.proofs.PortsKept.{there_of, can_of, can_want}
 use Rattle.msi_laws.proofs.Home.{all_request, all_response}
 use Rattle.msi_laws.proofs.Sends.{sends_request, sends_response}

@@ -23,7 +23,7 @@ use Rattle.msi_memory.specs.declared.port.Mail.{Mail}
 use Rattle.msi_memory.specs.declared.port.Port.{Port}
 use Rattle.msi_memory.specs.Acts.{port_hearing, port_answering, answer_to, port_taking, port_asking, lines_touched}
 use Rattle.msi_protocol.specs.Shown.{Sight, sight_received, sight_asking, answers}
-use Rattle.msi_protocol.proofs.Relined.{SameSight}
+use Rattle.msi_protocol.proofs.DeadCopies.{SameSight}
 use Rattle.msi_laws.specs.Sights.{cons_if}
 use Rattle.msi_laws.specs.Links.{of_block, line_here, line_if, port_sight, words_left}
 use Rattle.msi_laws.proofs.Sent.{of_block-snoc}

@@ -25,10 +25,10 @@ use Rattle.msi_memory.specs.Acts.{port_taking, port_sent, answer_to}
 use Rattle.msi_laws.specs.Holds.{PortHolds, MemoryHolds}
 use Rattle.msi_laws.proofs.Views.{port_at-set, port_at-sent, port_at-told}
 use Rattle.msi_laws.proofs.Sends.{IsTaken, by_request, by_response}
-use Rattle.msi_laws.proofs.Taken.{Taken, after_taken, each_request, each_response, length_taken}
+use Rattle.msi_laws.proofs.HomeMessages.{Taken, after_taken, each_request, each_response, length_taken}
 use Rattle.msi_laws.proofs.Lines.{PortStill, SameLines, same_lines_fit, fits_still, asking_fits, taking_fits}
 use Rattle.msi_laws.proofs.Lines.{answering_same, touched_same, length_touched}
-use Rattle.msi_laws.proofs.Standing.{message_row}
+use Rattle.msi_laws.proofs.PortsAndBlocks.{message_row}
 
 module _ {R K : Type 0} where
   -- ---- what the home sends

@@ -12,8 +12,8 @@ use Rattle.msi_cache.specs.Lines.{line_for}
 use Rattle.msi_protocol.specs.Seats.{FullBlock, HoldersHave, PhasesFit, accessing, reads_in, writes_in}
 use Rattle.msi_protocol.specs.Seats.{allows as phase_allows}
 use Rattle.msi_protocol.specs.Shown.{Payload, payload_absorbed}
-use Rattle.msi_protocol.proofs.Moves.{allows_read, reads_line, has_load, has_store}
-use Rattle.msi_protocol.proofs.Keeping.{holders_kept}
+use Rattle.msi_protocol.proofs.PhaseMoves.{allows_read, reads_line, has_load, has_store}
+use Rattle.msi_protocol.proofs.CopiesKept.{holders_kept}
 use Rattle.msi_memory.specs.Memories.{Memory, port_at}
 use Rattle.msi_memory.specs.Acts.{Act, Want, Touch, Retire, TakeRequest, TakeResponse, TakeMessage, can, after_act}
 use Rattle.msi_laws.specs.Holds.{MemoryHolds}

@@ -34,8 +34,8 @@ use Rattle.msi_laws.specs.Holds.{MemoryHolds}
 use Rattle.msi_laws.specs.Ready.{PortLinksHold, ReadyLaw, LinksHoldLaw}
 use Rattle.msi_laws.specs.Sights.{asks_of}
 use Rattle.msi_laws.proofs.KindsShown.{blocks_hold}
-use Rattle.msi_laws.proofs.Standing.{there, core_below, rows_of, asked_first, request_within, response_asked}
-use Rattle.msi_laws.proofs.Standing.{response_within, message_row}
+use Rattle.msi_laws.proofs.PortsAndBlocks.{there, core_below, rows_of, asked_first, request_within, response_asked}
+use Rattle.msi_laws.proofs.PortsAndBlocks.{response_within, message_row}
 use Rattle.msi_laws.proofs.PortsKept.{there_of, can_of}
 use Rattle.msi_laws.proofs.Spaces.{rooms_there, port_links_hold}
 

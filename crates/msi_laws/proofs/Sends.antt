@@ -22,8 +22,8 @@ use Rattle.msi_laws.specs.Links.{AllShow}
 use Rattle.msi_laws.proofs.Sent.{Sends}
 use Rattle.msi_laws.specs.Holds.{Anything, MemoryHolds}
 use Rattle.msi_laws.proofs.KindsShown.{shows_hold}
-use Rattle.msi_laws.proofs.Standing.{there}
-use Rattle.msi_laws.proofs.Taken.{Taken, after_taken, request_taken, response_taken}
+use Rattle.msi_laws.proofs.PortsAndBlocks.{there}
+use Rattle.msi_laws.proofs.HomeMessages.{Taken, after_taken, request_taken, response_taken}
 use Rattle.msi_directory.specs.declared.entry.Stage.{Stage}
 
 abbrev is_out : Role → Bool

@@ -34,12 +34,12 @@ use Rattle.msi_laws.specs.Holds.{MemoryHolds, port_view, block_in}
 use Rattle.msi_laws.specs.Ready.{PortLinksHold}
 use Rattle.msi_laws.proofs.KindsShown.{blocks_hold}
 use Rattle.msi_laws.proofs.Lines.{waits_at}
-use Rattle.msi_laws.proofs.Standing.{view_waits, core_below, response_asked, stands_at}
+use Rattle.msi_laws.proofs.PortsAndBlocks.{view_waits, core_below, response_asked, stands_at}
 use Rattle.msi_laws.proofs.PortsKept.{there_of, can_of, can_want}
 use Rattle.msi_laws.proofs.Pigeons.{owns, Free}
-use Rattle.msi_laws.proofs.Waiting.{items_of, owns_items, own_count, requester, Wants, wants_one, own_wants}
-use Rattle.msi_laws.proofs.Waiting.{others_owe, owed_to, messages_few}
-use Rattle.msi_laws.proofs.Waiting.{messages_fewer, answers_fewer, phase_asks, phase_awaits, awaiting}
+use Rattle.msi_laws.proofs.MessageWants.{items_of, owns_items, own_count, requester, Wants, wants_one, own_wants}
+use Rattle.msi_laws.proofs.MessageWants.{others_owe, owed_to, messages_few}
+use Rattle.msi_laws.proofs.MessageWants.{messages_fewer, answers_fewer, phase_asks, phase_awaits, awaiting}
 
 -- the home answers a response where some core waits for that
 response_awaits : (stage : Stage) (c : ℕ) (a : Reply) (to : ℕ) (g : Signal) → StageFits stage →

@@ -26,10 +26,10 @@ use Rattle.msi_laws.specs.Holds.{MemoryHolds, place_at}
 use Rattle.msi_laws.specs.Waits.{serves, WaitsFor, WantsLaw, WaitsLaw, StillLaw, GrantsLaw}
 use Rattle.msi_laws.proofs.Views.{port_at-set}
 use Rattle.msi_laws.proofs.Sends.{IsTaken, by_request, by_response}
-use Rattle.msi_laws.proofs.Taken.{Taken, after_taken}
+use Rattle.msi_laws.proofs.HomeMessages.{Taken, after_taken}
 use Rattle.msi_laws.proofs.Lines.{none_waits, waits_none, same_lines_wait, asking_waits, fits_still, still_serves}
 use Rattle.msi_laws.proofs.Lines.{taking_waits, taking_allows, taking_still}
-use Rattle.msi_laws.proofs.Standing.{HasRow, message_row}
+use Rattle.msi_laws.proofs.PortsAndBlocks.{HasRow, message_row}
 use Rattle.msi_laws.proofs.PortsKept.{delivered_keeps, there_of, can_want, touched_lines}
 
 -- a line that would do for any access doesn't wait

@@ -5,7 +5,7 @@ use Rattle.access_times.specs.Riding.{Riding, Carrying}
 use Rattle.msi_memory.specs.Finals.{at_hand}
 use Rattle.msi_state.specs.States.{State, all_done}
 use Rattle.machine_invariant.specs.Holds.{MachineHolds}
-use Rattle.machine_invariant.proofs.Ended.{links_left}
+use Rattle.machine_invariant.proofs.DoneCores.{links_left}
 use Rattle.machine_ports.proofs.AtHand.{ends_at_hand as at_hand_at_ports, one_writer as one_writer_at_ports}
 use Rattle.msi_machine.specs.Writers.{OneWriterEach}
 

@@ -20,9 +20,9 @@ use Rattle.msi_machine.specs.declared.marks.Marks.{Marks}
 use Rattle.msi_machine.specs.declared.standing.Standing.{Standing}
 use Rattle.msi_machine.specs.Marks.{AllMarked}
 use Rattle.msi_machine.specs.Standings.{AskerOpen, may_work, standing_at}
-use Rattle.msi_machine.proofs.Ended.{asks_first, no_asker}
-use Rattle.msi_machine.proofs.Moves.{core_marks, core_retired_marks}
-use Rattle.msi_machine.proofs.Renewed.{all_others}
+use Rattle.msi_machine.proofs.MarksAndEnd.{asks_first, no_asker}
+use Rattle.msi_machine.proofs.MoveFrames.{core_marks, core_retired_marks}
+use Rattle.msi_machine.proofs.MarksAfterMoves.{all_others}
 
 module _ {R K : Type 0} (riding : Riding R) (carrying : Carrying K) (s t : State R K) (old : Marks) (new : MoveMarks)
     (c : ℕ) (kept : Standing) (holds : MachineHolds riding carrying s)

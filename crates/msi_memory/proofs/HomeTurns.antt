@@ -25,8 +25,9 @@ use Rattle.msi_memory.specs.Turns.{IsDone, IsRequestTurn, IsResponseTurn, IsTurn
 use Rattle.msi_memory.specs.declared.port.Mail.{Mail}
 use Rattle.msi_memory.specs.declared.port.Port.{Port}
 use Rattle.msi_memory.specs.declared.turn.Turn.{Turn}
-use Rattle.msi_memory.proofs.Served.{below, frees, request_named, response_named, room_kept, same_link, same_memory}
-use Rattle.msi_memory.proofs.Turns.{turn_is}
+use Rattle.msi_memory.proofs.ServedAnswers.{below, frees, request_named, response_named}
+use Rattle.msi_memory.proofs.ServedAnswers.{room_kept, same_link, same_memory}
+use Rattle.msi_memory.proofs.TurnTells.{turn_is}
 
 -- the answer can be delivered to these ports
 pub record CanDeliver {R K : Type 0} (carrying : Carrying K) (answer : HomeAnswer R) (ports : List (Port R K)) : Type 0

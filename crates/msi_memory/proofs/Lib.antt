@@ -1,7 +1,7 @@
-pub mod Asking
+pub mod AskerSets
 pub mod HomeTurns
 pub mod LinkRooms
 pub mod Roomy
-pub mod Served
-pub mod Turns
-pub mod Waiting
+pub mod ServedAnswers
+pub mod TurnTells
+pub mod WaitingLines

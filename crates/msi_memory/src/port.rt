@@ -126,7 +126,7 @@ fn ends_wait<R>(message: FromHome<&R>) -> bool
 
 /// The cache takes the message from home that lies here, which ends a wait and isn't answered. What was kept of its
 /// waiting is renewed.
-#[tactic(auto, using(crate::proofs::Waiting::unanswered))]
+#[tactic(auto, using(crate::proofs::WaitingLines::unanswered))]
 fn hear<R: Rider>(cache: &mut Cache<R>, message: &mut FromHomeSlot<R>, waiting: &mut bool)
     requires row { IsTrue (has_row (line_for R.riding.fresh cache.old (block_of message.old)) message.old) }
     requires ends { IsTrue (ends_wait (signal message.old)) }
@@ -140,7 +140,7 @@ fn hear<R: Rider>(cache: &mut Cache<R>, message: &mut FromHomeSlot<R>, waiting: 
 
 /// The cache takes a message from home that ends no wait, and answers it in this place. No line begins to wait, and
 /// none stops.
-#[tactic(auto, using(crate::proofs::Waiting::is_answered))]
+#[tactic(auto, using(crate::proofs::WaitingLines::is_answered))]
 fn respond<R: Rider>(cache: &mut Cache<R>, message: FromHome<&R>, reply: &mut ResponseSlot<R>)
     requires row { let seen = message_seen message in
         IsTrue (has_row (line_for R.riding.fresh cache.old (block_of seen)) seen) }

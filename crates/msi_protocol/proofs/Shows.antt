@@ -35,12 +35,13 @@ use Rattle.msi_protocol.specs.Seats.{home_responded, sent_served, PhasesFit}
 use Rattle.msi_protocol.specs.Shown.{Payload, payload_absorbed, ask_with, reply_with, signal_with, Sight, line_with}
 use Rattle.msi_protocol.specs.Shown.{shown, entry_with, sight_received}
 use Rattle.msi_protocol.specs.Shown.{sight_asking, sight_accessed, after_request_at, after_response_at, wish_in}
-use Rattle.msi_protocol.proofs.Found.{at_core}
-use Rattle.msi_protocol.proofs.Shown.{copy_in, seat_hearing, shown_received, hearing_counts, shown_asked, shown_own}
-use Rattle.msi_protocol.proofs.Shown.{shown_entry, shown_other, shown_replied}
-use Rattle.msi_protocol.proofs.Shown.{shown_responder, shown_response_entry}
-use Rattle.msi_protocol.proofs.Shown.{shown_others, shown_wish, shown_allows}
-use Rattle.msi_protocol.proofs.Moves.{stands_request, stands_response, stands_message, stands_wish, stands_access}
+use Rattle.msi_protocol.proofs.NewestReads.{at_core}
+use Rattle.msi_protocol.proofs.TablesAndSeats.{copy_in, seat_hearing, shown_received, hearing_counts}
+use Rattle.msi_protocol.proofs.TablesAndSeats.{shown_asked, shown_own}
+use Rattle.msi_protocol.proofs.TablesAndSeats.{shown_entry, shown_other, shown_replied}
+use Rattle.msi_protocol.proofs.TablesAndSeats.{shown_responder, shown_response_entry}
+use Rattle.msi_protocol.proofs.TablesAndSeats.{shown_others, shown_wish, shown_allows}
+use Rattle.msi_protocol.proofs.PhaseMoves.{stands_request, stands_response, stands_message, stands_wish, stands_access}
 use Rattle.msi_protocol.specs.Seats.{allows}
 use Rattle.msi_protocol.specs.Showing.{KeptBy, Shows, rehomed, relined}
 

@@ -8,7 +8,7 @@ use Rattle.rtr_types.specs.declared.instr.Instr.{Instr}
 use Rattle.rtr_types.specs.declared.access.Access.{Access}
 use Rattle.clock_core.specs.Counts.{merged}
 use Rattle.clock_core.specs.declared.clock.Clock.{Clock}
-use Rattle.clock_core.proofs.Merging.{get_or-merged}
+use Rattle.clock_core.proofs.MergedClocks.{get_or-merged}
 use Rattle.conflict_edge.specs.Clocks.{clock, greatest, reaches}
 use Rattle.conflict_edge.specs.Conflicts.{StandsIn, CountsRise}
 use Rattle.clock_core.proofs.Paths.{joined}
@@ -18,7 +18,7 @@ use Rattle.conflict_edge.proofs.Clocks.{clock-newest, clock-older, clock-own, cl
 use Rattle.conflict_edge.proofs.History.{Pair, Rising, reaches-true, reaches-false, reaches-yes, reaches-no}
 use Rattle.online_reduce.specs.declared.source.Source.{Source}
 use Rattle.online_reduce.specs.Rule.{merged_with}
-use Rattle.conflict_edge.proofs.Standing.{stands_which}
+use Rattle.conflict_edge.proofs.AccessPlaces.{stands_which}
 
 -- ---- merged clocks
 

@@ -21,8 +21,8 @@ use Rattle.online_reduce.specs.LiveReads.{drawn}
 use Rattle.online_reduce.specs.Reduced.{Reduced, clock_of, counted, retired}
 use Rattle.online_reduce.specs.Rule.{clock_into, edge_to, edges_into, is_kept, merged_with}
 use Rattle.online_reduce.specs.Sources.{candidates, reads_from, write_from}
-use Rattle.online_reduce.proofs.Found.{only_reads, only_write}
-use Rattle.online_reduce.proofs.Retired.{AreFound, same_clock_of}
+use Rattle.online_reduce.proofs.CandidateLists.{only_reads, only_write}
+use Rattle.online_reduce.proofs.RetiredParts.{AreFound, same_clock_of}
 
 -- nothing changes without candidates
 pub drawn_none : (r : Reduced) (at : Instr) → drawn r at [] ≡ r

@@ -19,15 +19,15 @@ use Rattle.conflict_edge.specs.Times.{IsExactClock}
 use Rattle.conflict_edge.proofs.Clocks.{own_clock}
 use Rattle.conflict_edge.proofs.History.{Rising}
 use Rattle.conflict_edge.proofs.Reach.{online_clock_law, kept_clock_law}
-use Rattle.conflict_edge.proofs.Reversed.{rising_back, stands_back}
+use Rattle.conflict_edge.proofs.NewestFirst.{rising_back, stands_back}
 use Rattle.online_reduce.specs.Rule.{clock_into, merged_with}
 use Rattle.online_reduce.specs.Reduced.{Reduced, IsNext, clock_of, count_of, counted, retired, next_clock}
 use Rattle.online_reduce.specs.Reduced.{OtherClocksLaw}
 use Rattle.online_reduce.specs.Exact.{IsExact, last_of}
 use Rattle.online_reduce.proofs.Clocks.{longer-fold, IsBelow, below_merged, merged_above, same_clock, up_clock}
-use Rattle.online_reduce.proofs.Noted.{IsLed}
+use Rattle.online_reduce.proofs.ExactCandidates.{IsLed}
 use Rattle.online_reduce.proofs.Step.{Next, found_of}
-use Rattle.conflict_edge.proofs.Standing.{stands_which}
+use Rattle.conflict_edge.proofs.AccessPlaces.{stands_which}
 
 -- ---- a clock is put in its core's place
 

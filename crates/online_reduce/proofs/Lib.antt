@@ -1,19 +1,19 @@
-pub mod Found
+pub mod CandidateLists
 pub mod Loops
 pub mod Rooms
-pub mod Chosen
-pub mod Noted
+pub mod KeptCandidates
+pub mod ExactCandidates
 pub mod Order
 pub mod Clocks
 pub mod Step
 pub mod ExactNext
 pub mod ByPair
-pub mod Rises
+pub mod PairCounts
 pub mod Reductions
-pub mod Retired
-pub mod Held
-pub mod Touched
+pub mod RetiredParts
+pub mod LastNoted
+pub mod TouchedState
 mod SetReads
-mod Left
+mod ListRests
 mod Drawn
-mod Adding
+mod ReadLoop

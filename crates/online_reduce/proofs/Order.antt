@@ -7,7 +7,7 @@ use Rattle.rtr_types.specs.declared.instr.Edge.{Edge}
 use Rattle.online_reduce.specs.declared.source.Source.{Source}
 use Rattle.online_reduce.specs.Rule.{edge_to, is_kept}
 use Rattle.online_reduce.specs.Exact.{SourcesRise}
-use Rattle.online_reduce.proofs.Found.{CoresRise}
+use Rattle.online_reduce.proofs.CandidateLists.{CoresRise}
 use Rattle.online_reduce.proofs.Loops.{chosen}
 
 sources_lower : (low high : ℕ) (edges : List Edge) → low ≤ high → SourcesRise high edges → SourcesRise low edges

@@ -32,10 +32,10 @@ use Rattle.online_reduce.specs.Exact.{IsExact, BeginLaw, CountLaw, RetireLaw, Le
 use Rattle.online_reduce.proofs.ByPair.{pair_append, each_pair, OneEdge, pair_one, by_pair_at, by_pair_none}
 use Rattle.online_reduce.proofs.ByPair.{by_pair_add}
 use Rattle.online_reduce.proofs.ExactNext.{retired_exact, retired_grows, retired_own, counted_exact, counted_grows}
-use Rattle.clock_core.proofs.Listed.{among_cases, among_left, among_right}
-use Rattle.online_reduce.proofs.Rises.{rise_wider, rise_push, all_among}
-use Rattle.online_reduce.proofs.Rises.{pair_source, pair_target, at_pos}
-use Rattle.online_reduce.proofs.Rises.{source_above}
+use Rattle.clock_core.proofs.EdgeLists.{among_cases, among_left, among_right}
+use Rattle.online_reduce.proofs.PairCounts.{rise_wider, rise_push, all_among}
+use Rattle.online_reduce.proofs.PairCounts.{pair_source, pair_target, at_pos}
+use Rattle.online_reduce.proofs.PairCounts.{source_above}
 use Rattle.online_reduce.proofs.Step.{Next, next_of, covering_into}
 
 -- ---- the start

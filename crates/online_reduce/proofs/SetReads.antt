@@ -18,7 +18,7 @@ use Rattle.rtr_types.proofs.Members.{has-without_same, has-without_other, has-no
 use Rattle.clock_core.specs.declared.clock.Clock.{Clock}
 use Rattle.access_times.specs.declared.times.Times.{Times}
 use Rattle.access_times.specs.Times.{read_at}
-use Rattle.access_times.proofs.Kept.{Filling, first_there, looked_at, stays}
+use Rattle.access_times.proofs.KeptReads.{Filling, first_there, looked_at, stays}
 use Rattle.online_reduce.specs.declared.source.Source.{Source}
 use Rattle.online_reduce.specs.LiveReads.{AreNoted, is_live_read, read_of, reads_of, source_of}
 use Rattle.online_reduce.specs.Sources.{is_live, read_from, reads_from}

@@ -16,17 +16,17 @@ use Rattle.conflict_edge.proofs.History.{Pair, Rising}
 use Rattle.conflict_edge.proofs.Independent.{cases_instr}
 use Rattle.conflict_edge.proofs.Ranks.{no_cycle}
 use Rattle.conflict_edge.proofs.Reach.{online_law}
-use Rattle.conflict_edge.proofs.Reversed.{rising_back}
+use Rattle.conflict_edge.proofs.NewestFirst.{rising_back}
 use Rattle.online_reduce.specs.declared.source.Source.{Source}
 use Rattle.online_reduce.specs.Sources.{candidates}
 use Rattle.online_reduce.specs.Rule.{is_kept, edges_into}
 use Rattle.online_reduce.specs.Reduced.{Reduced, IsNext, clock_of, count_of, edges_of}
 use Rattle.online_reduce.specs.Exact.{AreExactFor, IsExact, last_of, AreCoveringInto}
-use Rattle.online_reduce.proofs.Chosen.{Passes, all_others, others_all, ComesFrom, chosen_from, from_chosen}
+use Rattle.online_reduce.proofs.KeptCandidates.{Passes, all_others, others_all, ComesFrom, chosen_from, from_chosen}
 use Rattle.online_reduce.proofs.Clocks.{rise_next, up_counts, up_joined}
-use Rattle.online_reduce.proofs.Found.{candidates_rise}
+use Rattle.online_reduce.proofs.CandidateLists.{candidates_rise}
 use Rattle.online_reduce.proofs.Loops.{chosen}
-use Rattle.online_reduce.proofs.Noted.{AreCandidates, IsLed, are_candidates}
+use Rattle.online_reduce.proofs.ExactCandidates.{AreCandidates, IsLed, are_candidates}
 use Rattle.online_reduce.proofs.Order.{chosen_rise}
 
 -- ---- what is known where an access comes next

@@ -1,3 +1,3 @@
 pub mod ByPairs
-pub mod Listing
-pub mod Turns
+pub mod ListedRecordings
+pub mod ItemsInTurn

@@ -2,10 +2,10 @@ pub mod InTurn
 pub mod Limits
 pub mod Logs
 pub mod Parts
-pub mod Tested
-pub mod Counted
-pub mod Looked
-pub mod Rises
+pub mod ValidityTest
+pub mod CountedEdges
+pub mod RisingSearch
+pub mod PairRises
 pub mod SourceLaws
 pub mod EdgeCounts
 pub mod Near

@@ -8,8 +8,8 @@ use Rattle.std.proofs.lemmas.List.{get_or_default}
 use Rattle.rtr_types.specs.Turns.{StandInTurn, follow}
 use Rattle.rtr_types.specs.PairEdges.{EdgeRises}
 use Rattle.race_log.specs.Sources.{IsFrom}
-use Rattle.race_log.proofs.Looked.{Rising}
-use Rattle.race_log.proofs.Rises.{no_edge, targets-rise}
+use Rattle.race_log.proofs.RisingSearch.{Rising}
+use Rattle.race_log.proofs.PairRises.{no_edge, targets-rise}
 
 module _ (edges : List (ℕ × ℕ)) (rises : StandInTurn EdgeRises follow (0, 0) edges) where
   -- two neighbours tell of all

@@ -24,12 +24,12 @@ use Rattle.race_log.specs.Validity.{Valid, bound_at, AreVectors}
 use Rattle.race_log.specs.Sources.{edges_of_pair, edge_between, edges_at, log_edges, HasEdge, EdgesArePaired}
 use Rattle.race_log.specs.Sources.{EdgesWithin, OneSource, AreApart}
 use Rattle.race_log.proofs.Parts.{edges_listed, totals_small}
-use Rattle.race_log.proofs.Tested.{edges_by_pair, vectors_by_pair}
-use Rattle.race_log.proofs.Looked.{one_place, rising-falls_not, contains-map, map-contains, contains-flat}
-use Rattle.race_log.proofs.Looked.{flat-contains}
-use Rattle.race_log.proofs.Rises.{no_edge, no_vector, targets-rise, edge_stands_at, vector_stands_at, are-apart}
-use Rattle.race_log.proofs.Rises.{position_between, reaches, PositionAt}
-use Rattle.race_log.proofs.Rises.{position_at, at_position}
+use Rattle.race_log.proofs.ValidityTest.{edges_by_pair, vectors_by_pair}
+use Rattle.race_log.proofs.RisingSearch.{one_place, rising-falls_not, contains-map, map-contains, contains-flat}
+use Rattle.race_log.proofs.RisingSearch.{flat-contains}
+use Rattle.race_log.proofs.PairRises.{no_edge, no_vector, targets-rise, edge_stands_at, vector_stands_at, are-apart}
+use Rattle.race_log.proofs.PairRises.{position_between, reaches, PositionAt}
+use Rattle.race_log.proofs.PairRises.{position_at, at_position}
 
 -- ---- by pair
 

@@ -19,7 +19,7 @@ use Rattle.clock_core.specs.Order.{Among}
 use Rattle.clock_core.proofs.Paths.{joined, one}
 use Rattle.conflict_edge.specs.Conflicts.{ConflictPair, CountsRise, StandsIn}
 use Rattle.conflict_edge.specs.Least.{Suffices}
-use Rattle.conflict_edge.proofs.Standing.{one_access, stands_which, stands_right}
+use Rattle.conflict_edge.proofs.AccessPlaces.{one_access, stands_which, stands_right}
 use Rattle.clock_entries.specs.Laws.{IsAcyclic}
 use Rattle.race_log.specs.Sources.{log_edges}
 use Rattle.replay_audit.specs.Audits.{Findings}

@@ -1,3 +1,3 @@
-pub mod Starting
-pub mod Turning
-pub mod Ending
+pub mod RecorderStart
+pub mod RecorderTurn
+pub mod RecordedEnd

@@ -15,7 +15,7 @@ use Rattle.rtr_types.proofs.Instrs.{instr_eq}
 use Rattle.replay_core.specs.Play.{instr}
 use Rattle.clock_core.specs.Order.{Among, Before}
 use Rattle.clock_core.proofs.Paths.{joined, one, mapped}
-use Rattle.clock_core.proofs.Listed.{contains_among, among_contains}
+use Rattle.clock_core.proofs.EdgeLists.{contains_among, among_contains}
 use Rattle.stride_vector.specs.declared.StrideVector.{StrideVector}
 use Rattle.stride_vector.specs.Vectors.{edges_of}
 use Rattle.race_log.specs.declared.recording.Recording.{Recording}
@@ -27,7 +27,7 @@ use Rattle.edge_regulate.specs.Regulated.{Knowledge, knows_by, regulated}
 use Rattle.edge_regulate.proofs.Regulations.{length-regulated, regulated_at}
 use Rattle.regulated_log.specs.Logs.{with_regulated}
 use Rattle.regulated_log.specs.Laws.{ImpliesLaw, IsWithin, ValidLaw}
-use Rattle.regulated_log.proofs.Taking.{KnowsWithin}
+use Rattle.regulated_log.proofs.OpenVector.{KnowsWithin}
 use Rattle.regulated_log.proofs.OnePair.{greedy_stand, greedy_few, greedy_implied, IsImplied}
 
 -- ---- items of lists

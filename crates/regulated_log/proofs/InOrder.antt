@@ -15,7 +15,7 @@ use Rattle.race_log.specs.declared.recording.Recording.{Recording}
 use Rattle.race_log.specs.Sources.{HasEdge, log_edges}
 use Rattle.race_log.specs.Validity.{Valid, bound_at}
 use Rattle.race_log.proofs.SourceLaws.{edges-are-paired, edges-within}
-use Rattle.race_log.proofs.Rises.{no_vector, position_at}
+use Rattle.race_log.proofs.PairRises.{no_vector, position_at}
 use Rattle.replay_core.specs.Plans.{plan_of}
 use Rattle.replay_core.specs.Orders.{bump, counts, nought, Sourced}
 use Rattle.replay_core.proofs.Counts.{bump_same, counts_on, counts_more, one_place, place_of}

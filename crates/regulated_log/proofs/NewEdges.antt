@@ -8,16 +8,16 @@ use Rattle.rtr_types.proofs.PairPlaces.{pairs-placed}
 use Rattle.rtr_types.specs.declared.instr.Instr.{Instr}
 use Rattle.rtr_types.specs.declared.instr.Edge.{Edge}
 use Rattle.clock_core.specs.Order.{Among}
-use Rattle.clock_core.proofs.Listed.{place_among}
+use Rattle.clock_core.proofs.EdgeLists.{place_among}
 use Rattle.rtr_types.specs.PairEdges.{with_edges, AreEdgesAfter}
 use Rattle.online_reduce.specs.Reduced.{count_of, edges_of, retired}
 use Rattle.online_reduce.specs.Exact.{IsReduction, AreCoveringInto, SourcesRise}
 use Rattle.online_reduce.proofs.Reductions.{retire_law, listed_law}
-use Rattle.clock_core.proofs.Listed.{among_right}
-use Rattle.online_reduce.proofs.Touched.{covering_after}
+use Rattle.clock_core.proofs.EdgeLists.{among_right}
+use Rattle.online_reduce.proofs.TouchedState.{covering_after}
 use Rattle.know_history.specs.Notes.{noted_count}
 use Rattle.edge_regulate.specs.Regulated.{IsNextEdge}
-use Rattle.edge_regulate.proofs.Ends.{next_law}
+use Rattle.edge_regulate.proofs.VectorEnds.{next_law}
 use Rattle.regulated_log.specs.NewEdges.{NewEdgesLaw}
 use Rattle.regulated_log.proofs.AllPairs.{all_contains}
 

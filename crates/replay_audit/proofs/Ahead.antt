@@ -15,7 +15,7 @@ use Rattle.replay_core.proofs.Places.{place_law, play_law}
 use Rattle.replay_audit.specs.Laws.{Clash, IsDue, IsAhead, IsDueAhead, NeverDueLaw}
 use Rattle.replay_audit.proofs.Swaps.{use_at}
 use Rattle.replay_audit.proofs.Front.{sourced_more}
-use Rattle.replay_audit.proofs.Agreed.{never_clash}
+use Rattle.replay_audit.proofs.OrdersAgree.{never_clash}
 
 -- an order that goes on to k with local instructions of core c
 pub record WithLocals (p : Plan) (c : ℕ) (order : List ℕ) (k : Core) : Type 0 where

@@ -27,7 +27,7 @@ use Rattle.replay_audit.specs.Laws.{Clash}
 use Rattle.replay_audit.proofs.Swaps.{use_in, valued_use, valued_old, valued_new, valued_touch_is, clash_back, Meets}
 use Rattle.replay_audit.proofs.Swaps.{clash_meets, conflict_clash, touched_place}
 use Rattle.replay_audit.proofs.Swaps.{place_swap}
-use Rattle.conflict_edge.proofs.Standing.{stands_left}
+use Rattle.conflict_edge.proofs.AccessPlaces.{stands_left}
 
 -- ---- counts
 

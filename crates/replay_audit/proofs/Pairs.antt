@@ -4,7 +4,7 @@ use Rattle.rtr_types.specs.declared.instr.Instr.{Instr}
 use Rattle.rtr_types.specs.declared.access.Access.{Access}
 use Rattle.clock_core.specs.Order.{Within}
 use Rattle.conflict_edge.specs.Conflicts.{Conflicts, ConflictPair, StandsIn}
-use Rattle.conflict_edge.proofs.Standing.{stands_left, stands_right, stands_which}
+use Rattle.conflict_edge.proofs.AccessPlaces.{stands_left, stands_right, stands_which}
 
 -- each access of the one list stands in the other
 abbrev pub Parts : List Access → List Access → Type 0

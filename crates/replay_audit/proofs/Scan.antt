@@ -5,7 +5,7 @@ use Rattle.std.specs.Prelude.{Option, Some, None}
 use Rattle.rtr_types.specs.declared.instr.Instr.{Instr}
 use Rattle.rtr_types.specs.declared.access.Access.{Access}
 use Rattle.conflict_edge.specs.Conflicts.{StandsIn}
-use Rattle.conflict_edge.proofs.Standing.{stands_which}
+use Rattle.conflict_edge.proofs.AccessPlaces.{stands_which}
 use Rattle.replay_audit.specs.Unordered.{is_open, AreCovered, IsLatest}
 
 covered_snoc : (l : List Access) (a x : Access) (k : List ℕ) → AreCovered l a k → is_open x a k ≡ false →

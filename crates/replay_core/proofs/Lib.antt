@@ -6,11 +6,11 @@ pub mod Places
 pub mod Fronts
 pub mod Images
 pub mod Sources
-pub mod Steps
+pub mod PlaceSteps
 pub mod Values
-pub mod Sourcing
+pub mod InstructionSources
 pub mod NextEdges
-pub mod Awaited
-pub mod Tallying
-pub mod Lowering
-pub mod Runs
+pub mod AwaitedEdges
+pub mod LowCounts
+pub mod LowestReady
+pub mod LowRuns

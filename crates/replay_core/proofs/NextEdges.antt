@@ -17,9 +17,9 @@ use Rattle.stride_vector.specs.declared.StrideVector.{StrideVector}
 use Rattle.stride_vector.specs.Vectors.{IsVector, position_of, edges_of, last_of}
 use Rattle.race_log.specs.declared.recording.Recording.{Recording}
 use Rattle.race_log.specs.Sources.{AreApart, edges_of_pair, log_edges}
-use Rattle.race_log.proofs.Rises.{no_edge, no_vector, position_between, PositionAt, position_at, at_position}
+use Rattle.race_log.proofs.PairRises.{no_edge, no_vector, position_between, PositionAt, position_at, at_position}
 use Rattle.race_log.proofs.SourceLaws.{edges-are-paired}
-use Rattle.race_log.proofs.Looked.{Rising}
+use Rattle.race_log.proofs.RisingSearch.{Rising}
 use Rattle.replay_core.specs.Play.{instr}
 use Rattle.replay_core.specs.Coming.{IsBeginning, IsFirstEdge, IsFirstPlace, IsNextEdge, IsFirstPosition}
 use Rattle.replay_core.specs.Coming.{IsNextPosition, IsNextInto, Leads}

@@ -15,7 +15,7 @@ use Rattle.race_log.specs.Validity.{Valid}
 use Rattle.race_log.specs.Sources.{log_edges, EdgeWithin, HasEdge}
 use Rattle.race_log.proofs.SourceLaws.{edges-within}
 use Rattle.clock_core.specs.Order.{Among}
-use Rattle.clock_core.proofs.Listed.{among_contains}
+use Rattle.clock_core.proofs.EdgeLists.{among_contains}
 use Rattle.replay_core.specs.Plans.{Plan, plan_of}
 use Rattle.replay_core.specs.Play.{Given, instr, valued_played}
 use Rattle.replay_core.specs.Orders.{counts, nought, counts_in, Ready, IsReplayOrder, is_sourced, is_ready, lowest}

@@ -3,7 +3,7 @@ use Rattle.std.proofs.Common.{◌≡◌, ◌≢◌, ℕ, zero, suc, ◌<◌, Lis
 use Rattle.std.proofs.Common.{eq-eqb, ne_eqb, arith}
 use Rattle.std.specs.Prelude.{Some, None}
 use Rattle.rtr_types.specs.Turns.{StandInTurn}
-use Rattle.race_log.proofs.Looked.{Rising}
+use Rattle.race_log.proofs.RisingSearch.{Rising}
 use Rattle.replay_core.specs.Play.{value_at, count_of, AreRising}
 
 abbrev pub no_value : ℕ × ℕ

@@ -10,7 +10,7 @@ use Rattle.replay_core.specs.Play.{played}
 use Rattle.replay_core.specs.Orders.{bump, counts, nought, IsReplayOrder}
 use Rattle.replay_core.proofs.Counts.{bump_here, counts_more}
 use Rattle.replay_table.specs.Laws.{OpeningLaw, FreshLaw}
-use Rattle.replay_table.proofs.Starts.{first_rule}
+use Rattle.replay_table.proofs.FirstView.{first_rule}
 use Rattle.replay_table.proofs.Words.{beyond}
 
 pub opening_law : OpeningLaw

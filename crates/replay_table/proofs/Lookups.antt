@@ -3,7 +3,7 @@ use Rattle.std.proofs.Common.{◌≡◌, ℕ, ◌+◌, ◌<◌, ◌≤◌, List,
 use Rattle.std.specs.Prelude.{Option, slice_index}
 use Rattle.image_mem.specs.Contents.{Contents}
 use Rattle.rtr_types.specs.declared.pairs.Which.{Which}
-use Rattle.clock_core.proofs.Listed.{among_contains, contains_among}
+use Rattle.clock_core.proofs.EdgeLists.{among_contains, contains_among}
 use Rattle.rv_core.specs.declared.core_state.Core.{Core}
 use Rattle.rv_core.specs.Steps.{after}
 use Rattle.rv_core.proofs.LawLemmas.{number_law}

@@ -18,7 +18,7 @@ use Rattle.race_log.specs.Validity.{Valid}
 use Rattle.replay_core.specs.Plans.{Plan, plan_of}
 use Rattle.replay_core.specs.Play.{Use, use_of, loads_after, loads_at, played}
 use Rattle.replay_core.specs.Orders.{low_order}
-use Rattle.replay_audit.proofs.Agreed.{every_order_law}
+use Rattle.replay_audit.proofs.OrdersAgree.{every_order_law}
 use Rattle.replay_table.specs.declared.view.Own.{Own}
 use Rattle.replay_table.specs.declared.view.View.{View}
 use Rattle.replay_table.specs.Accesses.{is_load, is_change, word_by, word_of}

@@ -24,7 +24,7 @@ use Rattle.replay_table.specs.Laws.{HoldLaw, FailLaw}
 use Rattle.replay_table.proofs.Uses.{going, word_within, words_left, words_written, whole_wrote, whole_retired}
 use Rattle.replay_table.proofs.Reaches.{Leaves, LeavesOthers, Reach, core_known, found_in, moved_to, reach_locals}
 use Rattle.replay_table.proofs.Reaches.{reach_access}
-use Rattle.replay_table.proofs.Steps.{owns_set, owns_kept, owns_here}
+use Rattle.replay_table.proofs.RuleSteps.{owns_set, owns_kept, owns_here}
 use Rattle.replay_table.proofs.Words.{beyond, index_set_else, index_both}
 
 -- ---- what the play leaves of a core is what the view says

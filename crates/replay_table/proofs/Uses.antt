@@ -16,7 +16,7 @@ use Rattle.rv_core.specs.declared.outcome.LoadNote.{LoadNote}
 use Rattle.replay_core.specs.Plans.{Plan}
 use Rattle.replay_core.specs.Play.{Use, use_of, words_after, loads_after, instr, accesses_by}
 use Rattle.replay_core.specs.Answers.{UsesWithin}
-use Rattle.replay_core.proofs.Steps.{used_within}
+use Rattle.replay_core.proofs.PlaceSteps.{used_within}
 use Rattle.replay_table.specs.declared.view.Own.{Own}
 use Rattle.replay_audit.specs.declared.touch.Touch.{Touch}
 use Rattle.replay_table.specs.Kinds.{retired}

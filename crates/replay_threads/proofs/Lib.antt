@@ -1,5 +1,5 @@
-pub mod Dealing
-pub mod Ends
-pub mod Looking
+pub mod DealtWorkers
+pub mod TurnEnds
+pub mod DoneLoads
 pub mod Shorts
-pub mod Steps
+pub mod SeatSteps

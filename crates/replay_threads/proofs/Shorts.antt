@@ -13,7 +13,7 @@ use Rattle.replay_core.proofs.Lists.{one_more, plays_on}
 use Rattle.replay_audit.specs.Laws.{IsDue}
 use Rattle.replay_audit.specs.Determinate.{IsDeterminate}
 use Rattle.replay_audit.proofs.Ahead.{due_ready}
-use Rattle.replay_audit.proofs.Agreed.{every_order_law}
+use Rattle.replay_audit.proofs.OrdersAgree.{every_order_law}
 
 -- an order that plays to a core which is due and done goes on to one that falls short, and in a determinate
 -- recording none

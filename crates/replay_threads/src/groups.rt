@@ -79,7 +79,7 @@ impl<'a, J: Job> Model for Group<'a, J> {
 impl<'a, J: Job> Group<'a, J> {
     /// Takes passes until none of the workers waits, or until many in a row brought nothing. After each of
     /// these another thread may have the processor.
-    #[tactic(auto, using(crate::proofs::Dealing::turned_then))]
+    #[tactic(auto, using(crate::proofs::DealtWorkers::turned_then))]
     fn work<G: Gate>(&mut self, table: &ReplayTable<J>, gate: &G)
         requires { AllAt table.now self.old.workers }
         ensures { Turned J.which J.recording table.now self.old.workers self.new.stand self.new.workers }

@@ -33,7 +33,7 @@ pub enum Turn {
 }
 
 /// Runs the core until it is at its total, or the turn ends before.
-#[tactic(auto, using(crate::proofs::Ends::turns_go_on))]
+#[tactic(auto, using(crate::proofs::TurnEnds::turns_go_on))]
 pub(crate) fn run<J: Job, G: Gate>(
     seat: &mut CoreSeat<J>,
     wanted: &mut Wanted,
@@ -67,7 +67,7 @@ pub(crate) fn run<J: Job, G: Gate>(
 }
 
 /// One instruction more, if the turn doesn't end before it.
-#[tactic(auto, using(crate::proofs::Ends::goes_then, crate::proofs::Ends::ends_sooner))]
+#[tactic(auto, using(crate::proofs::TurnEnds::goes_then, crate::proofs::TurnEnds::ends_sooner))]
 fn one<J: Job, G: Gate>(
     seat: &mut CoreSeat<J>,
     total: u32,

@@ -17,7 +17,7 @@ const LOADS: u32 = 64;
 
 /// Loads done words until all logged sources of the next instruction are seen. Answers one that isn't
 /// where its core didn't get on for long enough.
-#[tactic(auto, using(crate::proofs::Ends::looks_none, crate::proofs::Ends::looks_then))]
+#[tactic(auto, using(crate::proofs::TurnEnds::looks_none, crate::proofs::TurnEnds::looks_then))]
 pub(crate) fn wait<J: Job>(seat: &mut CoreSeat<J>, table: &ReplayTable<J>) -> Option<Instr>
     requires table { seat.old.table_id ≡ table.now }
     requires below { seat.old.core.count < slice_index J.recording.totals seat.old.core.id }
@@ -35,7 +35,7 @@ pub(crate) fn wait<J: Job>(seat: &mut CoreSeat<J>, table: &ReplayTable<J>) -> Op
 
 /// Loads the done word of a source's core until the source is seen, or until so many loads in a row brought
 /// nothing new.
-#[tactic(auto, using(crate::proofs::Ends::looks_none, crate::proofs::Ends::looks_then))]
+#[tactic(auto, using(crate::proofs::TurnEnds::looks_none, crate::proofs::TurnEnds::looks_then))]
 #[inline(never)]
 fn await_source<J: Job>(seat: &mut CoreSeat<J>, of: Instr, table: &ReplayTable<J>) -> bool
     requires table { seat.old.table_id ≡ table.now }

@@ -14,13 +14,13 @@ use Rattle.min_certificate.specs.declared.answers.CertFault.TheVariants as certs
 use Rattle.min_certificate.specs.declared.answers.CheckFailure.{CheckFailure}
 use Rattle.min_certificate.specs.declared.answers.CheckFailure.TheVariants as failures
 use Rattle.min_certificate.specs.declared.answers.CheckFault.TheVariants as checks
-use Rattle.min_certificate.proofs.Judged.{least_is_certified, passed_is_accepted}
+use Rattle.min_certificate.proofs.FirstFailure.{least_is_certified, passed_is_accepted}
 use Rattle.min_certificate.proofs.Lows.{any_order_is_least}
 use Rattle.replay_audit.specs.declared.audit_fault.AuditFault.{AuditFault}
 use Rattle.replay_audit.specs.declared.audit_fault.AuditFault.TheVariants as faults
 use Rattle.replay_audit.specs.Audits.{AuditRefuses, IsInstrOf}
 use Rattle.replay_audit.specs.Determinate.{IsDeterminate}
-use Rattle.replay_audit.proofs.Refused.{refused_law}
+use Rattle.replay_audit.proofs.RefusedLogs.{refused_law}
 use Rattle.run_records.specs.Recordings.{IsRecorded, recording_of}
 use Rattle.run_replays.specs.Orders.{order_of}
 use Rattle.run_replays.proofs.RunLaws.{of_run, reduced_order, run_is_play}
@@ -38,7 +38,7 @@ use Rattle.tool_words.specs.declared.command.Command.TheVariants.{Record, Run, P
 use Rattle.tool_words.specs.declared.command.Command.TheVariants.{Soak, At, Thin, CheckThin, TsoReplay}
 use Rattle.vector_reduce.specs.Answers.{IsTooMany, IsNotShown as IsNotNeededShown}
 use Rattle.vector_reduce.specs.Reading.{thinned_at}
-use Rattle.vector_reduce.proofs.Assembled.{few_not_many}
+use Rattle.vector_reduce.proofs.ThinnedLog.{few_not_many}
 use Rattle.rtr_cli.specs.Commands.{AuditFails, IsAbsent, IsFaulty, IsNotLeast, IsNotNeeded, IsNotShown, IsTooLong}
 use Rattle.rtr_cli.specs.Commands.{IsUnread, Overflows, TsoStops, image_of, loaded}
 use Rattle.tso_codec.specs.Reading.{tso_at}

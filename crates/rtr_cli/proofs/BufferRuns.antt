@@ -13,24 +13,24 @@ use Rattle.state_text.specs.declared.exit.Exit.TheVariants as exits
 use Rattle.tool_words.specs.declared.command.RunWords.{RunWords}
 use Rattle.tool_words.specs.declared.command.Command.TheVariants.{TsoRecord, TsoReplay}
 use Rattle.tso_recordings.specs.Schedules.{tso_recording_of}
-use Rattle.tso_recordings.proofs.Logged.{logged_law}
+use Rattle.tso_recordings.proofs.LoggedLoads.{logged_law}
 use Rattle.tso_recordings.proofs.Schedules.{held as run_held, replayed as run_replayed}
 use Rattle.tso_bound.specs.Ends.{end_of}
-use Rattle.tso_bound.proofs.Ends.{end_done, run_ends}
+use Rattle.tso_bound.proofs.RunEnds.{end_done, run_ends}
 use Rattle.tso_codec.specs.declared.recording.TsoRecording.{TsoRecording}
 use Rattle.tso_codec.specs.Reading.{tso_at}
 use Rattle.tso_codec.specs.Spelling.{tso_spelling}
 use Rattle.tso_codec.specs.Validity.{plain_of}
-use Rattle.tso_codec.proofs.Whole.{spelled_is_read}
+use Rattle.tso_codec.proofs.RecordingLaws.{spelled_is_read}
 use Rattle.told_plays.specs.Plays.{tellings_of}
 use Rattle.tso_outcome.specs.Outcomes.{tso_outcome_of}
 use Rattle.tso_recordings.specs.Recordings.{CanRun}
-use Rattle.tso_recordings.proofs.Replayed.{run_told_so}
+use Rattle.tso_recordings.proofs.ReplayedRuns.{run_told_so}
 use Rattle.tso_replay.specs.Laws.{IsToldRun}
 use Rattle.tso_replay.specs.Replays.{tso_given, tso_plan}
-use Rattle.replay_audit.proofs.Fitting.{valued_fits}
+use Rattle.replay_audit.proofs.PlaySizes.{valued_fits}
 use Rattle.tso_state.specs.Runs.{all_told}
-use Rattle.tso_words.proofs.Opening.{opens_small}
+use Rattle.tso_words.proofs.ByteWords.{opens_small}
 use Rattle.rtr_cli.specs.Commands.{KeepsTsoRun, Makes, Promised, SpellsSome, image_of, tso_outcome}
 use Rattle.rtr_cli.specs.Commands.{tso_replay_lines}
 use Rattle.rtr_cli.specs.Completeness.{Accepts, IsOfBuffers}

@@ -31,8 +31,8 @@ use Rattle.rtr_cli.specs.Completeness.{Accepts, EndsWell, HasLeft, IsOfRecord, I
 use Rattle.rtr_cli.specs.Completeness.{WrittenIsAccepted}
 use Rattle.rtr_cli.proofs.AcceptedLemmas.{accepted_is_not_refused}
 use Rattle.rtr_cli.proofs.BufferRuns.{buffered_is_accepted}
-use Rattle.rtr_cli.proofs.Certified.{check_accepts}
-use Rattle.rtr_cli.proofs.Migrated.{migrated_reads_the_same}
+use Rattle.rtr_cli.proofs.CertificatesAccepted.{check_accepts}
+use Rattle.rtr_cli.proofs.MigratedReading.{migrated_reads_the_same}
 
 -- ---- what the top call answers
 

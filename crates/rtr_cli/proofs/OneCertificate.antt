@@ -16,7 +16,7 @@ use Rattle.certificate_codec.specs.declared.certificate.Certificate.{Certificate
 use Rattle.min_certificate.specs.Answers.{Certifies}
 use Rattle.min_certificate.specs.Places.{AreExactIn}
 use Rattle.min_certificate.proofs.First.{IsListed, end_number}
-use Rattle.rtr_cli.proofs.Listed.{each_stands, same_items}
+use Rattle.rtr_cli.proofs.ItemLists.{each_stands, same_items}
 
 abbrev with_clocks : Recording → Clocks → Certificate
 with_clocks r clocks = record { recording = r; clocks = clocks }

@@ -27,9 +27,9 @@ use Rattle.vector_reduce.specs.Vectors.{vectors_of}
 use Rattle.vector_reduce.specs.declared.pair_vector.PairVector.{PairVector}
 use Rattle.vector_reduce.specs.declared.thinned.Shown.{Shown}
 use Rattle.vector_reduce.specs.declared.thinned.Thinned.{Thinned}
-use Rattle.vector_reduce.proofs.Cutting.{cut_shows}
-use Rattle.vector_reduce.proofs.Leaving.{one_thinning}
-use Rattle.rtr_cli.proofs.Listed.{each_stands, same_items}
+use Rattle.vector_reduce.proofs.ClosedCuts.{cut_shows}
+use Rattle.vector_reduce.proofs.ThinningAnswers.{one_thinning}
+use Rattle.rtr_cli.proofs.ItemLists.{each_stands, same_items}
 
 -- ---- the vectors of a pair, out of all
 

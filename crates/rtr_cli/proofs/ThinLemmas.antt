@@ -6,7 +6,7 @@ use Rattle.rtr_types.specs.declared.pairs.Which.TheVariants.{Regulated}
 use Rattle.race_log.specs.declared.recording.Recording.{Recording}
 use Rattle.log_codec.specs.declared.version.Version.TheVariants.{Two}
 use Rattle.log_codec.specs.Reading.{whole_at}
-use Rattle.log_codec.proofs.Whole.{spelled_is_read}
+use Rattle.log_codec.proofs.RecordingLaws.{spelled_is_read}
 use Rattle.replay_audit.specs.Audits.{AuditRefuses, Findings, IsAuditOf}
 use Rattle.replay_audit.specs.Determinate.{IsDeterminate}
 use Rattle.replay_audit.specs.declared.audit_fault.AuditFault.{AuditFault}

@@ -5,7 +5,7 @@ use Rattle.machine_bound.specs.Ends.{first_end}
 use Rattle.run_outcome.specs.Outcomes.{outcome_of}
 use Rattle.replay_core.specs.Play.{place_given, touched_given}
 use Rattle.run_replays.specs.Orders.{order_of}
-use Rattle.msi_examples.proofs.Executing.{executing}
+use Rattle.msi_examples.proofs.ComputedSteps.{executing}
 use Rattle.run_examples.specs.HandingOver.{HandedOverByPlay, HandedOverInOrder}
 
 pub in_order : HandedOverInOrder

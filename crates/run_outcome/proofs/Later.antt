@@ -9,13 +9,13 @@ use Rattle.rtr_types.specs.declared.access.Access.{Access}
 use Rattle.rtr_types.specs.declared.instr.Instr.{Instr}
 use Rattle.rtr_types.specs.declared.params.Params.{Params}
 use Rattle.conflict_edge.specs.Conflicts.{StandsIn}
-use Rattle.conflict_edge.proofs.Standing.{stands_which}
+use Rattle.conflict_edge.proofs.AccessPlaces.{stands_which}
 use Rattle.msi_state.specs.Events.{Event}
 use Rattle.msi_state.specs.Runs.{accesses, accesses_in, event_at}
 use Rattle.run_outcome.specs.Retirement.{EarlierLaw, NextRetiresLaw, RetiresAt, RetiresOnceLaw, StaysRetiredLaw}
 use Rattle.run_outcome.specs.Retirement.{retired_count}
-use Rattle.run_outcome.proofs.Accessing.{accessed}
-use Rattle.run_outcome.proofs.Retiring.{run_tells}
+use Rattle.run_outcome.proofs.RunAccesses.{accessed}
+use Rattle.run_outcome.proofs.RetiredCounts.{run_tells}
 
 -- from t choices on to u: the counts don't fall, and each access that is added hasn't retired before
 pub record Goes (image : Contents) (params : Params) (choices : ℕ → ℕ) (t u : ℕ) : Type 0 where

@@ -1,10 +1,10 @@
 pub mod NotedLoads
-pub mod Turns
+pub mod RunPlaces
 pub mod Limits
-pub mod Fitting
-pub mod Working
+pub mod OutcomeFits
+pub mod CoreMoves
 pub mod RunCores
-pub mod Retiring
-pub mod Accessing
+pub mod RetiredCounts
+pub mod RunAccesses
 pub mod Later
 pub mod EveryRun

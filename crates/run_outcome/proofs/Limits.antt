@@ -11,8 +11,8 @@ use Rattle.msi_state.specs.Events.{Event}
 use Rattle.msi_state.specs.Moves.{core_of}
 use Rattle.msi_state.specs.Runs.{chosen, plain_event, run, stepped_by}
 use Rattle.msi_state.specs.States.{PlainState, core_at}
-use Rattle.machine_invariant.proofs.Begins.{core_start_at}
-use Rattle.machine_invariant.proofs.Stepping.{core_after}
+use Rattle.machine_invariant.proofs.StartInvariant.{core_start_at}
+use Rattle.machine_invariant.proofs.StepFrame.{core_after}
 use Rattle.machine_bound.proofs.Capacity.{limit_after}
 use Rattle.machine_bound.proofs.Payments.{cores_set}
 

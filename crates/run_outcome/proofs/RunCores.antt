@@ -6,13 +6,13 @@ use Rattle.rtr_types.specs.declared.TheConstants.{CORES_MAX}
 use Rattle.rtr_types.specs.declared.params.Params.{Params}
 use Rattle.rv_core.specs.declared.core_state.Core.{Core}
 use Rattle.machine_invariant.specs.Holds.{MachineHolds}
-use Rattle.machine_invariant.proofs.Begins.{chosen_enabled, holds_run}
+use Rattle.machine_invariant.proofs.StartInvariant.{chosen_enabled, holds_run}
 use Rattle.msi_state.specs.declared.moves.Move.{Move}
 use Rattle.msi_state.specs.Runs.{chosen, event_at, event_by, run, stepped_by}
 use Rattle.msi_state.specs.States.{PlainState}
 use Rattle.msi_state.specs.Steps.{enabled}
-use Rattle.run_outcome.proofs.Fitting.{run_image}
-use Rattle.run_outcome.proofs.Working.{CoresAfter, cores_moved}
+use Rattle.run_outcome.proofs.OutcomeFits.{run_image}
+use Rattle.run_outcome.proofs.CoreMoves.{CoresAfter, cores_moved}
 
 -- the cores after t choices
 abbrev pub cores_at : Contents → Params → (ℕ → ℕ) → ℕ → List Core

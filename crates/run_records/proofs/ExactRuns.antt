@@ -10,7 +10,7 @@ use Rattle.rtr_types.specs.declared.params.Params.{Params}
 use Rattle.schedule_pick.specs.Choices.{Choices, choice_at}
 use Rattle.conflict_edge.specs.Times.{IsExactClock}
 use Rattle.machine_bound.specs.Ends.{end_of}
-use Rattle.machine_plain.proofs.Forgetting.{plain_event as forgets_event}
+use Rattle.machine_plain.proofs.ForgetfulSteps.{plain_event as forgets_event}
 use Rattle.msi_memory.specs.declared.port.Port.{Port}
 use Rattle.msi_state.specs.Events.{Event, Accesses}
 use Rattle.machine_plain.specs.Plain.{plain}
@@ -19,15 +19,15 @@ use Rattle.msi_state.specs.States.{PlainState, State}
 use Rattle.msi_state.specs.Steps.{event, retiring}
 use Rattle.msi_state.specs.declared.moves.Move.{Move}
 use Rattle.machine_times.proofs.RiderLaws.{times_absorb}
-use Rattle.machine_times.proofs.Timed.{finds_exact}
+use Rattle.machine_times.proofs.MoveTimes.{finds_exact}
 use Rattle.machine_times.specs.TimedSteps.{times_parts}
 use Rattle.online_reduce.specs.Exact.{AreExactFor}
 use Rattle.online_reduce.specs.Reduced.{clock_of, count_of}
-use Rattle.exact_reduction.proofs.Reducing.{event_exact}
+use Rattle.exact_reduction.proofs.RetirementReduction.{event_exact}
 use Rattle.know_history.specs.Knowledge.{known_carrying}
 use Rattle.know_history.specs.declared.known.Known.{Known}
-use Rattle.run_outcome.proofs.Retiring.{run_tells}
-use Rattle.run_records.proofs.Recording.{StandsWell, enabled_here, reduction_counts, stands_at}
+use Rattle.run_outcome.proofs.RetiredCounts.{run_tells}
+use Rattle.run_records.proofs.RecordedRun.{StandsWell, enabled_here, reduction_counts, stands_at}
 use Rattle.run_records.specs.Exactness.{ExactClocks, ExactClocksLaw, FoundTimesLaw, RetiredClockLaw}
 use Rattle.run_records.specs.StandingAt.{Standing, found_by, next_move, reduction_at, standing_at}
 

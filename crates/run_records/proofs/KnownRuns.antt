@@ -15,18 +15,18 @@ use Rattle.know_history.specs.Knowing.{retired_in}
 use Rattle.know_history.specs.Notes.{Notes, known_at}
 use Rattle.know_history.proofs.Histories.{none_before}
 use Rattle.edge_regulate.specs.Regulated.{Knowledge}
-use Rattle.machine_bound.proofs.Ends.{run_ends, run_cores}
+use Rattle.machine_bound.proofs.RunEnds.{run_ends, run_cores}
 use Rattle.machine_bound.specs.Ends.{end_of}
 use Rattle.machine_known.specs.Events.{happening_at}
 use Rattle.machine_known.specs.RunHistory.{IsHistoryOf, carrying_at}
 use Rattle.machine_known.proofs.RunNotes.{KnowsRun, run_known_next, run_known_start}
-use Rattle.machine_known.proofs.Runs.{run_orderly_law, run_plain}
+use Rattle.machine_known.proofs.KnownRuns.{run_orderly_law, run_plain}
 use Rattle.machine_progress.proofs.Stuck.{some_move}
-use Rattle.machine_invariant.proofs.Begins.{holds_run}
+use Rattle.machine_invariant.proofs.StartInvariant.{holds_run}
 use Rattle.msi_state.specs.Runs.{chosen, chosen_of, plain_moves, run}
 use Rattle.msi_state.specs.States.{PlainState, all_done}
 use Rattle.msi_state.specs.declared.moves.Move.{Move}
-use Rattle.regulated_log.proofs.Happened.{history_past_law}
+use Rattle.regulated_log.proofs.KnownRetired.{history_past_law}
 use Rattle.regulated_log.specs.Happened.{retirements}
 use Rattle.regulated_log.specs.Logs.{IsPast}
 use Rattle.run_records.specs.Recordings.{run_knowledge, run_notes}

@@ -1,9 +1,9 @@
-pub mod Reducing
-pub mod Standing
-pub mod Carrying
-pub mod Regulating
+pub mod KeptReduction
+pub mod RecordedPlaces
+pub mod KnownAtRetirement
+pub mod KeptRegulation
 pub mod KnownRuns
-pub mod Ends
-pub mod Recording
+pub mod RecordedEnd
+pub mod RecordedRun
 pub mod ExactRuns
 pub mod Recordings

@@ -8,26 +8,26 @@ use Rattle.schedule_pick.specs.Choices.{Choices, choice_at}
 use Rattle.conflict_edge.proofs.TwoForms.{least_independent}
 use Rattle.conflict_edge.specs.Conflicts.{CountsRise}
 use Rattle.conflict_edge.specs.Least.{IsLeast}
-use Rattle.log_codec.proofs.Whole.{spelled_is_read}
+use Rattle.log_codec.proofs.RecordingLaws.{spelled_is_read}
 use Rattle.log_codec.specs.declared.version.Version.TheVariants.{Two}
 use Rattle.edge_regulate.specs.Regulated.{Knowledge, regulated}
 use Rattle.race_log.specs.Sources.{log_edges}
 use Rattle.race_log.specs.declared.recording.Recording.{Recording}
 use Rattle.race_log.specs.Validity.{Valid}
 use Rattle.machine_bound.specs.Ends.{end_of}
-use Rattle.machine_bound.proofs.Ends.{run_ends}
+use Rattle.machine_bound.proofs.RunEnds.{run_ends}
 use Rattle.machine_plain.proofs.Shows.{plain_done}
 use Rattle.msi_state.specs.States.{PlainState, all_done}
-use Rattle.run_outcome.proofs.Fitting.{run_image}
+use Rattle.run_outcome.proofs.OutcomeFits.{run_image}
 use Rattle.least_lists.proofs.Logs.{least_log}
-use Rattle.run_records.proofs.Ends.{Ended, ended, recording_is, recording_left, recording_valid, vectors_by}
+use Rattle.run_records.proofs.RecordedEnd.{Ended, ended, recording_is, recording_left, recording_valid, vectors_by}
 use Rattle.stride_vector.specs.declared.StrideVector.{StrideVector}
 use Rattle.run_records.specs.Standing.{NotesAt}
 use Rattle.run_records.specs.WhatIsKnown.{CountsKnown}
 use Rattle.least_lists.specs.LeastLists.{AreOf}
 use Rattle.run_records.specs.Recordings.{run_accesses, recording_of}
-use Rattle.run_outcome.proofs.Accessing.{accesses_law}
-use Rattle.run_records.proofs.Recording.{stands_at}
+use Rattle.run_outcome.proofs.RunAccesses.{accesses_law}
+use Rattle.run_records.proofs.RecordedRun.{stands_at}
 use Rattle.run_records.specs.Recorded.{LeastLogLaw, RecordedLaw, RegulatedLogLaw}
 use Rattle.run_records.specs.StandingAt.{Standing, regulation_of, standing_at}
 

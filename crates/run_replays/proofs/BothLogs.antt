@@ -11,10 +11,10 @@ use Rattle.rtr_types.specs.declared.pairs.Which.TheVariants.{Reduced, Regulated}
 use Rattle.rtr_types.specs.declared.params.Params.{Params}
 use Rattle.schedule_pick.specs.Choices.{Choices, choice_at}
 use Rattle.clock_core.specs.Order.{Among, Before}
-use Rattle.clock_core.proofs.Listed.{among_contains}
+use Rattle.clock_core.proofs.EdgeLists.{among_contains}
 use Rattle.know_history.specs.Happenings.{Happening}
 use Rattle.know_history.specs.Knowing.{retired_in}
-use Rattle.know_history.proofs.Counting.{retired_there}
+use Rattle.know_history.proofs.CarryCounts.{retired_there}
 use Rattle.edge_regulate.specs.Regulated.{Knowledge}
 use Rattle.race_log.specs.Sources.{HasEdge, log_edges}
 use Rattle.race_log.specs.Validity.{Valid}
@@ -23,7 +23,7 @@ use Rattle.race_log.proofs.SourceLaws.{edges-within}
 use Rattle.machine_bound.specs.Ends.{end_of}
 use Rattle.machine_known.specs.Events.{happening_at}
 use Rattle.machine_known.specs.Known.{RetiresEarlier}
-use Rattle.machine_known.proofs.Runs.{run_orderly_law, run_plain, run_retires_law}
+use Rattle.machine_known.proofs.KnownRuns.{run_orderly_law, run_plain, run_retires_law}
 use Rattle.msi_state.specs.Events.{Event, Nothing, Retires, Accesses, instr_of}
 use Rattle.msi_state.specs.Runs.{event_at, retired_in as retired_by, retirements}
 use Rattle.msi_state.specs.States.{PlainState, core_at}
@@ -35,7 +35,7 @@ use Rattle.regulated_log.specs.Happened as happened
 use Rattle.regulated_log.specs.Laws.{IsGood}
 use Rattle.regulated_log.specs.Logs.{IsPast, with_regulated}
 use Rattle.regulated_log.specs.Logs as ordered
-use Rattle.regulated_log.proofs.Happened.{EventOf, counts_are, event_of}
+use Rattle.regulated_log.proofs.KnownRetired.{EventOf, counts_are, event_of}
 use Rattle.regulated_log.proofs.InOrder.{regulated_law}
 use Rattle.run_records.specs.Recordings.{recording_of, run_knowledge}
 use Rattle.run_records.proofs.KnownRuns.{knows_run, long, run_past}
@@ -47,8 +47,8 @@ use Rattle.run_replays.proofs.RunLaws.{of_run}
 use Rattle.run_records.proofs.Recordings.{recording_valid_law, regulated_log_law}
 use Rattle.run_replays.specs.BothLogs.{BothReplayLaw, RunRegulatedLaw}
 use Rattle.run_replays.specs.Deciding.{CoversRun}
-use Rattle.run_replays.proofs.Decided.{reduced_decides, run_decides}
-use Rattle.run_replays.proofs.Replayed.{reduced_replays, run_replays}
+use Rattle.run_replays.proofs.DecidingOrder.{reduced_decides, run_decides}
+use Rattle.run_replays.proofs.RecordedReplays.{reduced_replays, run_replays}
 
 -- ---- the order of retirement, by what happens
 

@@ -20,9 +20,9 @@ use Rattle.replay_core.specs.Plans.{Plan}
 use Rattle.replay_core.specs.Play.{place_given, touched_given, Use, use_of, old_for, words_after, loads_after}
 use Rattle.replay_core.specs.Play.{accesses_by, core_at, loads_at, instr, need_at, place, touched, play}
 use Rattle.replay_core.specs.Play.{accesses_from, Plays}
-use Rattle.replay_core.proofs.Steps.{used_within}
+use Rattle.replay_core.proofs.PlaceSteps.{used_within}
 use Rattle.msi_state.specs.States.{core_at as machine_core}
-use Rattle.run_outcome.proofs.Working.{Retiring, Accessing, CoresAfter}
+use Rattle.run_outcome.proofs.CoreMoves.{Retiring, Accessing, CoresAfter}
 use Rattle.run_replays.specs.Loads.{loads_by_core}
 use Rattle.run_replays.specs.Orders.{cores_of}
 use Rattle.run_replays.proofs.Loads.{loads_noted}

@@ -1,9 +1,9 @@
 pub mod Loads
 pub mod Events
-pub mod Played
+pub mod RunPlay
 pub mod OrderCounts
-pub mod Ordered
+pub mod RetirementOrder
 pub mod RunLaws
-pub mod Decided
-pub mod Replayed
+pub mod DecidingOrder
+pub mod RecordedReplays
 pub mod BothLogs

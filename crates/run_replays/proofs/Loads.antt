@@ -11,7 +11,7 @@ use Rattle.roomy_lists.specs.Lists.{with_item}
 use Rattle.run_outcome.specs.Loads.{note_of}
 use Rattle.run_outcome.specs.Outcomes.{outcome_of}
 use Rattle.run_outcome.proofs.NotedLoads.{lists_more}
-use Rattle.run_outcome.proofs.Turns.{no_loads}
+use Rattle.run_outcome.proofs.RunPlaces.{no_loads}
 use Rattle.run_records.specs.Recordings.{run_accesses}
 use Rattle.replay_core.specs.Plans.{Plan}
 use Rattle.replay_core.specs.Play.{place_given, touched_given, Use, accesses_from, accesses_by, core_at, instr}

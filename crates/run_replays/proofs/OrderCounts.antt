@@ -18,11 +18,11 @@ use Rattle.msi_state.specs.Runs.{event_at, retired_in, retirements}
 use Rattle.replay_core.specs.Orders.{bump, counts, nought}
 use Rattle.replay_core.proofs.Counts.{bump_same, bump_else, counts_on}
 use Rattle.run_outcome.specs.Retirement.{retired_count}
-use Rattle.run_outcome.proofs.Retiring.{core_counts, other_counts, own_count}
+use Rattle.run_outcome.proofs.RetiredCounts.{core_counts, other_counts, own_count}
 use Rattle.run_outcome.proofs.RunCores.{cores_at, event_cores}
-use Rattle.run_outcome.proofs.Working.{CoresAfter, Retiring}
+use Rattle.run_outcome.proofs.CoreMoves.{CoresAfter, Retiring}
 use Rattle.run_replays.specs.Orders.{cores_of}
-use Rattle.run_replays.proofs.Played.{order_at}
+use Rattle.run_replays.proofs.RunPlay.{order_at}
 
 retiring_counts : (image : Contents) (old new : List Core) (at : Instr) (used : Option (Kind × ℕ)) (found : ℕ)
     → Retiring image old at used found new → (c : ℕ) → core_counts new c ≡ bump (core_counts old) at.core c

@@ -9,11 +9,11 @@ use Rattle.rtr_types.specs.declared.pairs.Which.TheVariants.{Reduced}
 use Rattle.rtr_types.specs.declared.params.Params.{Params}
 use Rattle.rv_core.specs.declared.outcome.Outcome.{Outcome}
 use Rattle.schedule_pick.specs.Choices.{Choices, choice_at}
-use Rattle.clock_core.proofs.Listed.{contains_among}
+use Rattle.clock_core.proofs.EdgeLists.{contains_among}
 use Rattle.race_log.specs.Sources.{log_edges}
 use Rattle.race_log.specs.declared.recording.Recording.{Recording}
 use Rattle.machine_bound.specs.Ends.{end_of}
-use Rattle.machine_bound.proofs.Ends.{run_ends}
+use Rattle.machine_bound.proofs.RunEnds.{run_ends}
 use Rattle.machine_data.proofs.Remembers.{final_values}
 use Rattle.msi_state.specs.Runs.{outcome_at}
 use Rattle.run_outcome.specs.Outcomes.{outcome_of}
@@ -25,8 +25,9 @@ use Rattle.run_records.proofs.Recordings.{least}
 use Rattle.run_replays.specs.Orders.{order_of}
 use Rattle.run_replays.specs.Plays.{IsOfRun, OfRunLaw, PlaysRun, RunIsPlayLaw}
 use Rattle.run_replays.specs.ReplayOrders.{ConflictsForwardLaw, ForwardLaw, ReducedForwardLaw, ReducedOrderLaw}
-use Rattle.run_replays.proofs.Ordered.{GoForward, conflicts_forward, order_full, order_ordered, totals_at, totals_long}
-use Rattle.run_replays.proofs.Played.{left_at, played_to, run_plan}
+use Rattle.run_replays.proofs.RetirementOrder.{GoForward, conflicts_forward, order_full, order_ordered}
+use Rattle.run_replays.proofs.RetirementOrder.{totals_at, totals_long}
+use Rattle.run_replays.proofs.RunPlay.{left_at, played_to, run_plan}
 
 -- ---- at the end
 

@@ -1,3 +1,3 @@
 pub mod BlockWords
 pub mod Clocks
-pub mod Starts
+pub mod RunStart

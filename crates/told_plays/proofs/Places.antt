@@ -20,11 +20,11 @@ use Rattle.replay_core.specs.Play.{Given, Use, use_of, old_for, heeded, shared, 
 use Rattle.replay_core.specs.Play.{old_given, new_given, given_next, instr, core_at}
 use Rattle.replay_core.specs.Play.{valued_place}
 use Rattle.replay_core.proofs.Places.{place_given_law}
-use Rattle.replay_core.proofs.Steps.{used_within}
+use Rattle.replay_core.proofs.PlaceSteps.{used_within}
 use Rattle.tso_state.specs.Events.{Told, Alone, Ordered, Logged, instr_told}
 use Rattle.tso_told.specs.Played.{IsNext, found_by, ordered_told}
 use Rattle.tso_replay.specs.Told.{TellsAt}
-use Rattle.tso_replay.proofs.Told.{shared-none}
+use Rattle.tso_replay.proofs.ToldPlay.{shared-none}
 use Rattle.told_plays.specs.Plays.{IsGiven, telling}
 use Rattle.memory_left.proofs.Memory.{words_more}
 

@@ -1,4 +1,4 @@
 pub mod ReadingLemmas
 pub mod NumeralLemmas
 pub mod FittingLemmas
-pub mod Laying
+pub mod LaidSettings

@@ -1,4 +1,4 @@
-pub mod Fetching
+pub mod FetchedWords
 pub mod FitLemmas
 pub mod Lengths
 pub mod MixLemmas

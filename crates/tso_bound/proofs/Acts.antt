@@ -38,12 +38,12 @@ use Rattle.msi_memory.specs.Acts.{port_retiring, port_sent, port_taking, port_to
 use Rattle.msi_memory.specs.Acts.{ports_sent, ports_told, take_request_in, take_response_in, with_port}
 use Rattle.msi_laws.specs.Holds.{MemoryHolds}
 use Rattle.msi_laws.proofs.PortsKept.{can_want, there_of, touched_lines}
-use Rattle.msi_laws.proofs.Standing.{HasRow, message_row}
+use Rattle.msi_laws.proofs.PortsAndBlocks.{HasRow, message_row}
 use Rattle.machine_bound.specs.Bound.{owed}
-use Rattle.machine_bound.proofs.Owed.{answer_debt, owed_delivered}
+use Rattle.machine_bound.proofs.OwedSums.{answer_debt, owed_delivered}
 use Rattle.machine_bound.proofs.Requests.{answer_debt_is, asked_line, request_alone, response_debt, step_debt}
 use Rattle.machine_bound.proofs.Sums.{sum_kept}
-use Rattle.msi_laws.proofs.Acting.{acts_keep}
+use Rattle.msi_laws.proofs.ActsInTurn.{acts_keep}
 use Rattle.tso_bound.specs.Bound.{memory_owed, memory_worth, port_worth}
 use Rattle.tso_bound.proofs.Ports.{asking_worth, data_takes, requested_worth, same_worth, taking_earns}
 

@@ -32,11 +32,11 @@ use Rattle.tso_state.specs.Events.{Event, Nothing, Executes, Buffers, Performs, 
 use Rattle.tso_state.specs.Pending.{value_of}
 use Rattle.tso_state.specs.Steps.{core_left, cores_after, enabled, event, step}
 use Rattle.tso_invariant.specs.Holds.{BufferedHolds, TsoHolds, is_asking, may_ask, next_may_ask}
-use Rattle.tso_invariant.proofs.Kept.{core_port, step_cores}
+use Rattle.tso_invariant.proofs.MoveInvariant.{core_port, step_cores}
 use Rattle.tso_bound.specs.Bound.{capacity, core_cost, empty_worth, left, paid, pending_cost, port_worth, queue_cost}
 use Rattle.tso_bound.specs.Bound.{total_earned, total_owed}
 use Rattle.tso_bound.proofs.Ports.{still_port, waiting_port}
-use Rattle.tso_bound.proofs.Steps.{earns}
+use Rattle.tso_bound.proofs.StepPayments.{earns}
 use Rattle.tso_bound.proofs.Sums.{sum_both, sums_beside}
 
 -- an event leaves a core's limit

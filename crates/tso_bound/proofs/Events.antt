@@ -35,7 +35,7 @@ use Rattle.tso_state.specs.Steps.{can_order, case_holds, head_access}
 use Rattle.tso_invariant.specs.Holds.{next_may_ask}
 use Rattle.tso_invariant.specs.Rests.{is_quiet}
 use Rattle.tso_bound.specs.Bound.{pending_cost, queue_cost}
-use Rattle.tso_invariant.proofs.Ordered.{stored}
+use Rattle.tso_invariant.proofs.OrderedStores.{stored}
 
 -- the core's instructions pay for this, beside what its pending accesses take
 abbrev pub Pays : (cores : ℕ) → Contents → BufferedCore → Event → (more : ℕ) → Type 0

@@ -26,7 +26,7 @@ use Rattle.msi_memory.specs.Acts.{port_taking, answer_to}
 use Rattle.msi_laws.specs.Holds.{PortHolds, place_at}
 use Rattle.msi_laws.proofs.Lines.{SameLines, waits_none, waits_some}
 use Rattle.machine_bound.specs.Bound.{debt, debts, owed, line_base}
-use Rattle.machine_bound.proofs.Owed.{answers, owed_answering}
+use Rattle.machine_bound.proofs.OwedSums.{answers, owed_answering}
 use Rattle.machine_bound.proofs.Requests.{AskedLine}
 use Rattle.machine_bound.proofs.PortEarns.{data_debt, data_silent}
 use Rattle.tso_bound.specs.Bound.{empty_worth, line_worth, lines_worth, port_worth}

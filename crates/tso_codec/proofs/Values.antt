@@ -11,10 +11,10 @@ use Rattle.log_codec.specs.Laws.{IsBytes}
 use Rattle.log_codec.specs.Reading.{number_at}
 use Rattle.log_codec.specs.Spelling.{number}
 use Rattle.log_codec.specs.Turns.{read_in_turn, spelled_in_turn, alike}
-use Rattle.log_codec.proofs.Steps.{bind_ok, guard_ok, Takes, Takes-then}
+use Rattle.log_codec.proofs.ReadingSteps.{bind_ok, guard_ok, Takes, Takes-then}
 use Rattle.log_codec.proofs.FieldLaws.{number_again, number_takes}
 use Rattle.log_codec.proofs.InTurn.{turns_take, turns_again}
-use Rattle.log_codec.proofs.Named.{Names, bind-names, guard-names, number-names, turns-name}
+use Rattle.log_codec.proofs.PartNames.{Names, bind-names, guard-names, number-names, turns-name}
 use Rattle.tso_codec.specs.declared.recording.TheConstants.{VALUES}
 use Rattle.tso_codec.specs.Reading.{value_at, values_at, values_of_at, all_values_at}
 use Rattle.tso_codec.specs.Spelling.{value_text, values_text, all_values_text}

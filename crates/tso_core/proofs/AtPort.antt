@@ -22,7 +22,7 @@ use Rattle.msi_memory.specs.Acts.{
 }
 use Rattle.msi_memory.specs.Acts.{port_asking, port_retiring, port_taking, port_touched}
 use Rattle.msi_memory.specs.Memories.{Memory, port_at}
-use Rattle.msi_laws.proofs.Acting.{port_again, port_same}
+use Rattle.msi_laws.proofs.ActsInTurn.{port_again, port_same}
 use Rattle.msi_laws.proofs.Waits.{port_there}
 use Rattle.tso_state.specs.Events.{
   Event,

@@ -3,10 +3,10 @@ use Rattle.std.proofs.Common.{◌≡◌, true}
 use Rattle.access_times.specs.Riding.{Riding, Carrying}
 use Rattle.machine_ports.proofs.AtHand.{one_writer}
 use Rattle.tso_bound.proofs.Capacity.{nearer}
-use Rattle.tso_bound.proofs.Steps.{earns}
-use Rattle.tso_data.proofs.Steps.{step_works}
+use Rattle.tso_bound.proofs.StepPayments.{earns}
+use Rattle.tso_data.proofs.WordSteps.{step_works}
 use Rattle.tso_invariant.specs.Holds.{TsoHolds}
-use Rattle.tso_invariant.proofs.Kept.{holds_kept}
+use Rattle.tso_invariant.proofs.MoveInvariant.{holds_kept}
 use Rattle.tso_state.specs.declared.moves.Move.{Move}
 use Rattle.tso_state.specs.States.{State}
 use Rattle.tso_state.specs.Steps.{enabled, event, step}

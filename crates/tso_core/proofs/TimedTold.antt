@@ -27,7 +27,7 @@ use Rattle.tso_clerk.specs.Telling.{TellsAll}
 use Rattle.tso_data.specs.Orders.{ordering_of}
 use Rattle.tso_invariant.specs.Holds.{TsoHolds}
 use Rattle.tso_times.specs.Timed.{RiderFits, StandsAfter, ordering_port}
-use Rattle.tso_times.proofs.Timed.{finds_exact, timed_step}
+use Rattle.tso_times.proofs.MoveTimes.{finds_exact, timed_step}
 use Rattle.tso_core.specs.Moving.{StepsTo, TellsOf, rider_left}
 use Rattle.tso_core.specs.TimedSteps.{StandsMoved, StandsTold, StepFinds}
 

@@ -1,3 +1,3 @@
-pub mod Steps
+pub mod WordSteps
 pub mod Loads
 pub mod Remembers

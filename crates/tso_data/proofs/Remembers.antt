@@ -16,10 +16,10 @@ use Rattle.tso_state.specs.FinalMemory.{final_memory}
 use Rattle.tso_state.specs.Runs.{run, plain_moves, plain_step, plain_event, chosen, event_by, accesses, ordered_in}
 use Rattle.tso_state.specs.States.{PlainState, all_done, buffered_start}
 use Rattle.tso_invariant.specs.Holds.{TsoHolds}
-use Rattle.tso_invariant.proofs.Begins.{chosen_enabled, holds_run}
-use Rattle.tso_invariant.proofs.Ending.{links_left}
+use Rattle.tso_invariant.proofs.StartInvariant.{chosen_enabled, holds_run}
+use Rattle.tso_invariant.proofs.DoneMachine.{links_left}
 use Rattle.tso_data.specs.Orders.{ordering_of}
-use Rattle.tso_data.proofs.Steps.{step_works}
+use Rattle.tso_data.proofs.WordSteps.{step_works}
 
 -- the same access, said twice
 ordered_same : (e : Event) → ordered_in e ≡ accesses_in (ordering_of e)

@@ -22,7 +22,7 @@ use Rattle.tso_state.specs.States.{State, BufferedCore, core_at}
 use Rattle.tso_state.specs.Events.{Event, Nothing, Buffers, Performs, Drains, Logs, event_executing, event_granted}
 use Rattle.tso_state.specs.Events.{event_loading, event_ordering}
 use Rattle.tso_state.specs.Steps.{event}
-use Rattle.tso_invariant.proofs.Ordered.{stored}
+use Rattle.tso_invariant.proofs.OrderedStores.{stored}
 
 -- the access that a pending load becomes where its word is the value that it got
 abbrev pub found : (core count word old : ℕ) → Access

@@ -1,10 +1,10 @@
-pub mod Ordered
+pub mod OrderedStores
 pub mod Queues
-pub mod Telling
-pub mod Turns
-pub mod Kept
-pub mod Begins
+pub mod ToldAtPorts
+pub mod CoreMoves
+pub mod MoveInvariant
+pub mod StartInvariant
 pub mod Stuck
-pub mod Ending
-pub mod Rested
+pub mod DoneMachine
+pub mod MoveGrounds
 pub mod EventCases

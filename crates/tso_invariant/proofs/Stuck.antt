@@ -15,8 +15,8 @@ use Rattle.msi_memory.specs.declared.port.Port.{Port}
 use Rattle.msi_memory.specs.Acts.{Act, can}
 use Rattle.msi_memory.specs.Memories.{port_at}
 use Rattle.msi_laws.specs.Moving.{is_take}
-use Rattle.msi_laws.proofs.Moves.{among_some, not_all}
-use Rattle.msi_laws.proofs.Moving.{by_take, waiting_moves}
+use Rattle.msi_laws.proofs.MoveNumbers.{among_some, not_all}
+use Rattle.msi_laws.proofs.TakenMessages.{by_take, waiting_moves}
 use Rattle.tso_state.specs.declared.moves.Move.{Move}
 use Rattle.tso_state.specs.declared.moves.Move.TheVariants.{Core as CoreMove, Order as OrderMove}
 use Rattle.tso_state.specs.declared.moves.Move.TheVariants.{Request as RequestMove, Response as ResponseMove}
@@ -28,7 +28,7 @@ use Rattle.tso_state.specs.Moves.{candidate, core_of, number_of}
 use Rattle.tso_state.specs.States.{State, BufferedCore, all_done, buffered_start, core_at, has_ended}
 use Rattle.tso_state.specs.Steps.{can_execute, can_order, case_holds, enabled, is_fence, moves}
 use Rattle.tso_invariant.specs.Holds.{TsoHolds}
-use Rattle.tso_invariant.proofs.Kept.{core_port, enabled_core}
+use Rattle.tso_invariant.proofs.MoveInvariant.{core_port, enabled_core}
 use Rattle.tso_invariant.proofs.Queues.{still_nobody}
 
 -- a move stands at its number among the candidates

@@ -1,4 +1,4 @@
 pub mod ByCore
 pub mod ToldLoads
-pub mod Turns
+pub mod RunPlaces
 pub mod Behind

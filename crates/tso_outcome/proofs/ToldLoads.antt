@@ -8,7 +8,7 @@ use Rattle.roomy_lists.specs.Lists.{with_item}
 use Rattle.tso_state.specs.Events.{Told, Alone, Ordered, Logged, instr_told}
 use Rattle.tso_told.specs.Played.{read_told, reads_told, told_of}
 use Rattle.tso_told.proofs.InOrder.{first_else, first_own}
-use Rattle.tso_told.proofs.Noted.{reads-append}
+use Rattle.tso_told.proofs.NotedLoads.{reads-append}
 use Rattle.tso_outcome.specs.Loads.{loads_after, loads_told}
 use Rattle.tso_outcome.proofs.ByCore.{by_core, item_more, same_lists}
 

@@ -22,7 +22,7 @@ use Rattle.msi_memory.specs.Acts.{TakeRequest, TakeResponse, TakeMessage, allows
 use Rattle.msi_memory.specs.Memories.{port_at, word_at}
 use Rattle.msi_memory.specs.PlainPart.{plain_port}
 use Rattle.msi_state.specs.Events.{access_of, next_instr, port_taken}
-use Rattle.machine_plain.proofs.Forgetting.{plain_access, plain_taken}
+use Rattle.machine_plain.proofs.ForgetfulSteps.{plain_access, plain_taken}
 use Rattle.machine_plain.proofs.PlainActs.{plain_can}
 use Rattle.machine_plain.proofs.Plains.{plain_allows, plain_data_next, plain_port_at}
 use Rattle.tso_state.specs.declared.moves.Move.{Move}

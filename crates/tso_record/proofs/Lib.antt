@@ -1,3 +1,3 @@
 pub mod ToldValues
-pub mod Telling
-pub mod Standing
+pub mod ClerkTells
+pub mod RecordedPlaces

@@ -9,7 +9,7 @@ use Rattle.tso_outcome.proofs.ByCore.{by_core, item_more, same_lists}
 use Rattle.tso_state.specs.Events.{Told, Alone, Ordered, Logged}
 use Rattle.tso_state.specs.Runs.{LoggedLoad, all_told, values_at, values_of}
 use Rattle.tso_told.specs.Played.{logged_told}
-use Rattle.tso_told.proofs.Sorted.{loads_told}
+use Rattle.tso_told.proofs.OrderedAndLogged.{loads_told}
 use Rattle.tso_record.specs.Clerks.{values_after, values_told}
 
 -- the logged loads of a core, of what was told

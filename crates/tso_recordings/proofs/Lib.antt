@@ -4,6 +4,6 @@ pub mod Loads
 pub mod Tellings
 pub mod Totals
 pub mod Valid
-pub mod Replayed
+pub mod ReplayedRuns
 pub mod Schedules
-pub mod Logged
+pub mod LoggedLoads

@@ -4,9 +4,9 @@ use Rattle.image_mem.specs.Contents.{Contents}
 use Rattle.rtr_types.specs.declared.params.Params.{Params}
 use Rattle.schedule_pick.specs.Choices.{choice_at}
 use Rattle.tso_bound.specs.Ends.{end_of}
-use Rattle.tso_bound.proofs.Ends.{end_done}
+use Rattle.tso_bound.proofs.RunEnds.{end_done}
 use Rattle.tso_recordings.specs.Recordings.{CanRun}
-use Rattle.tso_recordings.proofs.Replayed.{run_replays}
+use Rattle.tso_recordings.proofs.ReplayedRuns.{run_replays}
 use Rattle.tso_recordings.proofs.Valid.{is_valid, recorded}
 use Rattle.tso_state.specs.Runs.{run}
 use Rattle.tso_state.specs.States.{all_done}

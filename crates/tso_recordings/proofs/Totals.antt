@@ -11,12 +11,12 @@ use Rattle.rv_core.specs.declared.core_state.Core.{Core}
 use Rattle.rv_core.specs.States.{starting}
 use Rattle.rv_core.specs.Steps.{after}
 use Rattle.rv_core.proofs.LawLemmas.{count_law, limit_law, start_law}
-use Rattle.tso_invariant.proofs.Begins.{holds_run}
+use Rattle.tso_invariant.proofs.StartInvariant.{holds_run}
 use Rattle.tso_state.specs.Events.{Told}
 use Rattle.tso_state.specs.Runs.{all_told, run, totals}
 use Rattle.tso_state.specs.States.{BufferedCore, all_done, buffered_start, core_at}
 use Rattle.tso_told.specs.Played.{found_by, told_core, told_of}
-use Rattle.tso_told.proofs.Told.{run_cores, told_whole}
+use Rattle.tso_told.proofs.ToldRuns.{run_cores, told_whole}
 
 told_count : (image : Contents) (core : Core) (list : List Told) →
     (told_core image core list).count ≡ core.count + length list

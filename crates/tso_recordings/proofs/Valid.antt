@@ -22,7 +22,7 @@ use Rattle.tso_codec.specs.Validity.{IsTso, plain_of}
 use Rattle.tso_recordings.proofs.ValidValues.{values_valid}
 use Rattle.told_plays.specs.Plays.{InProgramOrder}
 use Rattle.tso_recordings.specs.Values.{values_of as values_of_tellings, values_told}
-use Rattle.tso_records.proofs.Runs.{reduction_is}
+use Rattle.tso_records.proofs.TimedRuns.{reduction_is}
 use Rattle.tso_records.specs.Records.{IsReductionOf}
 use Rattle.tso_records.specs.Standings.{standing_at}
 use Rattle.tso_replay.specs.Laws.{Inside}
@@ -30,12 +30,12 @@ use Rattle.tso_replay.specs.Told.{cores_told}
 use Rattle.tso_state.specs.Runs.{LoggedLoad, accesses, all_told, run, totals, values_at, values_of}
 use Rattle.tso_state.specs.States.{all_done}
 use Rattle.tso_told.specs.Played.{logged_told, told_of}
-use Rattle.tso_told.proofs.Sorted.{loads_told}
-use Rattle.tso_told.proofs.Told.{told_inside, told_right}
+use Rattle.tso_told.proofs.OrderedAndLogged.{loads_told}
+use Rattle.tso_told.proofs.ToldRuns.{told_inside, told_right}
 use Rattle.told_plays.specs.Plays.{AreToldOf, tellings_of}
 use Rattle.told_plays.proofs.Orders.{in_order, told_counts}
 use Rattle.tso_recordings.specs.Recordings.{CanRun, IsRecorded, RecordedLaw, ValidLaw, tso_recording_at}
-use Rattle.tso_words.proofs.Runs.{small_told}
+use Rattle.tso_words.proofs.LoggedWords.{small_told}
 use Rattle.tso_recordings.proofs.Tellings.{are_small, values_are}
 use Rattle.tso_recordings.proofs.Totals.{all_totals, total_told, totals_fit}
 

@@ -5,8 +5,8 @@ use Rattle.std.proofs.Math.Path.{fun_ext}
 use Rattle.rtr_types.specs.declared.access.Access.{Access}
 use Rattle.rtr_types.specs.declared.instr.Instr.{Instr}
 use Rattle.conflict_edge.specs.Conflicts.{ConflictPair, StandsIn}
-use Rattle.conflict_edge.proofs.Standing.{stands_which}
-use Rattle.conflict_edge.proofs.Reversed.{list_ends}
+use Rattle.conflict_edge.proofs.AccessPlaces.{stands_which}
+use Rattle.conflict_edge.proofs.NewestFirst.{list_ends}
 use Rattle.rv_core.specs.declared.outcome.Outcome.{Outcome}
 use Rattle.replay_core.specs.Orders.{bump, counts, nought, counts_in}
 use Rattle.replay_core.specs.Plans.{Plan}
@@ -16,7 +16,7 @@ use Rattle.replay_core.proofs.Counts.{bump_here, bump_more, bump_same, counts_mo
 use Rattle.replay_core.proofs.Places.{bumped, place_given_law, start_known}
 use Rattle.replay_audit.proofs.Pairs.{Apart, both_left, both_right, across, pairs_which}
 use Rattle.replay_audit.proofs.Swaps.{one_at, valued_use, valued_old, valued_new, valued_touch_is}
-use Rattle.replay_audit.proofs.Settled.{no-pair}
+use Rattle.replay_audit.proofs.SettledConflicts.{no-pair}
 use Rattle.tso_replay.specs.Laws.{Inside, ConflictsForwardLaw}
 
 -- the outcome has come as far as the counts say

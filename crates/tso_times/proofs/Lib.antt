@@ -1,4 +1,4 @@
 pub mod Orders
-pub mod Timed
-pub mod Begins
-pub mod Meeting
+pub mod MoveTimes
+pub mod NoAccessYet
+pub mod MetRiders

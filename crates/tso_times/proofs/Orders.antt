@@ -32,7 +32,7 @@ use Rattle.tso_state.specs.Events.{Event, Nothing, Buffers, Performs, Drains, Lo
 use Rattle.tso_state.specs.Events.{pending_store, event_executing, event_granted, event_loading, event_ordering}
 use Rattle.tso_state.specs.Events.{core_after, queue_after}
 use Rattle.tso_invariant.specs.Holds.{in_order}
-use Rattle.tso_invariant.proofs.Ordered.{stored}
+use Rattle.tso_invariant.proofs.OrderedStores.{stored}
 
 -- the access is allowed there, and comes between what was told and what is told with it
 pub record Comes {R K : Type 0} (riding : Riding R) (p : Port R K) (core before now : ℕ) (a : Access) : Type 0 where

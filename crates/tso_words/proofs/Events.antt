@@ -43,9 +43,9 @@ use Rattle.tso_state.specs.Events.{count_before, event_executing, event_granted,
 use Rattle.tso_state.specs.Events.{pending_store, queue_after}
 use Rattle.tso_state.specs.Steps.{enabled, event}
 use Rattle.tso_invariant.specs.Holds.{QueueHolds, TsoHolds}
-use Rattle.tso_data.proofs.Steps.{message_taken}
+use Rattle.tso_data.proofs.WordSteps.{message_taken}
 use Rattle.tso_invariant.proofs.EventCases.{by_amo, by_load, by_message, by_ordered_load, by_ordered_store}
-use Rattle.tso_invariant.proofs.Kept.{core_port, enabled_core}
+use Rattle.tso_invariant.proofs.MoveInvariant.{core_port, enabled_core}
 use Rattle.tso_invariant.proofs.Queues.{head_within}
 use Rattle.rv_core.proofs.Masks.{mask_law}
 use Rattle.tso_words.specs.Words.{SmallTold}

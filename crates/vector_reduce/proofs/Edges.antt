@@ -12,13 +12,13 @@ use Rattle.rtr_types.specs.declared.instr.Edge.{Edge}
 use Rattle.rtr_types.specs.declared.pairs.Which.TheVariants.{Regulated}
 use Rattle.rtr_types.specs.Pairs.{pair_count, source_at, target_at}
 use Rattle.clock_core.specs.Order.{Among}
-use Rattle.clock_core.proofs.Listed.{among_contains, contains_among, among_cases, among_left, among_right}
+use Rattle.clock_core.proofs.EdgeLists.{among_contains, contains_among, among_cases, among_left, among_right}
 use Rattle.stride_vector.specs.declared.StrideVector.{StrideVector}
 use Rattle.stride_vector.specs.Vectors.{edges_of, position_of}
 use Rattle.stride_vector.proofs.Sources.{edges-placed}
 use Rattle.race_log.specs.declared.recording.Recording.{Recording}
 use Rattle.race_log.specs.Sources.{edge_between, edges_at, log_edges}
-use Rattle.race_log.proofs.Looked.{contains-map, map-contains}
+use Rattle.race_log.proofs.RisingSearch.{contains-map, map-contains}
 use Rattle.vector_reduce.specs.declared.pair_vector.PairVector.{PairVector}
 use Rattle.vector_reduce.specs.Kept.{beside, is_beside}
 use Rattle.vector_reduce.specs.Vectors.{edge_at, edges_in, edges_of_all, led_between, pair_vectors, vectors_of}

@@ -18,7 +18,7 @@ use Rattle.vector_reduce.specs.Arrivals.{AreInto, NextDue, arrival, arrival_at, 
 use Rattle.vector_reduce.specs.Arrivals.{no_arrival, passed_of}
 use Rattle.vector_reduce.specs.Kept.{is_beside, kept, kept_lists}
 use Rattle.vector_reduce.specs.Vectors.{edge_at}
-use Rattle.vector_reduce.proofs.Keeping.{kept_none}
+use Rattle.vector_reduce.proofs.KeptVectors.{kept_none}
 
 -- ---- others
 

@@ -8,7 +8,7 @@ use Rattle.rtr_types.specs.declared.params.Params.{Params}
 use Rattle.rtr_types.specs.declared.pairs.Which.TheVariants.{Regulated}
 use Rattle.rtr_types.proofs.Instrs.{instr_eq}
 use Rattle.clock_core.specs.Order.{Before, Among}
-use Rattle.clock_core.proofs.Listed.{among_contains, contains_among}
+use Rattle.clock_core.proofs.EdgeLists.{among_contains, contains_among}
 use Rattle.clock_core.proofs.Paths.{one}
 use Rattle.clock_entries.specs.Laws.{IsLog}
 use Rattle.conflict_edge.specs.Least.{Suffices}
@@ -24,13 +24,13 @@ use Rattle.replay_core.proofs.Images.{by_image, same_start}
 use Rattle.replay_core.proofs.Lists.{one_more, ordered_on, places_law}
 use Rattle.replay_core.proofs.Ready.{sourced_law}
 use Rattle.replay_audit.specs.Determinate.{IsDeterminate, low_order_of}
-use Rattle.replay_audit.proofs.Agreed.{any_whole_law}
+use Rattle.replay_audit.proofs.OrdersAgree.{any_whole_law}
 use Rattle.replay_audit.proofs.Logs.{recorded_log}
 use Rattle.vector_reduce.specs.Answers.{HaveSameBefore, IsSameButLog}
 use Rattle.vector_reduce.specs.Cuts.{Holds, IsClosed}
 use Rattle.vector_reduce.specs.Laws.{SameOrdersLaw}
 use Rattle.vector_reduce.specs.Vectors.{regulated_edges}
-use Rattle.vector_reduce.proofs.Cutting.{closed_holds}
+use Rattle.vector_reduce.proofs.ClosedCuts.{closed_holds}
 
 -- how far a replay order has come is a closed cut
 pub counts_closed : (p : Plan) (order : List ℕ) → IsLog p.edges → IsReplayOrder p order →

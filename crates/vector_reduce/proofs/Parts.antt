@@ -18,11 +18,11 @@ use Rattle.log_codec.specs.Spelling.{number}
 use Rattle.rtr_types.specs.Turns.{StandInTurn, stay, count_up}
 use Rattle.log_codec.specs.Turns.{read_in_turn, spelled_in_turn, alike}
 use Rattle.race_log.specs.Validity.{Valid}
-use Rattle.log_codec.proofs.Steps.{bind_ok, ok_is, Takes, Takes-then}
+use Rattle.log_codec.proofs.ReadingSteps.{bind_ok, ok_is, Takes, Takes-then}
 use Rattle.log_codec.proofs.CoreCountLaws.{counts_again, counts_take}
 use Rattle.log_codec.proofs.FieldLaws.{number_again, number_takes}
 use Rattle.log_codec.proofs.InTurn.{turns_take, turns_again}
-use Rattle.race_log.proofs.Counted.{totals_small}
+use Rattle.race_log.proofs.CountedEdges.{totals_small}
 use Rattle.vector_reduce.specs.declared.thinned.Shown.{Shown}
 use Rattle.vector_reduce.specs.declared.thinned.TheConstants.{SHOWN}
 use Rattle.vector_reduce.specs.declared.thinned.Thinned.{Thinned}

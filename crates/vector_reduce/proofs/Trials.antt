@@ -13,8 +13,8 @@ use Rattle.vector_reduce.specs.Kept.{beside, kept}
 use Rattle.vector_reduce.specs.Showing.{IsLeastShown, no_shown}
 use Rattle.vector_reduce.specs.Thinning.{EachNeeded, IsThinned, Thins}
 use Rattle.vector_reduce.specs.Vectors.{no_vector, others_of, vector_at}
-use Rattle.vector_reduce.proofs.Keeping.{kept_none, kept_push}
-use Rattle.vector_reduce.proofs.Leaving.{never_both, shown_is_needed}
+use Rattle.vector_reduce.proofs.KeptVectors.{kept_none, kept_push}
+use Rattle.vector_reduce.proofs.ThinningAnswers.{never_both, shown_is_needed}
 
 -- ---- which stay
 

@@ -190,7 +190,7 @@ fn push_arrivals(
 }
 
 /// The edges into a core, by rising count of the target.
-#[tactic(auto, using(crate::proofs::Gathered::gathers_more, crate::proofs::Gathered::gathers_past))]
+#[tactic(auto, using(crate::proofs::GatheredEdges::gathers_more, crate::proofs::GatheredEdges::gathers_past))]
 fn arrivals_into(
     alloc: Global,
     vectors: &[PairVector],

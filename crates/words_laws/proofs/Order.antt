@@ -8,7 +8,8 @@ use Rattle.tool_words.specs.Settings.{Settings}
 use Rattle.tool_words.specs.Options.{is_set, put, put_new}
 use Rattle.tool_words.specs.Reading.{Set}
 use Rattle.words_laws.proofs.Options.{if-none, then-none}
-use Rattle.tool_words.proofs.Laying.{Apart, apart-by-name, lays, merge, merge-merge, overlaps, overlaps-before, single}
+use Rattle.tool_words.proofs.LaidSettings.{Apart, apart-by-name, lays, merge, merge-merge}
+use Rattle.tool_words.proofs.LaidSettings.{overlaps, overlaps-before, single}
 
 laid : (s : Settings) (x : Set) (d : Settings) → single x ≡ Some d → put_new s x.name x.text ≡ Some (merge d s)
 laid s x d p = sym (lays s x.name x.text).0 ∙ ap (λ o. option_map (λ d. merge d s) o) p

@@ -1,4 +1,4 @@
-use Rattle.msi_examples.proofs.Computed.{all_so}
+use Rattle.msi_examples.proofs.ComputedValues.{all_so}
 use Rattle.msi_examples.proofs.a_block_and_a_word_are_shared.Goals as goal
 
 pub returns-clause-block : goal.returns-clause-block

@@ -1,4 +1,4 @@
-use Rattle.msi_examples.proofs.Computed.{all_so}
+use Rattle.msi_examples.proofs.ComputedValues.{all_so}
 use Rattle.msi_examples.proofs.a_word_is_handed_over.Goals as goal
 
 pub returns-clause-steps : goal.returns-clause-steps

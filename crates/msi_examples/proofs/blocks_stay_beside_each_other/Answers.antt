@@ -1,4 +1,4 @@
-use Rattle.msi_examples.proofs.Computed.{all_so}
+use Rattle.msi_examples.proofs.ComputedValues.{all_so}
 use Rattle.msi_examples.proofs.blocks_stay_beside_each_other.Goals as goal
 
 pub returns-clause-steps : goal.returns-clause-steps

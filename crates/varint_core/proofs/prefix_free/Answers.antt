@@ -1,4 +1,4 @@
-use Rattle.varint_core.proofs.Spelled as laws
+use Rattle.varint_core.proofs.ShortestSpelling as laws
 use Rattle.varint_core.proofs.prefix_free.Goals as goal
 
 pub returns : goal.returns

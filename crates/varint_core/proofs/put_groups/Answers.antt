@@ -1,6 +1,6 @@
 use Rattle.std.proofs.Common.{◌∙◌, ◌++◌, ap, arith}
 use Rattle.varint_core.specs.Leb128.{spelling, spelling_within}
-use Rattle.varint_core.proofs.Spelled.{push_more, push_last}
+use Rattle.varint_core.proofs.ShortestSpelling.{push_more, push_last}
 use Rattle.varint_core.proofs.put_groups.Goals as goal
 
 pub loop-rest-init : goal.loop-rest-init

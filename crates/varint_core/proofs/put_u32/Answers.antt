@@ -1,6 +1,6 @@
 use Rattle.std.proofs.Common.{◌≡◌, ◌∙◌, ap, sym, ℕ, ◌<◌, List, [], ◌∷◌, ◌++◌}
 use Rattle.varint_core.specs.Leb128.{spelling}
-use Rattle.varint_core.proofs.Spelled.{spelling-small}
+use Rattle.varint_core.proofs.ShortestSpelling.{spelling-small}
 use Rattle.varint_core.proofs.put_u32.Goals as goal
 
 small : (n : ℕ) → n < 128 → spelling n ≡ n ∷ []

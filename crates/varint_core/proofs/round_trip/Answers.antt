@@ -1,4 +1,4 @@
-use Rattle.varint_core.proofs.Spelled as laws
+use Rattle.varint_core.proofs.ShortestSpelling as laws
 use Rattle.varint_core.proofs.round_trip.Goals as goal
 
 pub returns : goal.returns

@@ -2,7 +2,7 @@ use Rattle.std.proofs.Common.{arith, ◌∙◌, ◌≡◌, ◌≤◌, cond, drop
 use Rattle.std.proofs.lemmas.Bool.{lt-ltb, le-ltb}
 use Rattle.varint_core.specs.declared.Varint.TheVariants.{Short, Over}
 use Rattle.varint_core.specs.Leb128.{reading}
-use Rattle.varint_core.proofs.Read.{at_five, at_small, at_end, reading_is, read_on}
+use Rattle.varint_core.proofs.ByteReading.{at_five, at_small, at_end, reading_is, read_on}
 use Rattle.varint_core.proofs.take_u32.Goals as goal
 
 -- bytes that end before their number does are short or over, by how many they are

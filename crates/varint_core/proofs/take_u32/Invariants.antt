@@ -1,5 +1,5 @@
 use Rattle.std.proofs.Common.{◌≡◌, ◌<◌, ◌≤◌, ◌^◌, drop}
-use Rattle.varint_core.proofs.Read.{read_on}
+use Rattle.varint_core.proofs.ByteReading.{read_on}
 use Rattle.varint_core.proofs.take_u32.Given as goal
 
 abbrev pub invariant-loop-i : goal.invariant-loop-i

@@ -1,7 +1,7 @@
 use Rattle.std.proofs.Common.{◌≡◌, ◌∙◌, ◌<◌, sym, ap, arith, List, ℕ, ◌++◌, ◌∷◌, [], ◌+◌, length}
 use Rattle.std.proofs.lemmas.List.{with_items_is}
 use Rattle.clock_entries.specs.Ends.{instr, is_end}
-use Rattle.clock_entries.proofs.Ends.{ends_none, ends_push, ends_keep}
+use Rattle.clock_entries.proofs.LastEntries.{ends_none, ends_push, ends_keep}
 use Rattle.certificate_codec.specs.Ends.{reduced_edges}
 use Rattle.certificate_codec.proofs.Marks.{mark_at}
 use Rattle.certificate_codec.proofs.edge_ends.ends_of_core.Goals as goal

@@ -1,4 +1,4 @@
-use Rattle.certificate_codec.proofs.Named as parts
+use Rattle.certificate_codec.proofs.PartNames as parts
 use Rattle.certificate_codec.proofs.laws.bad_part_law.Goals as goal
 
 pub returns : goal.returns

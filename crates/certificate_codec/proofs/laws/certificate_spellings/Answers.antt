@@ -1,4 +1,4 @@
-use Rattle.certificate_codec.proofs.Whole.{prefix_free, read_is_spelled, spelled_is_read, written_spells}
+use Rattle.certificate_codec.proofs.CertificateLaws.{prefix_free, read_is_spelled, spelled_is_read, written_spells}
 use Rattle.certificate_codec.proofs.laws.certificate_spellings.Goals as goal
 
 pub returns : goal.returns

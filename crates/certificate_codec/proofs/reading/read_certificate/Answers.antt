@@ -3,7 +3,7 @@ use Rattle.log_codec.proofs.Wholes.{reads}
 use Rattle.certificate_codec.specs.Reading.{certificate_at, parts_at}
 use Rattle.certificate_codec.specs.Spelling.{Spells}
 use Rattle.certificate_codec.specs.Validity.{IsCertificate}
-use Rattle.certificate_codec.proofs.Whole.{read_is_spelled, spelled_is_read}
+use Rattle.certificate_codec.proofs.CertificateLaws.{read_is_spelled, spelled_is_read}
 use Rattle.certificate_codec.proofs.reading.read_certificate.Goals as goal
 
 pub returns : goal.returns

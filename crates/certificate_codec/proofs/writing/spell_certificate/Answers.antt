@@ -1,5 +1,5 @@
 use Rattle.rtr_types.specs.Turns.{count_up}
-use Rattle.part_lists.proofs.Turns.{spelled_alike}
+use Rattle.part_lists.proofs.ItemsInTurn.{spelled_alike}
 use Rattle.certificate_codec.specs.Spelling.{entries_text, spelling}
 use Rattle.certificate_codec.proofs.Parts.{entries_few}
 use Rattle.certificate_codec.proofs.writing.spell_certificate.Goals as goal

@@ -1,4 +1,4 @@
-use Rattle.clock_core.proofs.Listed as proved
+use Rattle.clock_core.proofs.EdgeLists as proved
 use Rattle.clock_core.proofs.laws.among_law.Goals as goal
 
 pub returns : goal.returns

@@ -1,4 +1,4 @@
-use Rattle.clock_core.proofs.Merging.{get_or-merged}
+use Rattle.clock_core.proofs.MergedClocks.{get_or-merged}
 use Rattle.clock_core.proofs.laws.counts_law.Goals as goal
 
 pub returns-clause-merged : goal.returns-clause-merged

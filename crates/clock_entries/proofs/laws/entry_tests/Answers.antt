@@ -1,5 +1,5 @@
-use Rattle.clock_entries.proofs.Measured.{exact_passes, next_exact}
-use Rattle.clock_entries.proofs.Tested.{good_test, needed_test}
+use Rattle.clock_entries.proofs.ExactEntryTest.{exact_passes, next_exact}
+use Rattle.clock_entries.proofs.EntryTests.{good_test, needed_test}
 use Rattle.clock_entries.proofs.laws.entry_tests.Goals as goal
 
 pub returns : goal.returns

@@ -3,7 +3,7 @@ use Rattle.std.proofs.lemmas.List.Sorted.{answers_always, IsPermutation-sym}
 use Rattle.conflict_edge.specs.Least.{pair_and_target}
 use Rattle.conflict_edge.proofs.Next.{history_rises, history_cores}
 use Rattle.conflict_edge.proofs.Once.{once_shuffled}
-use Rattle.conflict_edge.proofs.Shuffled.{least_shuffled}
+use Rattle.conflict_edge.proofs.EdgeOrders.{least_shuffled}
 use Rattle.conflict_edge.proofs.least_set.least_of.Goals as goal
 
 pub returns-clause-least : goal.returns-clause-least

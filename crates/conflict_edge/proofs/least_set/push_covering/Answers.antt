@@ -10,11 +10,11 @@ use Rattle.rtr_types.specs.declared.TheConstants.{CORES_MAX}
 use Rattle.clock_core.specs.declared.clock.Clock.{Clock}
 use Rattle.conflict_edge.specs.Times.{IsExactClock}
 use Rattle.conflict_edge.proofs.Once.{Noted, noted_push, noted_skip}
-use Rattle.conflict_edge.proofs.Reversed.{stands_forth}
+use Rattle.conflict_edge.proofs.NewestFirst.{stands_forth}
 use Rattle.conflict_edge.proofs.Scan.{Direct, Reached, FoundFrom}
-use Rattle.conflict_edge.proofs.Steps.{At, at, test_no, fact_no, not_direct, stands_at, skip_reached, merge_reached}
-use Rattle.conflict_edge.proofs.Steps.{no_conflict, covered, end_clock}
-use Rattle.conflict_edge.proofs.Steps.{end_found}
+use Rattle.conflict_edge.proofs.ScanSteps.{At, at, test_no, fact_no, not_direct, stands_at, skip_reached, merge_reached}
+use Rattle.conflict_edge.proofs.ScanSteps.{no_conflict, covered, end_clock}
+use Rattle.conflict_edge.proofs.ScanSteps.{end_found}
 use Rattle.conflict_edge.proofs.least_set.push_covering.Goals as goal
 use Rattle.conflict_edge.proofs.least_set.push_covering.Goals.{then-conflict+then-not-covers+in_ok-push, else-conflict}
 use Rattle.conflict_edge.proofs.least_set.push_covering.Goals.{else-conflict-via-then-conflict+else-not-covers}
@@ -24,7 +24,7 @@ use Rattle.conflict_edge.proofs.least_set.push_covering.Goals.{then-conflict-2-v
 use Rattle.conflict_edge.proofs.least_set.push_covering.Goals.{Joined-conflict}
 use Rattle.conflict_edge.proofs.History.{Rising}
 use Rattle.conflict_edge.proofs.Reach.{rising_next}
-use Rattle.conflict_edge.proofs.Standing.{stands_left, stands_right}
+use Rattle.conflict_edge.proofs.AccessPlaces.{stands_left, stands_right}
 
 -- what stands at an index past the end
 abbrev nothing : Access

@@ -6,7 +6,7 @@ use Rattle.rv_core.specs.declared.core_state.Core.{Core}
 use Rattle.rv_core.specs.declared.outcome.LoadNote.{LoadNote}
 use Rattle.rv_core.specs.declared.outcome.Outcome.{Outcome}
 use Rattle.core_file.specs.CoreFiles.{core_bytes_of, header, memory_segment, note_of, notes_of, notes_segment, spelled}
-use Rattle.core_file.proofs.Spelled.{file_is, no_core, put_both}
+use Rattle.core_file.proofs.FileParts.{file_is, no_core, put_both}
 use Rattle.core_file.proofs.core_bytes.core_file.Goals as goal
 
 abbrev with_lists : List Core → List ℕ → List (List LoadNote) → Outcome

@@ -1,6 +1,6 @@
 use Rattle.core_file.specs.CoreFiles.{header, memory_segment, notes_segment}
 use Rattle.std.proofs.Common.{◌++◌}
-use Rattle.core_file.proofs.Spelled.{on_ok, put_both}
+use Rattle.core_file.proofs.FileParts.{on_ok, put_both}
 use Rattle.core_file.proofs.core_bytes.put_headers.Goals as goal
 
 pub returns : goal.returns

@@ -1,5 +1,5 @@
 use Rattle.std.proofs.Common.{List, ℕ, [], ◌∷◌, ◌++◌, ◌+◌, drop, replicate, take}
-use Rattle.core_file.proofs.Spelled.{on_ok, put_both}
+use Rattle.core_file.proofs.FileParts.{on_ok, put_both}
 use Rattle.core_file.proofs.core_bytes.put_note.Goals as goal
 
 pub returns : goal.returns

@@ -1,7 +1,7 @@
 use Rattle.std.proofs.Common.{List, ℕ, ◌++◌, ◌∙◌, ap, sym, take}
 use Rattle.std.specs.Prelude.{slice_index_or}
 use Rattle.core_file.specs.CoreFiles.{note_of, notes_of, spelled}
-use Rattle.core_file.proofs.Spelled.{no_core, notes_more, put_both}
+use Rattle.core_file.proofs.FileParts.{no_core, notes_more, put_both}
 use Rattle.core_file.proofs.core_bytes.put_notes.Goals as goal
 
 pub loop-core-preserved : goal.loop-core-preserved

@@ -10,8 +10,8 @@ use Rattle.replay_core.specs.Plans.{Plan, plan_of}
 use Rattle.cut_replay.specs.ClosedCuts.{count_in}
 use Rattle.cut_moves.specs.Rounds.{rounds_of}
 use Rattle.cut_moves.specs.Ways.{way_of}
-use Rattle.cut_moves.proofs.Going.{IsGoing, going_above, going_below, going_end, going_on, going_split, going_start}
-use Rattle.cut_moves.proofs.Going.{leading_way, ordered_way, total_small}
+use Rattle.cut_moves.proofs.TakenWay.{IsGoing, going_above, going_below, going_end, going_on, going_split, going_start}
+use Rattle.cut_moves.proofs.TakenWay.{leading_way, ordered_way, total_small}
 use Rattle.cut_moves.proofs.Rounds.{rounds_ordered}
 use Rattle.cut_moves.proofs.between.way.Goals as goal
 use Rattle.cut_moves.proofs.between.way.Goals.{else-low-place, else-low-place-via-then-low-place+else-at-place}

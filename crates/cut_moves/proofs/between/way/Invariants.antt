@@ -1,7 +1,7 @@
 use Rattle.std.proofs.Common.{drop}
 use Rattle.replay_core.specs.Plans.{plan_of}
 use Rattle.cut_replay.specs.ClosedCuts.{count_in}
-use Rattle.cut_moves.proofs.Going.{IsGoing}
+use Rattle.cut_moves.proofs.TakenWay.{IsGoing}
 use Rattle.cut_moves.proofs.between.way.Given as goal
 
 -- what the places so far have of the way was taken

@@ -1,7 +1,7 @@
 use Rattle.std.proofs.Common.{◌+◌, ◌∙◌, sym, arith, true}
 use Rattle.rtr_types.specs.CoreSets.{with_core}
 use Rattle.replay_core.specs.Tallies.{count_of}
-use Rattle.cut_moves.proofs.Taking.{found_as, found_by, found_on, found_start}
+use Rattle.cut_moves.proofs.TakenRounds.{found_as, found_by, found_on, found_start}
 use Rattle.cut_moves.proofs.by_rounds.ready_cores.Goals as goal
 use Rattle.cut_moves.proofs.by_rounds.ready_cores.Goals.{then-is_ready, else-is_ready}
 

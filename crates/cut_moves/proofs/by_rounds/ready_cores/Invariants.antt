@@ -1,5 +1,5 @@
 use Rattle.replay_core.specs.Tallies.{count_of}
-use Rattle.cut_moves.proofs.Taking.{AreFound}
+use Rattle.cut_moves.proofs.TakenRounds.{AreFound}
 use Rattle.cut_moves.proofs.by_rounds.ready_cores.Given as goal
 
 abbrev pub invariant-loop-core : goal.invariant-loop-core

@@ -1,6 +1,6 @@
 use Rattle.std.proofs.Common.{Global, Vec, ℕ, List, ◌+◌, ◌<◌, ◌∙◌, ap, sym, subst, arith, length}
 use Rattle.replay_core.specs.Tallies.{Tallied, count_of}
-use Rattle.cut_moves.proofs.Taking.{IsTaking, taking_by, taking_on}
+use Rattle.cut_moves.proofs.TakenRounds.{IsTaking, taking_by, taking_on}
 use Rattle.cut_moves.proofs.by_rounds.take_round.Goals as goal
 use Rattle.cut_moves.proofs.by_rounds.take_round.Goals.{then-has+in_ok-push, else-has}
 

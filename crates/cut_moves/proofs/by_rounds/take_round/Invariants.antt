@@ -1,5 +1,5 @@
 use Rattle.replay_core.specs.Tallies.{count_of}
-use Rattle.cut_moves.proofs.Taking.{IsTaking}
+use Rattle.cut_moves.proofs.TakenRounds.{IsTaking}
 use Rattle.cut_moves.proofs.by_rounds.take_round.Given as goal
 
 -- what the cores so far have of the round was taken

@@ -1,7 +1,7 @@
 use Rattle.replay_core.specs.Plans.{plan_of}
 use Rattle.replay_core.specs.Tallies.{count_of}
 use Rattle.replay_core.proofs.Low.{left}
-use Rattle.cut_moves.proofs.Taking.{IsSoFar}
+use Rattle.cut_moves.proofs.TakenRounds.{IsSoFar}
 use Rattle.cut_moves.proofs.by_rounds.timeline.Given as goal
 
 abbrev pub invariant-loop-ready : goal.invariant-loop-ready

@@ -1,4 +1,4 @@
-use Rattle.cut_moves.proofs.Stepping.{back_contains, step_contained, step_again, back_again}
+use Rattle.cut_moves.proofs.OneStep.{back_contains, step_contained, step_again, back_again}
 use Rattle.cut_moves.proofs.laws.there_and_back.Goals as goal
 
 pub returns : goal.returns

@@ -1,7 +1,7 @@
 use Rattle.std.proofs.Common.{sym, subst, arith}
 use Rattle.cut_moves.specs.Steps.{IsStep}
 use Rattle.cut_moves.proofs.Fronts.{step_count}
-use Rattle.cut_moves.proofs.Stepping.{step_by_union}
+use Rattle.cut_moves.proofs.OneStep.{step_by_union}
 use Rattle.cut_moves.proofs.moves.step.Goals as goal
 
 pub returns-clause-step : goal.returns-clause-step

@@ -1,7 +1,7 @@
 use Rattle.std.proofs.Common.{sym, subst, arith}
 use Rattle.cut_moves.specs.Steps.{IsStepBack}
 use Rattle.cut_moves.proofs.Fronts.{back_count}
-use Rattle.cut_moves.proofs.Stepping.{back_by_intersection}
+use Rattle.cut_moves.proofs.OneStep.{back_by_intersection}
 use Rattle.cut_moves.proofs.moves.step_back.Goals as goal
 
 pub returns-clause-back : goal.returns-clause-back

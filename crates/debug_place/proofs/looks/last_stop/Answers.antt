@@ -2,7 +2,7 @@ use Rattle.std.proofs.Common.{List, ℕ, length, subst, sym, ◌∙◌}
 use Rattle.std.proofs.lemmas.Result.{IfOk-weaker}
 use Rattle.debug_place.specs.Backs.{NotesLast}
 use Rattle.debug_place.specs.Walks.{IsWalking}
-use Rattle.debug_place.proofs.Walking.{set_out}
+use Rattle.debug_place.proofs.WalkedWay.{set_out}
 use Rattle.debug_place.proofs.looks.last_stop.Goals as goal
 
 pub look-requires : goal.look-requires

@@ -1,8 +1,8 @@
 use Rattle.std.proofs.Common.{◌+◌, subst, sym, arith}
 use Rattle.std.specs.Prelude.{Option}
 use Rattle.debug_place.specs.declared.backs.Seen.{Seen}
-use Rattle.debug_place.proofs.Looking.{IsLooking, look_first, looked, looks_on}
-use Rattle.debug_place.proofs.Walking.{due_at, next_first, taken_at}
+use Rattle.debug_place.proofs.LastStop.{IsLooking, look_first, looked, looks_on}
+use Rattle.debug_place.proofs.WalkedWay.{due_at, next_first, taken_at}
 use Rattle.debug_place.proofs.looks.look.Goals as goal
 
 pub loop-core-init : goal.loop-core-init

@@ -1,4 +1,4 @@
-use Rattle.debug_place.proofs.Looking.{IsLooking}
+use Rattle.debug_place.proofs.LastStop.{IsLooking}
 use Rattle.debug_place.proofs.looks.look.Given as goal
 
 -- the places so far are taken, and the last stop among them is noted

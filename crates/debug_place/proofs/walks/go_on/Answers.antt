@@ -1,7 +1,7 @@
 use Rattle.std.proofs.Common.{sym, subst}
 use Rattle.debug_place.specs.Walks.{IsWalking}
 use Rattle.debug_place.proofs.OwnCuts.{on_err, own_at}
-use Rattle.debug_place.proofs.Walking.{set_out}
+use Rattle.debug_place.proofs.WalkedWay.{set_out}
 use Rattle.debug_place.proofs.walks.go_on.Goals as goal
 
 pub returns-in_err-places-clause-err : goal.returns-in_err-places-clause-err

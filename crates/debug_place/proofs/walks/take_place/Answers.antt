@@ -1,7 +1,7 @@
 use Rattle.replay_audit.specs.Determinate.{low_order_of}
 use Rattle.cut_replay.proofs.Ways.{never_short, ready_with_room}
 use Rattle.debug_place.proofs.OwnCuts.{at_own, on_err, with_room}
-use Rattle.debug_place.proofs.Walking.{has_taken}
+use Rattle.debug_place.proofs.WalkedWay.{has_taken}
 use Rattle.debug_place.proofs.walks.take_place.Goals as goal
 
 pub returns-in_err-make_room-clause-err : goal.returns-in_err-make_room-clause-err

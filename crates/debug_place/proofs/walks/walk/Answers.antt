@@ -3,7 +3,7 @@ use Rattle.std.proofs.Math.ListN.{drop_of_length-le}
 use Rattle.replay_audit.specs.Determinate.{low_order_of}
 use Rattle.debug_place.specs.Walks.{IsWalking}
 use Rattle.debug_place.proofs.OwnCuts.{on_err}
-use Rattle.debug_place.proofs.Walking.{arrived, due_at, taken_at}
+use Rattle.debug_place.proofs.WalkedWay.{arrived, due_at, taken_at}
 use Rattle.debug_place.proofs.walks.walk.Goals as goal
 
 pub take_place-requires-clause-due : goal.take_place-requires-clause-due

@@ -3,8 +3,8 @@ use Rattle.std.proofs.Math.ListN.{drop_of_length-le}
 use Rattle.replay_audit.specs.Determinate.{low_order_of}
 use Rattle.debug_place.specs.Walks.{IsWalking}
 use Rattle.debug_place.proofs.OwnCuts.{at_own, on_err}
-use Rattle.debug_place.proofs.Stopping.{past_all, past_more, stopped_here}
-use Rattle.debug_place.proofs.Walking.{arrived, due_at, taken_at}
+use Rattle.debug_place.proofs.StopTest.{past_all, past_more, stopped_here}
+use Rattle.debug_place.proofs.WalkedWay.{arrived, due_at, taken_at}
 use Rattle.debug_place.proofs.walks.walk_until.Goals as goal
 
 pub returns-then-stops-clause-ok : goal.returns-then-stops-clause-ok

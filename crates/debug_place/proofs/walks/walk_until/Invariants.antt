@@ -1,4 +1,4 @@
-use Rattle.debug_place.proofs.Stopping.{IsPast}
+use Rattle.debug_place.proofs.StopTest.{IsPast}
 use Rattle.debug_place.proofs.walks.walk_until.Given as goal
 
 -- the places so far are taken, and it stopped before none of them

@@ -1,4 +1,4 @@
-use Rattle.exact_reduction.proofs.Reducing.{access_reduces, found_exact}
+use Rattle.exact_reduction.proofs.RetirementReduction.{access_reduces, found_exact}
 use Rattle.exact_reduction.proofs.laws.a_retirement_keeps_it.Goals as goal
 
 pub returns : goal.returns

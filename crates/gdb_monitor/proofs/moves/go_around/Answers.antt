@@ -1,6 +1,6 @@
 use Rattle.std.proofs.Common.{arith}
-use Rattle.gdb_monitor.proofs.Answered.{if_ok}
-use Rattle.gdb_monitor.proofs.Going.{goes_around}
+use Rattle.gdb_monitor.proofs.AnswerFrames.{if_ok}
+use Rattle.gdb_monitor.proofs.AskedCuts.{goes_around}
 use Rattle.gdb_monitor.proofs.moves.go_around.Goals as goal
 
 pub returns-clause-ok : goal.returns-clause-ok

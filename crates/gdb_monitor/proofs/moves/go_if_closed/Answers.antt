@@ -1,6 +1,6 @@
 use Rattle.std.proofs.Common.{refl}
-use Rattle.gdb_monitor.proofs.Answered.{if_ok}
-use Rattle.gdb_monitor.proofs.Going.{cuts_differ, not_closed}
+use Rattle.gdb_monitor.proofs.AnswerFrames.{if_ok}
+use Rattle.gdb_monitor.proofs.AskedCuts.{cuts_differ, not_closed}
 use Rattle.gdb_monitor.proofs.moves.go_if_closed.Goals as goal
 
 pub returns-else-eq-clause-ok : goal.returns-else-eq-clause-ok

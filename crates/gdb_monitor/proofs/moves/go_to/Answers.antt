@@ -1,6 +1,6 @@
 use Rattle.std.proofs.Common.{refl}
-use Rattle.gdb_monitor.proofs.Answered.{if_ok}
-use Rattle.gdb_monitor.proofs.Going.{goes_to}
+use Rattle.gdb_monitor.proofs.AnswerFrames.{if_ok}
+use Rattle.gdb_monitor.proofs.AskedCuts.{goes_to}
 use Rattle.gdb_monitor.proofs.moves.go_to.Goals as goal
 
 pub returns-clause-ok : goal.returns-clause-ok

@@ -4,8 +4,8 @@ use Rattle.race_log.specs.declared.recording.Recording.{Recording}
 use Rattle.race_log.specs.Validity.{Valid}
 use Rattle.cut_replay.specs.ClosedCuts.{IsCutOf}
 use Rattle.gdb_monitor.specs.Moves.{AreCounts}
-use Rattle.gdb_monitor.proofs.Answered.{if_ok}
-use Rattle.gdb_monitor.proofs.Going.{counted_cut, goes_to_cut}
+use Rattle.gdb_monitor.proofs.AnswerFrames.{if_ok}
+use Rattle.gdb_monitor.proofs.AskedCuts.{counted_cut, goes_to_cut}
 use Rattle.gdb_monitor.proofs.moves.go_to_cut.Goals as goal
 
 pub go_if_closed-requires-clause-cut : goal.go_if_closed-requires-clause-cut

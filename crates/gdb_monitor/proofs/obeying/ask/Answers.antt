@@ -1,7 +1,7 @@
 use Rattle.std.proofs.Common.{refl, subst}
 use Rattle.rtr_types.specs.declared.cut.Cut.{Cut}
 use Rattle.gdb_monitor.specs.Obeying.{AuditTells}
-use Rattle.gdb_monitor.proofs.Answered.{if_ok}
+use Rattle.gdb_monitor.proofs.AnswerFrames.{if_ok}
 use Rattle.gdb_monitor.proofs.obeying.ask.Goals as goal
 
 pub returns : goal.returns

@@ -3,7 +3,7 @@ use Rattle.std.specs.Prelude.{IfOk}
 use Rattle.gdb_monitor.specs.declared.commands.Command.{Command}
 use Rattle.gdb_monitor.specs.Obeying.{Obeys}
 use Rattle.gdb_monitor.specs.Texts.{cut_text}
-use Rattle.gdb_monitor.proofs.Answered.{if_ok}
+use Rattle.gdb_monitor.proofs.AnswerFrames.{if_ok}
 use Rattle.gdb_monitor.proofs.obeying.obey.Goals as goal
 
 pub returns-in-Cut-clause-ok : goal.returns-in-Cut-clause-ok

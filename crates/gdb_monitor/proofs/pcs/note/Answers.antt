@@ -7,9 +7,9 @@ use Rattle.rv_core.specs.declared.core_state.Core.{Core}
 use Rattle.roomy_lists.proofs.Rooms.{ready_each}
 use Rattle.cut_replay.specs.Dues.{IsDue}
 use Rattle.cut_replay.proofs.Ways.{never_short, ready_with_room}
-use Rattle.debug_place.proofs.Walking.{due}
+use Rattle.debug_place.proofs.WalkedWay.{due}
 use Rattle.gdb_monitor.specs.Pcs.{IsNoting}
-use Rattle.gdb_monitor.proofs.Noting.{all_noted, inside_lists, next_noted, notes_on}
+use Rattle.gdb_monitor.proofs.NotedPcs.{all_noted, inside_lists, next_noted, notes_on}
 use Rattle.gdb_monitor.proofs.pcs.note.Goals as goal
 use Rattle.gdb_monitor.proofs.pcs.note.Goals.{After-make_room}
 

@@ -4,7 +4,7 @@ use Rattle.roomy_lists.specs.Lists.{items_in}
 use Rattle.replay_core.specs.Plans.{plan_of}
 use Rattle.replay_core.specs.Play.{start}
 use Rattle.gdb_monitor.specs.Pcs.{IsNoting}
-use Rattle.gdb_monitor.proofs.Noting.{begins_noting}
+use Rattle.gdb_monitor.proofs.NotedPcs.{begins_noting}
 use Rattle.gdb_monitor.proofs.pcs.pcs_of.Goals as goal
 
 pub note-requires : goal.note-requires

@@ -1,4 +1,4 @@
-use Rattle.log_codec.proofs.Whole as whole
+use Rattle.log_codec.proofs.RecordingLaws as whole
 use Rattle.log_codec.proofs.laws.spelling_laws.Goals as goal
 
 pub returns : goal.returns

@@ -1,5 +1,5 @@
 use Rattle.log_codec.proofs.Limits.{limits_nest}
-use Rattle.log_codec.proofs.Whole as whole
+use Rattle.log_codec.proofs.RecordingLaws as whole
 use Rattle.log_codec.proofs.laws.version_laws.Goals as goal
 
 pub returns : goal.returns

@@ -3,7 +3,7 @@ use Rattle.log_codec.specs.Incoming.{edges_out_of}
 use Rattle.log_codec.proofs.Merges.{length-merged}
 use Rattle.log_codec.proofs.NextEdges.{joined_from, length-more}
 use Rattle.log_codec.proofs.ReducedLaws.{list-is, list-own}
-use Rattle.log_codec.proofs.Written.{counted}
+use Rattle.log_codec.proofs.EdgeWriter.{counted}
 use Rattle.log_codec.proofs.merging.count_into.Goals as goal
 use Rattle.log_codec.proofs.merging.count_into.Goals.{then-source-target, else-source-target}
 

@@ -6,8 +6,8 @@ use Rattle.log_codec.specs.Incoming.{incoming_edges, remember, target_of}
 use Rattle.log_codec.specs.Spelling.{incoming_text, into_text, number}
 use Rattle.log_codec.specs.Turns.{spelled_in_turn}
 use Rattle.log_codec.proofs.NextEdges.{fronts-step}
-use Rattle.log_codec.proofs.Written.{fronts-start, log-rises, writes-start, writes-rises, writes-more, writes-none}
-use Rattle.log_codec.proofs.Written.{writes-done}
+use Rattle.log_codec.proofs.EdgeWriter.{fronts-start, log-rises, writes-start, writes-rises, writes-more, writes-none}
+use Rattle.log_codec.proofs.EdgeWriter.{writes-done}
 use Rattle.log_codec.proofs.merging.put_into.Goals as goal
 use Rattle.log_codec.proofs.merging.put_into.Goals.{In-Some, in-Some+in_ok-put_incoming, in_default}
 

@@ -2,7 +2,7 @@ use Rattle.std.proofs.Common.{◌-◌, ◌++◌}
 use Rattle.log_codec.specs.Incoming.{incoming_edges, left}
 use Rattle.log_codec.specs.Fronts.{AreFronts}
 use Rattle.log_codec.specs.Spelling.{into_text}
-use Rattle.log_codec.proofs.Written.{Writes}
+use Rattle.log_codec.proofs.EdgeWriter.{Writes}
 use Rattle.log_codec.proofs.merging.put_into.Given as goal
 
 abbrev pub invariant-loop : goal.invariant-loop

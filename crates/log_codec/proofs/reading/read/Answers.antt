@@ -2,7 +2,7 @@ use Rattle.std.proofs.Common.{ap, ◌∙◌, arith}
 use Rattle.race_log.specs.Validity.{Valid}
 use Rattle.log_codec.specs.Reading.{front_at, whole_at}
 use Rattle.log_codec.specs.Spelling.{Spells}
-use Rattle.log_codec.proofs.Whole.{read_is_spelled, spelled_is_read}
+use Rattle.log_codec.proofs.RecordingLaws.{read_is_spelled, spelled_is_read}
 use Rattle.log_codec.proofs.Wholes.{reads}
 use Rattle.log_codec.proofs.reading.read.Goals as goal
 

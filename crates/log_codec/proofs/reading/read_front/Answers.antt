@@ -1,8 +1,8 @@
 use Rattle.std.proofs.Common.{◌≡◌, ◌-◌, ◌∙◌, length, drop, ap, sym, Ok, arith}
 use Rattle.std.proofs.lemmas.Result.{err_from_is_err_and}
 use Rattle.log_codec.specs.Reading.{front_at}
-use Rattle.log_codec.proofs.Steps.{bytes-from_index}
-use Rattle.log_codec.proofs.Whole.{front_found, front_again, no_fault}
+use Rattle.log_codec.proofs.ReadingSteps.{bytes-from_index}
+use Rattle.log_codec.proofs.RecordingLaws.{front_found, front_again, no_fault}
 use Rattle.log_codec.proofs.reading.read_front.Goals as goal
 
 pub returns : goal.returns

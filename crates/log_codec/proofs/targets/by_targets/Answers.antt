@@ -1,7 +1,7 @@
 use Rattle.std.proofs.Common.{ℕ, List, [], replicate, ap, ◌∙◌, arith, rules}
 use Rattle.std.proofs.lemmas.Grind.{common_steps}
 use Rattle.std.proofs.lemmas.Result.{err_from_is_err_and}
-use Rattle.log_codec.proofs.Received.{fills-start, fills-long, fills-more, fills-fails, fills-done}
+use Rattle.log_codec.proofs.EdgeReader.{fills-start, fills-long, fills-more, fills-fails, fills-done}
 use Rattle.log_codec.proofs.targets.by_targets.Goals as goal
 
 pub loop-target-init : goal.loop-target-init

@@ -1,4 +1,4 @@
-use Rattle.log_codec.proofs.Received.{Fills}
+use Rattle.log_codec.proofs.EdgeReader.{Fills}
 use Rattle.log_codec.proofs.targets.by_targets.Given as goal
 
 abbrev pub invariant-loop-target : goal.invariant-loop-target

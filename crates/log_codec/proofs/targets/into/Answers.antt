@@ -1,6 +1,6 @@
 use Rattle.std.proofs.lemmas.Result.{err_from_is_err_and}
 use Rattle.log_codec.specs.Reading.{into_at}
-use Rattle.log_codec.proofs.Received.{reads-start, reads-more, reads-fails, reads-done}
+use Rattle.log_codec.proofs.EdgeReader.{reads-start, reads-more, reads-fails, reads-done}
 use Rattle.log_codec.proofs.targets.into.Goals as goal
 
 pub loop-init : goal.loop-init

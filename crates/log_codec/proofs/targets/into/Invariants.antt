@@ -1,4 +1,4 @@
-use Rattle.log_codec.proofs.Received.{Reads}
+use Rattle.log_codec.proofs.EdgeReader.{Reads}
 use Rattle.log_codec.proofs.targets.into.Given as goal
 
 abbrev pub invariant-loop : goal.invariant-loop

@@ -1,4 +1,4 @@
-use Rattle.log_codec.proofs.Whole.{is_log}
+use Rattle.log_codec.proofs.RecordingLaws.{is_log}
 use Rattle.race_log.proofs.Parts.{vectors_listed}
 use Rattle.log_codec.proofs.writing.spell_in.Goals as goal
 

@@ -1,4 +1,4 @@
-use Rattle.machine_invariant.proofs.Kept.{holds_kept}
+use Rattle.machine_invariant.proofs.MoveInvariant.{holds_kept}
 use Rattle.machine_bound.proofs.Payments.{earns}
 use Rattle.machine_bound.proofs.Capacity.{nearer, total_earned_le}
 use Rattle.machine_bound.proofs.laws.every_step_earns.Goals as goal

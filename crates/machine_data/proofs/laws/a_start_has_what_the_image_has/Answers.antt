@@ -1,4 +1,4 @@
-use Rattle.machine_data.proofs.Opening.{start_coherent}
+use Rattle.machine_data.proofs.OpeningWords.{start_coherent}
 use Rattle.machine_data.proofs.laws.a_start_has_what_the_image_has.Goals as goal
 
 pub returns : goal.returns

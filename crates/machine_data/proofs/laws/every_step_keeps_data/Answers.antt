@@ -1,4 +1,4 @@
-use Rattle.machine_data.proofs.Steps.{step_works}
+use Rattle.machine_data.proofs.WordSteps.{step_works}
 use Rattle.machine_data.proofs.laws.every_step_keeps_data.Goals as goal
 
 pub returns-clause-coherent : goal.returns-clause-coherent

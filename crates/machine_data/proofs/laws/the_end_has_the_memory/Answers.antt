@@ -1,4 +1,4 @@
-use Rattle.machine_invariant.proofs.Ended.{links_left}
+use Rattle.machine_invariant.proofs.DoneCores.{links_left}
 use Rattle.machine_data.proofs.Final.{final_current}
 use Rattle.machine_data.proofs.laws.the_end_has_the_memory.Goals as goal
 

@@ -1,4 +1,4 @@
-use Rattle.machine_invariant.proofs.Begins.{holds_run}
+use Rattle.machine_invariant.proofs.StartInvariant.{holds_run}
 use Rattle.machine_invariant.proofs.laws.every_state_of_a_run_has_it.Goals as goal
 
 pub returns : goal.returns

@@ -1,6 +1,6 @@
-use Rattle.machine_invariant.proofs.Begins.{holds_start}
-use Rattle.machine_invariant.proofs.Kept.{acts_can, holds_kept}
-use Rattle.machine_invariant.proofs.Promised.{is_invariant}
+use Rattle.machine_invariant.proofs.StartInvariant.{holds_start}
+use Rattle.machine_invariant.proofs.MoveInvariant.{acts_can, holds_kept}
+use Rattle.machine_invariant.proofs.InvariantPromise.{is_invariant}
 use Rattle.machine_invariant.proofs.laws.every_step_keeps_it.Goals as goal
 
 pub returns : goal.returns

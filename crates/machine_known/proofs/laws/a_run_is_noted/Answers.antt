@@ -1,4 +1,4 @@
-use Rattle.machine_known.proofs.Noting.{knows_start, knows_step}
+use Rattle.machine_known.proofs.NotedRuns.{knows_start, knows_step}
 use Rattle.machine_known.proofs.laws.a_run_is_noted.Goals as goal
 
 pub returns-clause-start : goal.returns-clause-start

@@ -1,5 +1,5 @@
-use Rattle.machine_known.proofs.Following as following
-use Rattle.machine_known.proofs.Retiring.{carry_follows}
+use Rattle.machine_known.proofs.CarryMoves as following
+use Rattle.machine_known.proofs.RetiredNext.{carry_follows}
 use Rattle.machine_known.proofs.laws.carries_follow.Goals as goal
 
 pub returns-clause-follow : goal.returns-clause-follow

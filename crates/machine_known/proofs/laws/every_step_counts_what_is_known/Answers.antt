@@ -1,4 +1,4 @@
-use Rattle.machine_known.proofs.Runs.{known_start, known_step}
+use Rattle.machine_known.proofs.KnownRuns.{known_start, known_step}
 use Rattle.machine_known.proofs.laws.every_step_counts_what_is_known.Goals as goal
 
 pub returns-clause-start : goal.returns-clause-start

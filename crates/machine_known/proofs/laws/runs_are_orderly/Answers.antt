@@ -1,4 +1,4 @@
-use Rattle.machine_known.proofs.Runs.{run_links_law, run_orderly_law, run_retires_law}
+use Rattle.machine_known.proofs.KnownRuns.{run_links_law, run_orderly_law, run_retires_law}
 use Rattle.machine_known.proofs.laws.runs_are_orderly.Goals as goal
 
 pub returns : goal.returns

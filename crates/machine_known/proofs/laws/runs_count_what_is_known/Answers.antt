@@ -1,4 +1,4 @@
-use Rattle.machine_known.proofs.Runs.{known_run_law, run_knows, run_plain}
+use Rattle.machine_known.proofs.KnownRuns.{known_run_law, run_knows, run_plain}
 use Rattle.machine_known.proofs.laws.runs_count_what_is_known.Goals as goal
 
 pub returns-clause-carries : goal.returns-clause-carries

@@ -1,4 +1,4 @@
-use Rattle.machine_plain.proofs.Forgetting.{plain_step, plain_event}
+use Rattle.machine_plain.proofs.ForgetfulSteps.{plain_step, plain_event}
 use Rattle.machine_plain.proofs.laws.riders_change_nothing.Goals as goal
 
 pub returns-clause-step : goal.returns-clause-step

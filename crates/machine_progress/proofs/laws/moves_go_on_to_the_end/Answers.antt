@@ -1,7 +1,7 @@
-use Rattle.machine_invariant.proofs.Ended.{links_left}
-use Rattle.machine_invariant.proofs.Promised.{moves_on}
-use Rattle.machine_progress.proofs.Ending.{moves_left}
-use Rattle.machine_progress.proofs.Rested.{rows_there, rooms_there}
+use Rattle.machine_invariant.proofs.DoneCores.{links_left}
+use Rattle.machine_invariant.proofs.InvariantPromise.{moves_on}
+use Rattle.machine_progress.proofs.DoneMachine.{moves_left}
+use Rattle.machine_progress.proofs.MoveGrounds.{rows_there, rooms_there}
 use Rattle.machine_progress.proofs.Stuck.{some_move}
 use Rattle.machine_progress.proofs.laws.moves_go_on_to_the_end.Goals as goal
 

@@ -1,7 +1,7 @@
 use Rattle.machine_times.specs.TimedSteps.{times_parts}
 use Rattle.machine_times.proofs.RiderLaws.{times_absorb, times_fresh}
-use Rattle.machine_times.proofs.Begins.{machine_start}
-use Rattle.machine_times.proofs.Timed.{timed_step, finds_exact}
+use Rattle.machine_times.proofs.NewMachine.{machine_start}
+use Rattle.machine_times.proofs.MoveTimes.{timed_step, finds_exact}
 use Rattle.machine_times.proofs.laws.timed_steps.Goals as goal
 
 pub returns : goal.returns

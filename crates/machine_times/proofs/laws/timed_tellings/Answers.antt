@@ -1,4 +1,4 @@
-use Rattle.machine_times.proofs.Told.{timed_told, clocks_told}
+use Rattle.machine_times.proofs.NotedRiders.{timed_told, clocks_told}
 use Rattle.machine_times.proofs.laws.timed_tellings.Goals as goal
 
 pub returns : goal.returns

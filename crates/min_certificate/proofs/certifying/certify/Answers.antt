@@ -11,7 +11,7 @@ use Rattle.min_certificate.specs.declared.answers.CertFault.TheVariants.{NotLeas
 use Rattle.min_certificate.specs.Answers.{IsFirstAmiss}
 use Rattle.min_certificate.specs.Clocks.{HasClocks}
 use Rattle.min_certificate.specs.Laws.{IsLeastIn}
-use Rattle.min_certificate.proofs.Judged.{audited_low, certifies, least_is_certified}
+use Rattle.min_certificate.proofs.FirstFailure.{audited_low, certifies, least_is_certified}
 use Rattle.min_certificate.proofs.certifying.certify.Goals as goal
 
 pub first_amiss-requires-clause-determinate : goal.first_amiss-requires-clause-determinate

@@ -5,7 +5,7 @@ use Rattle.clock_entries.specs.Ends.{Clocks}
 use Rattle.certificate_codec.specs.declared.certificate.Certificate.{Certificate}
 use Rattle.min_certificate.specs.Clocks.{HasClocks}
 use Rattle.least_lists.specs.LeastLists.{AreOf}
-use Rattle.min_certificate.proofs.Judged.{IsLow, low_below, low_rises, amiss_found}
+use Rattle.min_certificate.proofs.FirstFailure.{IsLow, low_below, low_rises, amiss_found}
 use Rattle.min_certificate.proofs.certifying.first_amiss.Goals as goal
 
 pub new-requires-clause-cores : goal.new-requires-clause-cores

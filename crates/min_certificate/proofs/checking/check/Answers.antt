@@ -8,7 +8,7 @@ use Rattle.min_certificate.specs.declared.answers.CheckFailure.{CheckFailure}
 use Rattle.min_certificate.specs.declared.answers.CheckFault.TheVariants.{Failed}
 use Rattle.min_certificate.specs.Answers.{CheckFails}
 use Rattle.min_certificate.specs.Laws.{Passes}
-use Rattle.min_certificate.proofs.Judged.{audit_complete, audit_low, checks_of, passed_is_accepted}
+use Rattle.min_certificate.proofs.FirstFailure.{audit_complete, audit_low, checks_of, passed_is_accepted}
 use Rattle.min_certificate.proofs.checking.check.Goals as goal
 
 pub returns-in_err-audited-clause-complete : goal.returns-in_err-audited-clause-complete

@@ -4,7 +4,7 @@ use Rattle.std.proofs.Common.{None}
 use Rattle.min_certificate.specs.Laws.{AllConflict}
 use Rattle.min_certificate.specs.Conflicting.{BothConflict}
 use Rattle.min_certificate.specs.Firsts.{FailsFirst, FirstWithout}
-use Rattle.min_certificate.proofs.Judged.{Judges, first_no_conflict, all_conflict, first_known}
+use Rattle.min_certificate.proofs.FirstFailure.{Judges, first_no_conflict, all_conflict, first_known}
 use Rattle.min_certificate.proofs.checking.failure_of.Goals as goal
 use Rattle.min_certificate.proofs.checking.failure_of.Goals.{Start, In_default}
 

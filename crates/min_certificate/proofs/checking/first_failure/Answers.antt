@@ -4,7 +4,7 @@ use Rattle.rtr_types.specs.declared.access.Access.{Access}
 use Rattle.certificate_codec.specs.declared.certificate.Certificate.{Certificate}
 use Rattle.min_certificate.specs.Answers.{CheckFails}
 use Rattle.min_certificate.specs.Laws.{Passes}
-use Rattle.min_certificate.proofs.Judged.{IsLow, audit_low, low_below, low_rises, same_certificate}
+use Rattle.min_certificate.proofs.FirstFailure.{IsLow, audit_low, low_below, low_rises, same_certificate}
 use Rattle.min_certificate.proofs.checking.first_failure.Goals as goal
 
 pub new-requires-clause-cores : goal.new-requires-clause-cores

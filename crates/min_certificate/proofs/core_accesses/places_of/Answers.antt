@@ -1,5 +1,5 @@
 use Rattle.std.proofs.Common.{take, refl, sym, arith}
-use Rattle.min_certificate.proofs.Indexed.{IsStep, core_below, indexed_all, indexed_on, indexed_start, row_short}
+use Rattle.min_certificate.proofs.AccessPlaces.{IsStep, core_below, indexed_all, indexed_on, indexed_start, row_short}
 use Rattle.min_certificate.proofs.core_accesses.places_of.Goals as goal
 
 pub loop-index-init : goal.loop-index-init

@@ -1,5 +1,5 @@
 use Rattle.std.proofs.Common.{take}
-use Rattle.min_certificate.proofs.Indexed.{IndexedTo}
+use Rattle.min_certificate.proofs.AccessPlaces.{IndexedTo}
 use Rattle.min_certificate.proofs.core_accesses.places_of.Given as goal
 
 abbrev pub invariant-loop-index : goal.invariant-loop-index

@@ -1,4 +1,4 @@
-use Rattle.min_certificate.proofs.Tested as tested
+use Rattle.min_certificate.proofs.CertificateTests as tested
 use Rattle.min_certificate.proofs.laws.certificate_tests.Goals as goal
 
 pub returns : goal.returns

@@ -1,5 +1,5 @@
-use Rattle.min_certificate.proofs.Judged as judged
-use Rattle.min_certificate.proofs.Shown as shown
+use Rattle.min_certificate.proofs.FirstFailure as judged
+use Rattle.min_certificate.proofs.CertifiedRecordings as shown
 use Rattle.min_certificate.proofs.laws.certified_is_accepted.Goals as goal
 
 pub returns : goal.returns

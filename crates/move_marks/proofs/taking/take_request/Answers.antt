@@ -1,5 +1,5 @@
 use Rattle.msi_memory.specs.Acts.{TakeRequest}
-use Rattle.move_marks.proofs.Following.{few_after, home_can, request_followed}
+use Rattle.move_marks.proofs.TurnMarks.{few_after, home_can, request_followed}
 use Rattle.move_marks.proofs.taking.take_request.Goals as goal
 
 pub take_request-turn-requires-clause-can : goal.take_request-turn-requires-clause-can

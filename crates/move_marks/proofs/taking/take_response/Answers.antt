@@ -1,6 +1,6 @@
 use Rattle.std.proofs.Common.{◌∙◌, sym, subst, ℕ, ◌<◌}
 use Rattle.msi_memory.specs.Acts.{TakeResponse}
-use Rattle.move_marks.proofs.Following.{few_after, home_can, long_after, response_followed}
+use Rattle.move_marks.proofs.TurnMarks.{few_after, home_can, long_after, response_followed}
 use Rattle.move_marks.proofs.taking.take_response.Goals as goal
 
 pub take_response-turn-requires : goal.take_response-turn-requires

@@ -1,4 +1,4 @@
-use Rattle.msi_laws.proofs.Moving.{waiting_moves, quiet_links}
+use Rattle.msi_laws.proofs.TakenMessages.{waiting_moves, quiet_links}
 use Rattle.msi_laws.proofs.laws.a_memory_is_never_stuck.Goals as goal
 
 pub returns-clause-moving : goal.returns-clause-moving

@@ -1,5 +1,5 @@
-use Rattle.msi_laws.proofs.Starts.{memory_starts}
-use Rattle.msi_laws.proofs.Kept.{memory_kept}
+use Rattle.msi_laws.proofs.StartInvariant.{memory_starts}
+use Rattle.msi_laws.proofs.ActInvariant.{memory_kept}
 use Rattle.msi_laws.proofs.KindsShown.{blocks_hold}
 use Rattle.msi_laws.proofs.laws.acts_keep_the_invariant.Goals as goal
 

@@ -1,4 +1,4 @@
-use Rattle.msi_laws.proofs.Starts.{words_start}
+use Rattle.msi_laws.proofs.StartInvariant.{words_start}
 use Rattle.msi_laws.proofs.Properties.{words_kept}
 use Rattle.msi_laws.proofs.laws.acts_keep_words.Goals as goal
 

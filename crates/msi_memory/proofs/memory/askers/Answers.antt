@@ -1,7 +1,7 @@
 use Rattle.std.proofs.Common.{◌≡◌, ◌∙◌, ◌+◌, ℕ, length, sym, subst, arith}
 use Rattle.rtr_types.specs.declared.core_set.CoreSet.{CoreSet}
 use Rattle.msi_memory.specs.declared.port.Port.{Port}
-use Rattle.msi_memory.proofs.Asking.{AskedBelow, asked_all, asked_no, asked_none, asked_yes}
+use Rattle.msi_memory.proofs.AskerSets.{AskedBelow, asked_all, asked_no, asked_none, asked_yes}
 use Rattle.msi_memory.proofs.memory.askers.Goals.{then-asks, else-asks}
 use Rattle.msi_memory.proofs.memory.askers.Goals as goal
 

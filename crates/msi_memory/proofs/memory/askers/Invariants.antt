@@ -1,4 +1,4 @@
-use Rattle.msi_memory.proofs.Asking.{AskedBelow}
+use Rattle.msi_memory.proofs.AskerSets.{AskedBelow}
 use Rattle.msi_memory.proofs.memory.askers.Given as goal
 
 abbrev pub invariant-loop-n : goal.invariant-loop-n

@@ -1,7 +1,7 @@
 use Rattle.std.proofs.Common.{◌∙◌, ap}
 use Rattle.msi_cache.specs.Lines.{waits}
 use Rattle.msi_cache.specs.Messages.{message_seen}
-use Rattle.msi_memory.proofs.Waiting.{waits_kept}
+use Rattle.msi_memory.proofs.WaitingLines.{waits_kept}
 use Rattle.msi_memory.proofs.port.respond.Goals as goal
 
 pub returns-clause-waits : goal.returns-clause-waits

@@ -1,4 +1,4 @@
-use Rattle.msi_protocol.proofs.Followed.{both_share, first_owns}
+use Rattle.msi_protocol.proofs.ExampleRun.{both_share, first_owns}
 use Rattle.msi_protocol.proofs.laws.the_example_goes_so.Goals as goal
 
 pub returns-clause-shared : goal.returns-clause-shared

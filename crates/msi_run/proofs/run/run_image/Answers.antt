@@ -1,7 +1,7 @@
 use Rattle.std.proofs.Common.{ap, sym, ◌∙◌}
 use Rattle.machine_plain.specs.Plain.{plain}
-use Rattle.run_outcome.proofs.Turns.{outcome_is, stands_start}
-use Rattle.run_steps.proofs.Starts.{under_way}
+use Rattle.run_outcome.proofs.RunPlaces.{outcome_is, stands_start}
+use Rattle.run_steps.proofs.RunStart.{under_way}
 use Rattle.run_steps.specs.Ends.{outcome_with}
 use Rattle.msi_run.proofs.run.run_image.Goals as goal
 

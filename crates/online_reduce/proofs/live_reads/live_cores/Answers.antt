@@ -2,7 +2,7 @@ use Rattle.std.proofs.Common.{◌<◌, ◌∙◌, ap, sym, subst, ℕ}
 use Rattle.std.specs.Option.{is_some}
 use Rattle.rtr_types.specs.declared.core_set.CoreSet.{CoreSet}
 use Rattle.access_times.specs.Times.{read_at}
-use Rattle.access_times.proofs.Kept.{all_seen, fewer}
+use Rattle.access_times.proofs.KeptReads.{all_seen, fewer}
 use Rattle.online_reduce.specs.LiveReads.{is_live_read}
 use Rattle.online_reduce.proofs.SetReads.{Finding, find_live, find_not, start_finding}
 use Rattle.online_reduce.proofs.live_reads.live_cores.Goals as goal

@@ -7,8 +7,8 @@ use Rattle.rtr_types.specs.Pairs.{pair_place}
 use Rattle.rtr_types.specs.PairEdges.{with_edges}
 use Rattle.online_reduce.specs.Rule.{edge_to}
 use Rattle.online_reduce.specs.declared.source.Source.{Source}
-use Rattle.online_reduce.proofs.Adding.{next_pair, none_added}
-use Rattle.online_reduce.proofs.Left.{all_left, next_left, none_left, none_seen, seen}
+use Rattle.online_reduce.proofs.ReadLoop.{next_pair, none_added}
+use Rattle.online_reduce.proofs.ListRests.{all_left, next_left, none_left, none_seen, seen}
 use Rattle.online_reduce.proofs.Loops.{chosen, chosen_push, chosen_skip, chosen_all, merged_more, merged_all}
 use Rattle.online_reduce.proofs.Rooms.{added, length-after, room_left, room_next, room_same}
 use Rattle.online_reduce.proofs.pair_lists.add_reads.Goals as goal

@@ -1,6 +1,6 @@
 use Rattle.std.proofs.Common.{length}
-use Rattle.online_reduce.proofs.Adding.{Added}
-use Rattle.online_reduce.proofs.Left.{IsLeft, seen}
+use Rattle.online_reduce.proofs.ReadLoop.{Added}
+use Rattle.online_reduce.proofs.ListRests.{IsLeft, seen}
 use Rattle.online_reduce.proofs.pair_lists.add_reads.Given as goal
 
 -- the reads that were taken out were added

@@ -1,4 +1,4 @@
-use Rattle.race_log.proofs.Tested as validity
+use Rattle.race_log.proofs.ValidityTest as validity
 use Rattle.race_log.proofs.laws.validity_laws.Goals as goal
 
 pub returns : goal.returns

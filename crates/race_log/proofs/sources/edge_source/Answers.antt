@@ -1,8 +1,8 @@
 use Rattle.std.proofs.Common.{◌≡◌, ℕ, get_or, Ok, Err, Some, ap, ◌∙◌, rules}
 use Rattle.std.proofs.lemmas.List.{get_or_default}
 use Rattle.std.proofs.lemmas.List.Sorted.{answers_always}
-use Rattle.race_log.proofs.Looked.{searched}
-use Rattle.race_log.proofs.Rises.{no_edge, targets-rise}
+use Rattle.race_log.proofs.RisingSearch.{searched}
+use Rattle.race_log.proofs.PairRises.{no_edge, targets-rise}
 use Rattle.race_log.proofs.SourceLaws.{one_edge, edge_found}
 use Rattle.race_log.proofs.sources.edge_source.Goals as goal
 

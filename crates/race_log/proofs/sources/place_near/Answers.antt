@@ -1,8 +1,8 @@
 use Rattle.std.proofs.Common.{ℕ, ltb, rules}
 use Rattle.std.proofs.lemmas.List.Sorted.{IsPartitionPoint-from_clause, IsPartitionedBy-ltb}
-use Rattle.race_log.proofs.Looked.{rising-falls_not}
+use Rattle.race_log.proofs.RisingSearch.{rising-falls_not}
 use Rattle.race_log.proofs.Near.{from_partition}
-use Rattle.race_log.proofs.Rises.{no_edge, targets-rise}
+use Rattle.race_log.proofs.PairRises.{no_edge, targets-rise}
 use Rattle.race_log.proofs.sources.place_near.Goals as goal
 
 pub returns : goal.returns

@@ -1,13 +1,13 @@
 use Rattle.std.proofs.Common.{refl, ap, sym, subst, ◌∙◌, arith}
 use Rattle.image_mem.specs.Contents.{Contents}
 use Rattle.race_log.specs.declared.recording.Recording.{Recording}
-use Rattle.run_records.proofs.Ends.{recording_made}
+use Rattle.run_records.proofs.RecordedEnd.{recording_made}
 use Rattle.run_records.proofs.Recordings.{least, recording_valid_law, regulated_log_law}
 use Rattle.run_records.specs.Recordings.{recording_of}
-use Rattle.run_steps.proofs.Starts.{under_way}
+use Rattle.run_steps.proofs.RunStart.{under_way}
 use Rattle.recorder.specs.Promises.{IsRecordingOf}
-use Rattle.recorder.proofs.Ending.{recorded}
-use Rattle.recorder.proofs.Starting.{records_start}
+use Rattle.recorder.proofs.RecordedEnd.{recorded}
+use Rattle.recorder.proofs.RecorderStart.{records_start}
 use Rattle.recorder.proofs.run.record_image.Goals as goal
 
 pub run_to_end-requires-clause-under_way : goal.run_to_end-requires-clause-under_way

@@ -2,10 +2,10 @@
 -- the front is all that there is.
 use Rattle.std.proofs.Common.{◌++◌, ◌∷◌, [], ◌∙◌, ap, length, refl, sym}
 use Rattle.replay_core.specs.Plans.{Plan}
-use Rattle.replay_audit.proofs.Auditing.{along_start, all_told, along_on, in_plan, leaves_open, passes, ready_here}
-use Rattle.replay_audit.proofs.Auditing.{short_here, stuck, told_at}
-use Rattle.replay_audit.proofs.Following.{access_core, each_core, each_marked, noted_next}
-use Rattle.replay_core.proofs.Tallying.{below_plan, inside_plan, less_to_go}
+use Rattle.replay_audit.proofs.LowAudit.{along_start, all_told, along_on, in_plan, leaves_open, passes, ready_here}
+use Rattle.replay_audit.proofs.LowAudit.{short_here, stuck, told_at}
+use Rattle.replay_audit.proofs.TallyAndTrail.{access_core, each_core, each_marked, noted_next}
+use Rattle.replay_core.proofs.LowCounts.{below_plan, inside_plan, less_to_go}
 use Rattle.replay_audit.proofs.audited.follow.Goals as goal
 
 pub loop-core-init : goal.loop-core-init

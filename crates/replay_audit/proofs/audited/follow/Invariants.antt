@@ -2,7 +2,7 @@
 use Rattle.std.proofs.Common.{ℕ, List}
 use Rattle.replay_core.proofs.Low.{left}
 use Rattle.replay_core.specs.Tallies.{count_of}
-use Rattle.replay_audit.proofs.Auditing.{Along}
+use Rattle.replay_audit.proofs.LowAudit.{Along}
 use Rattle.replay_audit.proofs.audited.follow.Given as goal
 
 abbrev pub invariant-loop-core : goal.invariant-loop-core

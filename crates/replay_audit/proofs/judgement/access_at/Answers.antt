@@ -4,7 +4,7 @@ use Rattle.std.specs.List.{Contains}
 use Rattle.rtr_types.specs.declared.access.Access.{Access}
 use Rattle.replay_audit.specs.declared.touch.Touch.{Touch}
 use Rattle.replay_audit.specs.Touches.{as_access}
-use Rattle.replay_audit.proofs.Touching.{own_list}
+use Rattle.replay_audit.proofs.LowJudgement.{own_list}
 use Rattle.replay_audit.proofs.judgement.access_at.Goals as goal
 
 pub returns-in-Some-clause-only : goal.returns-in-Some-clause-only

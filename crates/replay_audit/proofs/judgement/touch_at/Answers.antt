@@ -2,7 +2,7 @@ use Rattle.std.proofs.Common.{get_or, Some, ap}
 use Rattle.std.proofs.lemmas.List.{get_or_default}
 use Rattle.rtr_types.specs.declared.access.Kind.TheVariants.{Load}
 use Rattle.replay_audit.specs.declared.touch.Touch.{Touch}
-use Rattle.replay_audit.proofs.Touching.{none_there, one_at, place_after, place_same}
+use Rattle.replay_audit.proofs.LowJudgement.{none_there, one_at, place_after, place_same}
 use Rattle.replay_audit.proofs.judgement.touch_at.Goals as goal
 
 abbrev no_touch : Touch

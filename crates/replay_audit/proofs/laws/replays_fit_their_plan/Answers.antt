@@ -1,4 +1,4 @@
-use Rattle.replay_audit.proofs.Fitting.{replay_fits_law}
+use Rattle.replay_audit.proofs.PlaySizes.{replay_fits_law}
 use Rattle.replay_audit.proofs.laws.replays_fit_their_plan.Goals as goal
 
 pub returns : goal.returns

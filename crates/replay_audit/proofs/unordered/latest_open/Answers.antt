@@ -8,7 +8,7 @@ use Rattle.replay_audit.specs.Unordered.{IsLatest}
 use Rattle.replay_audit.proofs.Scan.{latest_skip, latest_found}
 use Rattle.replay_audit.proofs.unordered.latest_open.Goals as goal
 use Rattle.replay_audit.proofs.unordered.latest_open.Goals.{then-is_open, else-is_open}
-use Rattle.conflict_edge.proofs.Steps.{stands_at}
+use Rattle.conflict_edge.proofs.ScanSteps.{stands_at}
 
 abbrev nothing : Access
 nothing = record { at = record { core = 0; count = 0 }; word = 0; kind = kinds.Load; before = 0; after = 0 }

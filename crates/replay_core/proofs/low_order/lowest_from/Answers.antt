@@ -1,7 +1,7 @@
 use Rattle.std.proofs.Common.{◌≡◌, ◌+◌, ◌-◌, ◌∙◌, suc, length, refl, sym, arith}
 use Rattle.replay_core.proofs.Sources.{lowest_on}
 use Rattle.replay_core.specs.Tallies.{count_of}
-use Rattle.replay_core.proofs.Lowering.{awaited_at, awaited_more, lowest_here, lowest_past}
+use Rattle.replay_core.proofs.LowestReady.{awaited_at, awaited_more, lowest_here, lowest_past}
 use Rattle.replay_core.proofs.low_order.lowest_from.Goals as goal
 
 pub loop-core-preserved : goal.loop-core-preserved

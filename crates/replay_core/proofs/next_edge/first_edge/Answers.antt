@@ -1,7 +1,7 @@
 use Rattle.std.proofs.Common.{ℕ, ltb, rules}
 use Rattle.std.proofs.lemmas.List.Sorted.{IsPartitionPoint-from_clause, IsPartitionedBy-ltb}
-use Rattle.race_log.proofs.Looked.{rising-falls_not}
-use Rattle.race_log.proofs.Rises.{no_edge, targets-rise}
+use Rattle.race_log.proofs.RisingSearch.{rising-falls_not}
+use Rattle.race_log.proofs.PairRises.{no_edge, targets-rise}
 use Rattle.replay_core.proofs.NextEdges.{next_at, next_first}
 use Rattle.replay_core.proofs.next_edge.first_edge.Goals as goal
 

@@ -1,6 +1,6 @@
 use Rattle.std.proofs.Common.{ℕ, Ok, Err, sym, rules}
 use Rattle.std.proofs.lemmas.List.Sorted.{answers_always}
-use Rattle.race_log.proofs.Looked.{searched}
+use Rattle.race_log.proofs.RisingSearch.{searched}
 use Rattle.replay_core.proofs.Values.{no_value, values_rise, value_found, value_absent}
 use Rattle.replay_core.proofs.replay.value_at.Goals as goal
 

@@ -1,6 +1,6 @@
 use Rattle.replay_table.proofs.Keeps.{see_keeps, load_keeps, hold_keeps, store_keeps, exchange_keeps, fail_keeps}
 use Rattle.replay_table.proofs.Keeps.{publish_keeps}
-use Rattle.replay_table.proofs.Moves.{split_keeps, join_keeps}
+use Rattle.replay_table.proofs.ViewCuts.{split_keeps, join_keeps}
 use Rattle.replay_table.proofs.laws.steps_keep_the_rule.Goals as goal
 
 pub returns : goal.returns

@@ -1,5 +1,5 @@
 use Rattle.std.proofs.Common.{arith}
-use Rattle.replay_threads.proofs.Dealing.{ids_same}
+use Rattle.replay_threads.proofs.DealtWorkers.{ids_same}
 use Rattle.replay_threads.proofs.groups.turns_of.Goals as goal
 
 pub returns : goal.returns

@@ -5,7 +5,7 @@ use Rattle.std.proofs.lemmas.Nat.{mod_below}
 use Rattle.race_log.specs.declared.recording.Recording.{Recording}
 use Rattle.replay_table.specs.Seats.{Sitting}
 use Rattle.replay_threads.specs.Groups.{Grouped, AreAt, AreGrouped, IsGivenTo}
-use Rattle.replay_threads.proofs.Dealing.{written, drop_next, first_get, grouped_more, at_more}
+use Rattle.replay_threads.proofs.DealtWorkers.{written, drop_next, first_get, grouped_more, at_more}
 use Rattle.replay_threads.proofs.joint.groups_of.Goals as goal
 
 pub loop-core-preserved : goal.loop-core-preserved

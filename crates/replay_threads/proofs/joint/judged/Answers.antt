@@ -2,7 +2,7 @@ use Rattle.std.proofs.Common.{subst}
 use Rattle.rtr_types.specs.declared.pairs.Which.{Which}
 use Rattle.race_log.specs.declared.recording.Recording.{Recording}
 use Rattle.replay_audit.specs.Determinate.{IsDeterminate}
-use Rattle.replay_threads.proofs.Ends.{end_ran}
+use Rattle.replay_threads.proofs.TurnEnds.{end_ran}
 use Rattle.replay_threads.proofs.joint.judged.Goals as goal
 
 pub returns : goal.returns

@@ -6,7 +6,7 @@ use Rattle.std.proofs.lemmas.Nat.{mod_below}
 use Rattle.replay_table.specs.Seats.{Sitting}
 use Rattle.replay_threads.specs.Groups.{Grouped, AllAt, AllDone, AreAt, AreGrouped, IsDone, IsGivenTo, ids_of}
 use Rattle.replay_threads.specs.Groups.{workers_at}
-use Rattle.replay_threads.proofs.Dealing.{written, range_more, all_cons, all_seats, at_less, some_last, taken_last}
+use Rattle.replay_threads.proofs.DealtWorkers.{written, range_more, all_cons, all_seats, at_less, some_last, taken_last}
 use Rattle.replay_threads.proofs.joint.seats_of.Goals as goal
 
 pub unreachable-requires : goal.unreachable-requires

@@ -1,7 +1,7 @@
 use Rattle.std.proofs.Common.{ℕ, List, length, sym, subst}
 use Rattle.replay_table.specs.Seats.{Sitting}
 use Rattle.replay_threads.specs.Groups.{Grouped, AllAt, AllDone, AreAt, AreGrouped, AreKept}
-use Rattle.replay_threads.proofs.Dealing.{all_groups, kept_grouped, written}
+use Rattle.replay_threads.proofs.DealtWorkers.{all_groups, kept_grouped, written}
 use Rattle.replay_threads.proofs.joint.worked.Goals as goal
 use Rattle.replay_threads.proofs.joint.worked.Given.{Over}
 use Rattle.replay_threads.proofs.joint.worked.Goals.{After-rounds}

@@ -6,7 +6,7 @@ use Rattle.rv_core.specs.declared.core_state.Core.{Core}
 use Rattle.rv_core.specs.Steps.{need, is_whole}
 use Rattle.replay_core.specs.Plans.{plan_of, recorded_image}
 use Rattle.replay_threads.specs.Turns.{Continues, HasRaced}
-use Rattle.replay_threads.proofs.Steps.{Retires, held_due, held_retires, held_fails, is_held}
+use Rattle.replay_threads.proofs.SeatSteps.{Retires, held_due, held_retires, held_fails, is_held}
 use Rattle.replay_threads.proofs.turns.exchange.Goals as goal
 use Rattle.replay_threads.proofs.turns.exchange.Given.{Over}
 use Rattle.replay_threads.proofs.turns.exchange.Goals.{After-hold_word, In-Ok, In-Err}

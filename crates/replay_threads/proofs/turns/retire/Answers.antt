@@ -2,7 +2,7 @@ use Rattle.std.proofs.Common.{ap, sym, ◌∙◌}
 use Rattle.rv_core.specs.declared.core_state.Need.{Need}
 use Rattle.rv_core.specs.Steps.{is_done}
 use Rattle.replay_core.specs.Plans.{plan_of, recorded_image}
-use Rattle.replay_threads.proofs.Steps.{Retires, local_retires, load_retires, short_ends}
+use Rattle.replay_threads.proofs.SeatSteps.{Retires, local_retires, load_retires, short_ends}
 use Rattle.replay_threads.proofs.turns.retire.Given.{Over}
 use Rattle.replay_threads.proofs.turns.retire.Goals as goal
 use Rattle.replay_threads.proofs.turns.retire.Goals.{After-load_word, After-local}

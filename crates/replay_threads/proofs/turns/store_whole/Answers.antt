@@ -1,5 +1,5 @@
 use Rattle.replay_core.specs.Plans.{plan_of, recorded_image}
-use Rattle.replay_threads.proofs.Steps.{Retires, store_retires}
+use Rattle.replay_threads.proofs.SeatSteps.{Retires, store_retires}
 use Rattle.replay_threads.proofs.turns.store_whole.Given.{Over}
 use Rattle.replay_threads.proofs.turns.store_whole.Goals as goal
 use Rattle.replay_threads.proofs.turns.store_whole.Goals.{After-store_word}

@@ -1,7 +1,7 @@
 use Rattle.std.proofs.Common.{refl, arith}
 use Rattle.replay_core.specs.Plans.{plan_of}
-use Rattle.replay_threads.proofs.Looking.{sees_most, sees_more}
-use Rattle.replay_threads.proofs.Steps.{see_looks}
+use Rattle.replay_threads.proofs.DoneLoads.{sees_most, sees_more}
+use Rattle.replay_threads.proofs.SeatSteps.{see_looks}
 use Rattle.replay_threads.proofs.waits.look.Goals as goal
 
 pub returns-clause-looks : goal.returns-clause-looks

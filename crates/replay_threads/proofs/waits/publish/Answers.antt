@@ -1,5 +1,5 @@
 use Rattle.replay_core.specs.Plans.{plan_of}
-use Rattle.replay_threads.proofs.Steps.{publish_looks, publish_same, publish_reached}
+use Rattle.replay_threads.proofs.SeatSteps.{publish_looks, publish_same, publish_reached}
 use Rattle.replay_threads.proofs.waits.publish.Goals as goal
 
 pub returns-clause-looks : goal.returns-clause-looks

@@ -1,4 +1,4 @@
-use Rattle.rtr_cli.proofs.Migrated.{migrated_reads_the_same, newest_stays}
+use Rattle.rtr_cli.proofs.MigratedReading.{migrated_reads_the_same, newest_stays}
 use Rattle.rtr_cli.proofs.laws.migrate_laws.Goals as goal
 
 pub returns : goal.returns

@@ -1,4 +1,4 @@
-use Rattle.run_records.proofs.Recording.{records_law}
+use Rattle.run_records.proofs.RecordedRun.{records_law}
 use Rattle.run_records.proofs.laws.every_run_is_recorded.Goals as goal
 
 pub returns : goal.returns

@@ -1,4 +1,4 @@
-use Rattle.run_replays.proofs.Decided.{reduced_decides, run_decides}
+use Rattle.run_replays.proofs.DecidingOrder.{reduced_decides, run_decides}
 use Rattle.run_replays.proofs.laws.retirement_decides.Goals as goal
 
 pub returns : goal.returns

@@ -1,4 +1,4 @@
-use Rattle.replay_table.proofs.Ends.{gather_table, gather_rest}
+use Rattle.replay_table.proofs.LastView.{gather_table, gather_rest}
 use Rattle.table_examples.proofs.seats.pair.Goals as goal
 
 pub returns : goal.returns

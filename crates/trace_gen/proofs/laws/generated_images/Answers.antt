@@ -1,5 +1,5 @@
 -- each word that is fetched
-use Rattle.trace_gen.proofs.Fetching.{fetches}
+use Rattle.trace_gen.proofs.FetchedWords.{fetches}
 use Rattle.trace_gen.proofs.laws.generated_images.Goals as goal
 
 pub returns-clause-fetch : goal.returns-clause-fetch

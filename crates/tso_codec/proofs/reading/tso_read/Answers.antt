@@ -3,7 +3,7 @@ use Rattle.log_codec.proofs.Wholes.{reads}
 use Rattle.tso_codec.specs.Reading.{parts_at, tso_at}
 use Rattle.tso_codec.specs.Spelling.{tso_spelling}
 use Rattle.tso_codec.specs.Validity.{IsTso}
-use Rattle.tso_codec.proofs.Whole.{laws}
+use Rattle.tso_codec.proofs.RecordingLaws.{laws}
 use Rattle.tso_codec.proofs.reading.tso_read.Goals as goal
 
 pub returns : goal.returns

@@ -1,5 +1,5 @@
 use Rattle.msi_laws.proofs.Final.{final_current}
-use Rattle.tso_invariant.proofs.Ending.{links_left}
+use Rattle.tso_invariant.proofs.DoneMachine.{links_left}
 use Rattle.tso_data.proofs.laws.the_end_has_the_memory.Goals as goal
 
 pub returns : goal.returns

@@ -1,4 +1,4 @@
-use Rattle.tso_machine_examples.proofs.Accepting.{all_accepted}
+use Rattle.tso_machine_examples.proofs.AcceptedTells.{all_accepted}
 use Rattle.tso_machine_examples.proofs.run_tests.every_core_that_there_may_be_adds_to_one_word.Goals as goal
 
 pub step-taken-requires-clause-accepts : goal.step-taken-requires-clause-accepts

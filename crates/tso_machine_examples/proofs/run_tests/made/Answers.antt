@@ -1,4 +1,4 @@
-use Rattle.tso_machine_examples.proofs.Accepting.{all_accepted}
+use Rattle.tso_machine_examples.proofs.AcceptedTells.{all_accepted}
 use Rattle.tso_machine_examples.proofs.run_tests.made.Goals as goal
 
 pub step-taken-requires-clause-accepts : goal.step-taken-requires-clause-accepts

@@ -1,4 +1,4 @@
-use Rattle.tso_outcome.proofs.Turns.{told_loads_law}
+use Rattle.tso_outcome.proofs.RunPlaces.{told_loads_law}
 use Rattle.tso_outcome.proofs.laws.a_run_is_told_whole.Goals as goal
 
 pub returns : goal.returns

@@ -5,9 +5,9 @@ use Rattle.std.proofs.lemmas.List.{length-map}
 use Rattle.std.proofs.lemmas.Simd.{map-map}
 use Rattle.std.specs.Prelude.{slice_index}
 use Rattle.image_mem.specs.Contents.{Contents}
-use Rattle.run_steps.proofs.Starts.{under_way}
+use Rattle.run_steps.proofs.RunStart.{under_way}
 use Rattle.rv_core.specs.declared.core_state.Core.{Core}
-use Rattle.tso_recordings.proofs.Logged.{logged_law}
+use Rattle.tso_recordings.proofs.LoggedLoads.{logged_law}
 use Rattle.tso_recordings.proofs.Schedules.{held, replayed}
 use Rattle.tso_recordings.specs.Schedules.{tso_order_of, tso_recording_of}
 use Rattle.tso_codec.specs.declared.recording.TsoRecording.{TsoRecording}
@@ -15,9 +15,10 @@ use Rattle.tso_outcome.specs.Outcomes.{tso_outcome_of}
 use Rattle.tso_recordings.specs.Recordings.{CanRun}
 use Rattle.tso_state.specs.States.{BufferedCore}
 use Rattle.tso_replay.specs.Laws.{ReplaysTold}
-use Rattle.tso_words.proofs.Opening.{opens_small}
+use Rattle.tso_words.proofs.ByteWords.{opens_small}
 use Rattle.tso_record.specs.Promises.{IsTsoRecordingOf}
-use Rattle.tso_record.proofs.Standing.{lists_are, recording_made, records_same, records_start, totals_are, values_are}
+use Rattle.tso_record.proofs.RecordedPlaces.{lists_are, recording_made, records_same, records_start}
+use Rattle.tso_record.proofs.RecordedPlaces.{totals_are, values_are}
 use Rattle.tso_record.proofs.run.tso_record_image.Goals as goal
 
 pub run_to_end-requires-clause-under_way : goal.run_to_end-requires-clause-under_way

@@ -1,4 +1,4 @@
-use Rattle.tso_recordings.proofs.Logged.{logged_law}
+use Rattle.tso_recordings.proofs.LoggedLoads.{logged_law}
 use Rattle.tso_recordings.proofs.laws.the_values_are_the_logged_loads.Goals as goal
 
 pub returns : goal.returns

@@ -1,4 +1,4 @@
-use Rattle.tso_records.proofs.Runs.{next_told}
+use Rattle.tso_records.proofs.TimedRuns.{next_told}
 use Rattle.tso_records.proofs.laws.what_is_told_is_awaited.Goals as goal
 
 pub returns : goal.returns

@@ -1,10 +1,10 @@
 use Rattle.std.proofs.Common.{ap, map, sym, ◌∙◌}
 use Rattle.std.proofs.lemmas.List.{length-map}
-use Rattle.run_steps.proofs.Starts.{under_way}
+use Rattle.run_steps.proofs.RunStart.{under_way}
 use Rattle.run_steps.specs.Ends.{outcome_with}
-use Rattle.tso_outcome.proofs.Turns.{outcome_is, stands_start}
+use Rattle.tso_outcome.proofs.RunPlaces.{outcome_is, stands_start}
 use Rattle.tso_plain.specs.Plain.{plain}
-use Rattle.tso_plain.proofs.Steps.{plain_done}
+use Rattle.tso_plain.proofs.ForgetfulSteps.{plain_done}
 use Rattle.tso_state.specs.States.{BufferedCore}
 use Rattle.tso_run.proofs.run.tso_run.Goals as goal
 

@@ -1,7 +1,7 @@
 use Rattle.machine_times.specs.TimedSteps.{times_parts}
 use Rattle.machine_times.proofs.RiderLaws.{times_absorb, times_fresh}
-use Rattle.tso_times.proofs.Begins.{buffered_start}
-use Rattle.tso_times.proofs.Timed.{finds_exact, timed_step}
+use Rattle.tso_times.proofs.NoAccessYet.{buffered_start}
+use Rattle.tso_times.proofs.MoveTimes.{finds_exact, timed_step}
 use Rattle.tso_times.proofs.laws.timed_steps.Goals as goal
 
 pub returns-clause-stands : goal.returns-clause-stands

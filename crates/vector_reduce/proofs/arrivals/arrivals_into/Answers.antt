@@ -2,7 +2,7 @@ use Rattle.std.proofs.Common.{rules, List, sym, subst}
 use Rattle.std.proofs.lemmas.List.Sorted.{IsNonDecreasingBy-from_sort_by_key}
 use Rattle.vector_reduce.specs.declared.arrivals.Arrival.{Arrival}
 use Rattle.vector_reduce.specs.Arrivals.{AreInto}
-use Rattle.vector_reduce.proofs.Gathered.{Gathers, are_into, gathers_none}
+use Rattle.vector_reduce.proofs.GatheredEdges.{Gathers, are_into, gathers_none}
 use Rattle.vector_reduce.proofs.arrivals.arrivals_into.Goals as goal
 
 pub loop-number-init : goal.loop-number-init

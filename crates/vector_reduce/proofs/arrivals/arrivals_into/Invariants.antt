@@ -1,4 +1,4 @@
-use Rattle.vector_reduce.proofs.Gathered.{Gathers}
+use Rattle.vector_reduce.proofs.GatheredEdges.{Gathers}
 use Rattle.vector_reduce.proofs.arrivals.arrivals_into.Given as goal
 
 abbrev pub invariant-loop-number : goal.invariant-loop-number

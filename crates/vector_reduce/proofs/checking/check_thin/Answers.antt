@@ -3,7 +3,7 @@ use Rattle.std.specs.Prelude.{Option}
 use Rattle.std.proofs.lemmas.Result.{err_from_is_err_and}
 use Rattle.vector_reduce.specs.Showing.{FirstNotShown}
 use Rattle.vector_reduce.specs.Vectors.{vectors_of}
-use Rattle.vector_reduce.proofs.Judged.{accepted, audit_complete, audited_is, not_accepted, shown_is_accepted}
+use Rattle.vector_reduce.proofs.CheckAnswers.{accepted, audit_complete, audited_is, not_accepted, shown_is_accepted}
 use Rattle.vector_reduce.proofs.checking.check_thin.Goals as goal
 
 pub returns-in_err-audit-clause-complete : goal.returns-in_err-audit-clause-complete

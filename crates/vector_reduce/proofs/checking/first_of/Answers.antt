@@ -5,8 +5,8 @@ use Rattle.vector_reduce.specs.declared.thinned.Shown.{Shown}
 use Rattle.vector_reduce.specs.Arrivals.{AreBetween}
 use Rattle.vector_reduce.specs.Showing.{FirstNotShown}
 use Rattle.vector_reduce.specs.Vectors.{vectors_of}
-use Rattle.vector_reduce.proofs.Judged.{first_fits}
-use Rattle.vector_reduce.proofs.Keeping.{between_more, few_in_all, vectors_between}
+use Rattle.vector_reduce.proofs.CheckAnswers.{first_fits}
+use Rattle.vector_reduce.proofs.KeptVectors.{between_more, few_in_all, vectors_between}
 use Rattle.vector_reduce.proofs.checking.first_of.Goals as goal
 
 pub first_not_shown-requires-clause-between : goal.first_not_shown-requires-clause-between

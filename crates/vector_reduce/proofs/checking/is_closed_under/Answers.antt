@@ -1,7 +1,7 @@
 use Rattle.std.proofs.Common.{refl, sym, subst}
 use Rattle.rtr_types.specs.declared.instr.Edge.{Edge}
 use Rattle.vector_reduce.specs.Cuts.{Holds, counts_in}
-use Rattle.vector_reduce.proofs.Checked.{last_decides, none_within}
+use Rattle.vector_reduce.proofs.CheckedCuts.{last_decides, none_within}
 use Rattle.vector_reduce.proofs.checking.is_closed_under.Goals as goal
 
 pub returns-then-most-vector : goal.returns-then-most-vector

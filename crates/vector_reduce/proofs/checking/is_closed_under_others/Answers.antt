@@ -1,5 +1,5 @@
 use Rattle.std.proofs.Common.{refl, arith}
-use Rattle.vector_reduce.proofs.Checked.{closed_more, closed_others, others_closed}
+use Rattle.vector_reduce.proofs.CheckedCuts.{closed_more, closed_others, others_closed}
 use Rattle.vector_reduce.proofs.checking.is_closed_under_others.Goals as goal
 
 pub returns-then-not-is_closed_unless : goal.returns-then-not-is_closed_unless

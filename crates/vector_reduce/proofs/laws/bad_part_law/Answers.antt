@@ -1,4 +1,4 @@
-use Rattle.vector_reduce.proofs.Named as parts
+use Rattle.vector_reduce.proofs.PartNames as parts
 use Rattle.vector_reduce.proofs.laws.bad_part_law.Goals as goal
 
 pub returns : goal.returns

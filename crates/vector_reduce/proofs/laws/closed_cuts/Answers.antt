@@ -1,4 +1,4 @@
-use Rattle.vector_reduce.proofs.Cutting.{closed_holds, cut_shows}
+use Rattle.vector_reduce.proofs.ClosedCuts.{closed_holds, cut_shows}
 use Rattle.vector_reduce.proofs.laws.closed_cuts.Goals as goal
 
 pub returns : goal.returns

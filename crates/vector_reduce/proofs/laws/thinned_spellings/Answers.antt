@@ -1,4 +1,4 @@
-use Rattle.vector_reduce.proofs.Whole as whole
+use Rattle.vector_reduce.proofs.ThinFileLaws as whole
 use Rattle.vector_reduce.proofs.laws.thinned_spellings.Goals as goal
 
 pub returns : goal.returns

@@ -3,7 +3,7 @@ use Rattle.log_codec.proofs.Wholes.{reads}
 use Rattle.vector_reduce.specs.Reading.{parts_at, thinned_at}
 use Rattle.vector_reduce.specs.Spelling.{Spells}
 use Rattle.vector_reduce.specs.Validity.{IsThin}
-use Rattle.vector_reduce.proofs.Whole.{read_is_spelled, spelled_is_read}
+use Rattle.vector_reduce.proofs.ThinFileLaws.{read_is_spelled, spelled_is_read}
 use Rattle.vector_reduce.proofs.reading.read_thin.Goals as goal
 
 pub returns : goal.returns

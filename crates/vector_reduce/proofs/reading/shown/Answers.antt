@@ -1,7 +1,7 @@
 use Rattle.std.proofs.Common.{◌≡◌, ℕ, List, length, ap, ◌∙◌}
 use Rattle.rtr_types.specs.Turns.{stay, count_up}
 use Rattle.log_codec.specs.Turns.{read_in_turn}
-use Rattle.part_lists.proofs.Turns.{read_alike}
+use Rattle.part_lists.proofs.ItemsInTurn.{read_alike}
 use Rattle.vector_reduce.specs.Reading.{one_at, shown_in}
 use Rattle.vector_reduce.specs.declared.pair_vector.PairVector.{PairVector}
 use Rattle.vector_reduce.proofs.Parts.{few_totals}

@@ -1,4 +1,4 @@
-use Rattle.vector_reduce.proofs.Assembled.{left_needed}
+use Rattle.vector_reduce.proofs.ThinnedLog.{left_needed}
 use Rattle.vector_reduce.proofs.thinning.left_of.Goals as goal
 
 pub shown_of-requires-clause-needed : goal.shown_of-requires-clause-needed

@@ -1,8 +1,8 @@
 use Rattle.std.proofs.Common.{List, ap, inl, inr, length, ◌∙◌, arith}
 use Rattle.std.specs.Prelude.{sum_by}
 use Rattle.stride_vector.specs.declared.StrideVector.{StrideVector}
-use Rattle.vector_reduce.proofs.Assembled.{few_enough, too_many}
-use Rattle.vector_reduce.proofs.Keeping.{vectors_fit}
+use Rattle.vector_reduce.proofs.ThinnedLog.{few_enough, too_many}
+use Rattle.vector_reduce.proofs.KeptVectors.{vectors_fit}
 use Rattle.vector_reduce.proofs.thinning.refused.Goals as goal
 use Rattle.vector_reduce.proofs.thinning.refused.Goals.{
   then-vectors-gt-VECTORS_MAX-via-then-vectors-gt-VECTORS_MAX,

@@ -5,7 +5,7 @@ use Rattle.race_log.specs.declared.recording.Recording.{Recording}
 use Rattle.vector_reduce.specs.declared.answers.ThinFault.{ThinFault}
 use Rattle.vector_reduce.specs.Answers.{AreFew, IsRefusedFor}
 use Rattle.vector_reduce.specs.Kept.{IsShownLeft}
-use Rattle.vector_reduce.proofs.Assembled.{determinate_of, few_not_many, refused_is, thinning_of}
+use Rattle.vector_reduce.proofs.ThinnedLog.{determinate_of, few_not_many, refused_is, thinning_of}
 use Rattle.vector_reduce.proofs.thinning.thin.Goals as goal
 
 -- what the counts said

@@ -6,8 +6,8 @@ use Rattle.vector_reduce.specs.declared.pair_vector.PairVector.{PairVector}
 use Rattle.vector_reduce.specs.Kept.{IsKeptOf, IsLeftOf, kept}
 use Rattle.vector_reduce.specs.Thinning.{IsThinned}
 use Rattle.vector_reduce.specs.Vectors.{vectors_of}
-use Rattle.vector_reduce.proofs.Assembled.{left_of_kept}
-use Rattle.vector_reduce.proofs.Keeping.{vectors_counted}
+use Rattle.vector_reduce.proofs.ThinnedLog.{left_of_kept}
+use Rattle.vector_reduce.proofs.KeptVectors.{vectors_counted}
 use Rattle.vector_reduce.proofs.thinning.without_implied.Goals as goal
 
 pub kept_of-requires : goal.kept_of-requires

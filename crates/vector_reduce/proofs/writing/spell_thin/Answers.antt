@@ -1,5 +1,5 @@
 use Rattle.rtr_types.specs.Turns.{stay}
-use Rattle.part_lists.proofs.Turns.{spelled_alike}
+use Rattle.part_lists.proofs.ItemsInTurn.{spelled_alike}
 use Rattle.vector_reduce.specs.Spelling.{one_text, spelling}
 use Rattle.vector_reduce.proofs.Parts.{shown_few}
 use Rattle.vector_reduce.proofs.writing.spell_thin.Goals as goal

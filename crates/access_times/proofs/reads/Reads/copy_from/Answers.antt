@@ -1,7 +1,7 @@
 use Rattle.std.proofs.Common.{◌∙◌, sym, subst, ◌<◌}
 use Rattle.std.proofs.lemmas.List.{length-set}
 use Rattle.rtr_types.specs.declared.core_set.CoreSet.{CoreSet}
-use Rattle.access_times.proofs.Kept.{copied, all_seen, fewer, view_same}
+use Rattle.access_times.proofs.KeptReads.{copied, all_seen, fewer, view_same}
 use Rattle.access_times.proofs.reads.Reads.copy_from.Goals as goal
 
 pub returns : goal.returns

@@ -1,6 +1,6 @@
 use Rattle.std.proofs.Common.{◌≡◌, length}
 use Rattle.rtr_types.specs.declared.TheConstants.{CORES_MAX}
-use Rattle.access_times.proofs.Kept.{Filling, read_of}
+use Rattle.access_times.proofs.KeptReads.{Filling, read_of}
 use Rattle.access_times.proofs.reads.Reads.copy_from.Given as goal
 
 abbrev pub invariant-loop-other : goal.invariant-loop-other

@@ -1,7 +1,7 @@
 use Rattle.std.proofs.Common.{◌∙◌, sym, ap, List, Option, ℕ}
 use Rattle.clock_core.specs.declared.clock.Clock.{Clock}
 use Rattle.access_times.specs.Times.{read_in}
-use Rattle.access_times.proofs.Kept.{read_there, read_absent}
+use Rattle.access_times.proofs.KeptReads.{read_there, read_absent}
 use Rattle.access_times.proofs.reads.Reads.get.Goals as goal
 
 pub returns-then-has : goal.returns-then-has

@@ -4,7 +4,7 @@ use Rattle.rtr_types.specs.CoreSets.{is_none}
 use Rattle.clock_core.specs.declared.clock.Clock.{Clock}
 use Rattle.access_times.specs.Reads.{reads_kept}
 use Rattle.access_times.specs.Times.{reads_absorbed}
-use Rattle.access_times.proofs.Kept.{absorbs_none}
+use Rattle.access_times.proofs.KeptReads.{absorbs_none}
 use Rattle.access_times.proofs.reads.Reads.learn_nothing_from.Goals as goal
 
 pub returns : goal.returns

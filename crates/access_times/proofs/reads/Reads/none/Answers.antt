@@ -1,4 +1,4 @@
-use Rattle.access_times.proofs.Kept.{kept_none}
+use Rattle.access_times.proofs.KeptReads.{kept_none}
 use Rattle.access_times.proofs.reads.Reads.none.Goals as goal
 
 pub returns : goal.returns

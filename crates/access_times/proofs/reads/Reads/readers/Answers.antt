@@ -2,7 +2,7 @@ use Rattle.std.proofs.Common.{◌∙◌, ap, List, Option, ℕ}
 use Rattle.std.specs.Option.{is_some}
 use Rattle.clock_core.specs.declared.clock.Clock.{Clock}
 use Rattle.access_times.specs.Times.{read_in}
-use Rattle.access_times.proofs.Kept.{reader_of}
+use Rattle.access_times.proofs.KeptReads.{reader_of}
 use Rattle.access_times.proofs.reads.Reads.readers.Goals as goal
 
 pub returns : goal.returns

@@ -1,6 +1,6 @@
 use Rattle.std.proofs.Common.{◌∙◌, sym, ap, List, Option, Some, ℕ, length, slice_set}
 use Rattle.clock_core.specs.declared.clock.Clock.{Clock}
-use Rattle.access_times.proofs.Kept.{kept_set, length-kept}
+use Rattle.access_times.proofs.KeptReads.{kept_set, length-kept}
 use Rattle.access_times.proofs.reads.Reads.set.Goals as goal
 
 pub returns-clause-reads : goal.returns-clause-reads

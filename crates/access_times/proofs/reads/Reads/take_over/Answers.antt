@@ -8,8 +8,8 @@ use Rattle.access_times.specs.Reads.{reads_kept}
 use Rattle.std.proofs.lemmas.List.{length-set}
 use Rattle.rtr_types.specs.CoreSets.{has}
 use Rattle.rtr_types.specs.declared.core_set.CoreSet.{CoreSet}
-use Rattle.access_times.proofs.Kept.{all_seen, fewer, view_by, read_of, taken, stays, is_mine, if_true, if_false}
-use Rattle.access_times.proofs.Kept.{ends_by}
+use Rattle.access_times.proofs.KeptReads.{all_seen, fewer, view_by, read_of, taken, stays, is_mine, if_true, if_false}
+use Rattle.access_times.proofs.KeptReads.{ends_by}
 use Rattle.access_times.proofs.reads.Reads.take_over.Goals as goal
 
 pub returns : goal.returns

@@ -2,7 +2,7 @@ use Rattle.std.proofs.Common.{◌≡◌, length, true}
 use Rattle.rtr_types.specs.CoreSets.{has}
 use Rattle.rtr_types.specs.declared.TheConstants.{CORES_MAX}
 use Rattle.access_times.specs.Times.{newer_by}
-use Rattle.access_times.proofs.Kept.{Filling, read_of}
+use Rattle.access_times.proofs.KeptReads.{Filling, read_of}
 use Rattle.access_times.proofs.reads.Reads.take_over.Given as goal
 
 abbrev pub invariant-loop-other : goal.invariant-loop-other

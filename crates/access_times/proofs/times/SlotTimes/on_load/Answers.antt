@@ -1,7 +1,7 @@
 use Rattle.std.proofs.Common.{◌∙◌, ap, List, Option, ℕ}
 use Rattle.clock_core.specs.declared.clock.Clock.{Clock}
 use Rattle.access_times.specs.declared.times.SlotTimes.{SlotTimes}
-use Rattle.access_times.proofs.Filled.{read_set}
+use Rattle.access_times.proofs.FilledTimes.{read_set}
 use Rattle.access_times.proofs.times.SlotTimes.on_load.Goals as goal
 
 pub returns : goal.returns

@@ -4,7 +4,7 @@ use Rattle.std.proofs.lemmas.List.{get_or_default}
 use Rattle.rtr_types.specs.declared.TheConstants.{BLOCK_WORDS}
 use Rattle.access_times.specs.declared.times.SlotTimes.{SlotTimes}
 use Rattle.access_times.specs.Times.{missing_slot, slot_loaded}
-use Rattle.access_times.proofs.Filled.{load_set}
+use Rattle.access_times.proofs.FilledTimes.{load_set}
 use Rattle.access_times.proofs.times.Times.on_load.Goals as goal
 
 pub returns : goal.returns

@@ -1,7 +1,7 @@
 use Rattle.std.proofs.Common.{arith, ◌≡◌, length}
 use Rattle.std.proofs.lemmas.Grind.{common_steps}
 use Rattle.rtr_types.specs.declared.TheConstants.{BLOCK_WORDS}
-use Rattle.access_times.proofs.Filled.{store_set}
+use Rattle.access_times.proofs.FilledTimes.{store_set}
 use Rattle.access_times.proofs.times.Times.on_store.Goals as goal
 
 pub returns : goal.returns

@@ -1,5 +1,5 @@
 use Rattle.std.proofs.Common.{arith}
-use Rattle.access_times.proofs.Filled.{slots_filled}
+use Rattle.access_times.proofs.FilledTimes.{slots_filled}
 use Rattle.access_times.proofs.times.TimesRider.absorb.Goals as goal
 
 pub returns : goal.returns

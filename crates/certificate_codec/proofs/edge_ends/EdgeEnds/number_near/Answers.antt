@@ -1,6 +1,6 @@
 use Rattle.std.specs.Prelude.{slice_index}
 use Rattle.certificate_codec.specs.Ends.{reduced_edges}
-use Rattle.certificate_codec.proofs.Numbered.{number_is}
+use Rattle.certificate_codec.proofs.EndNumbers.{number_is}
 use Rattle.certificate_codec.proofs.edge_ends.EdgeEnds.number_near.Goals as goal
 
 pub returns-in-Some : goal.returns-in-Some

@@ -1,7 +1,7 @@
 use Rattle.std.proofs.Common.{◌≡◌, ◌∙◌, ◌<◌, ap, sym, subst, List, ℕ, length, get_or}
 use Rattle.race_log.specs.declared.recording.Recording.{Recording}
 use Rattle.certificate_codec.specs.Ends.{HasEnds}
-use Rattle.certificate_codec.proofs.Ends.{ends_of_one, length-ends_in}
+use Rattle.certificate_codec.proofs.EdgeEndLists.{ends_of_one, length-ends_in}
 use Rattle.certificate_codec.proofs.edge_ends.EdgeEnds.of_core.Goals as goal
 
 pub bounds-as_slice-core : goal.bounds-as_slice-core

@@ -1,5 +1,5 @@
 use Rattle.std.proofs.Common.{◌∙◌, sym, arith}
-use Rattle.clock_core.proofs.Merging.{merged_is}
+use Rattle.clock_core.proofs.MergedClocks.{merged_is}
 use Rattle.clock_core.proofs.clock.Clock.join.Goals as goal
 
 pub returns-clause-value : goal.returns-clause-value

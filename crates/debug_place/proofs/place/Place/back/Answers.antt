@@ -5,7 +5,7 @@ use Rattle.race_log.specs.Validity.{Valid}
 use Rattle.cut_replay.specs.ClosedCuts.{IsClosed, IsContained}
 use Rattle.debug_place.specs.Backs.{way_back}
 use Rattle.debug_place.specs.Places.{Placed, cut_at}
-use Rattle.debug_place.proofs.Backing.{came_back, notes_here}
+use Rattle.debug_place.proofs.StateAtStop.{came_back, notes_here}
 use Rattle.debug_place.proofs.OwnCuts.{told_own}
 use Rattle.debug_place.proofs.place.Place.back.Goals as goal
 

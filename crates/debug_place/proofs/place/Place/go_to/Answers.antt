@@ -11,7 +11,7 @@ use Rattle.debug_place.specs.Places.{IsReplayAt, Placed, cut_at}
 use Rattle.debug_place.specs.Stops.{GoesOn}
 use Rattle.debug_place.specs.Walks.{EndsWalk}
 use Rattle.debug_place.proofs.OwnCuts.{told_own}
-use Rattle.debug_place.proofs.Stopping.{at_walked, walk_wanted}
+use Rattle.debug_place.proofs.StopTest.{at_walked, walk_wanted}
 use Rattle.debug_place.proofs.place.Place.go_to.Goals as goal
 
 pub go_until-requires-clause-at : goal.go_until-requires-clause-at

@@ -12,9 +12,9 @@ use Rattle.edge_regulate.specs.Awaiting.{IsAwaited, newest, none_awaited, up_to}
 use Rattle.edge_regulate.specs.Greedy.{Knows, told}
 use Rattle.edge_regulate.specs.Regulated.{IsGrowing, Regulation, end_target}
 use Rattle.edge_regulate.specs.Seats.{Following, Follows}
-use Rattle.edge_regulate.proofs.Following.{Holds, IsPut, edge_before, edge_ends, edge_follows, held_by}
-use Rattle.edge_regulate.proofs.Following.{seat_was, seated, step_new, step_on}
-use Rattle.edge_regulate.proofs.Growing.{told_ends}
+use Rattle.edge_regulate.proofs.AwaitedAfterEach.{Holds, IsPut, edge_before, edge_ends, edge_follows, held_by}
+use Rattle.edge_regulate.proofs.AwaitedAfterEach.{seat_was, seated, step_new, step_on}
+use Rattle.edge_regulate.proofs.NewestVector.{told_ends}
 use Rattle.edge_regulate.proofs.Rooms.{growing_at, growing_more, growing_on, length-items, long_more}
 use Rattle.edge_regulate.proofs.regulator.Regulator.edge.Goals as goal
 use Rattle.edge_regulate.proofs.regulator.Regulator.edge.Goals.{After-awaited, After-set_last}

@@ -2,7 +2,7 @@ use Rattle.std.proofs.Common.{◌≡◌, ℕ, List, [], replicate, refl, ap, ◌
 use Rattle.stride_vector.specs.declared.StrideVector.{StrideVector}
 use Rattle.know_history.specs.Notes.{no_notes}
 use Rattle.edge_regulate.specs.Seats.{no_seat}
-use Rattle.edge_regulate.proofs.Following.{follows_start}
+use Rattle.edge_regulate.proofs.AwaitedAfterEach.{follows_start}
 use Rattle.edge_regulate.proofs.Rooms.{begun}
 use Rattle.edge_regulate.proofs.regulator.Regulator.new.Goals as goal
 

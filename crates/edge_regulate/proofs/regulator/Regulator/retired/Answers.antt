@@ -5,7 +5,7 @@ use Rattle.know_history.specs.Knowledge.{count_in}
 use Rattle.edge_regulate.specs.declared.seat.Seat.{Seat}
 use Rattle.edge_regulate.specs.Awaiting.{watched}
 use Rattle.edge_regulate.specs.Seats.{Following, Follows, awaited_at, no_seat, seat_at}
-use Rattle.edge_regulate.proofs.Following.{follows_looked, follows_quiet, held_by, seat_was}
+use Rattle.edge_regulate.proofs.AwaitedAfterEach.{follows_looked, follows_quiet, held_by, seat_was}
 use Rattle.edge_regulate.proofs.regulator.Regulator.retired.Goals as goal
 use Rattle.edge_regulate.proofs.regulator.Regulator.retired.Goals.{then-awaits, else-awaits}
 

@@ -1,5 +1,5 @@
 use Rattle.std.proofs.Common.{ℕ, arith}
-use Rattle.edge_regulate.proofs.Looking.{looking_next}
+use Rattle.edge_regulate.proofs.SeatSources.{looking_next}
 use Rattle.edge_regulate.proofs.seat.Seat.look.Goals as goal
 use Rattle.edge_regulate.proofs.seat.Seat.look.Goals.{then-target-next, else-target-next}
 

@@ -1,4 +1,4 @@
-use Rattle.edge_regulate.proofs.Looking.{Looking}
+use Rattle.edge_regulate.proofs.SeatSources.{Looking}
 use Rattle.edge_regulate.proofs.seat.Seat.look.Given as goal
 
 -- the sources before this one were looked at

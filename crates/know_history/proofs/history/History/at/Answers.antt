@@ -5,7 +5,7 @@ use Rattle.know_history.specs.declared.changes.Change.{Change}
 use Rattle.know_history.specs.Changes.{changes_at, known_by, newest_at}
 use Rattle.know_history.specs.Notes.{Notes, known_at, noted_count}
 use Rattle.know_history.proofs.OneList.{sorted}
-use Rattle.know_history.proofs.Noted.{core_within, count_is, known_is, list_there}
+use Rattle.know_history.proofs.HistoryNotes.{core_within, count_is, known_is, list_there}
 use Rattle.know_history.proofs.history.History.at.Goals as goal
 
 -- the list that was looked into

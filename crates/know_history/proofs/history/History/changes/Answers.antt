@@ -4,7 +4,7 @@ use Rattle.roomy_lists.specs.Lists.{items_at, items_in}
 use Rattle.know_history.specs.declared.history.Newest.{Newest}
 use Rattle.know_history.specs.Changes.{no_newest}
 use Rattle.know_history.specs.Notes.{Notes, change_count}
-use Rattle.know_history.proofs.Noted.{changes_are, changes_few, core_within, list_there}
+use Rattle.know_history.proofs.HistoryNotes.{changes_are, changes_few, core_within, list_there}
 use Rattle.know_history.proofs.history.History.changes.Goals as goal
 
 pub list-changes-requires : goal.list-changes-requires

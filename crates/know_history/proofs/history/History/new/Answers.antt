@@ -1,7 +1,7 @@
 use Rattle.std.proofs.Common.{◌≡◌, ◌∙◌, ap, arith, ℕ}
 use Rattle.std.specs.Prelude.{replicate}
 use Rattle.know_history.specs.Changes.{no_newest}
-use Rattle.know_history.proofs.Noted.{notes_none}
+use Rattle.know_history.proofs.HistoryNotes.{notes_none}
 use Rattle.know_history.proofs.history.History.new.Goals as goal
 
 pub returns : goal.returns

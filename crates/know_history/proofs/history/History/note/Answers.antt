@@ -1,7 +1,7 @@
 use Rattle.std.proofs.Common.{ap, refl, arith}
 use Rattle.roomy_lists.specs.Lists.{items_in}
 use Rattle.know_history.proofs.Places.{length-items}
-use Rattle.know_history.proofs.Noted.{core_within, holds_more, is_noted_as, one_more}
+use Rattle.know_history.proofs.HistoryNotes.{core_within, holds_more, is_noted_as, one_more}
 use Rattle.know_history.proofs.history.History.note.Goals as goal
 
 pub index_mut-newest-requires : goal.index_mut-newest-requires

@@ -1,7 +1,7 @@
 use Rattle.std.proofs.Common.{◌∙◌, List, None, ap, sym, subst}
 use Rattle.rtr_types.specs.declared.access.Access.{Access}
 use Rattle.min_certificate.specs.Conflicting.{IsAccessAt, IsPlaceOf, place_in}
-use Rattle.min_certificate.proofs.Indexed.{access_got, access_none, placed_in}
+use Rattle.min_certificate.proofs.AccessPlaces.{access_got, access_none, placed_in}
 use Rattle.min_certificate.proofs.core_accesses.CoreAccesses.find.Goals as goal
 
 pub returns-then-place-eq0 : goal.returns-then-place-eq0

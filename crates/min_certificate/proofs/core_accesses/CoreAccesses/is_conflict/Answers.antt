@@ -1,4 +1,4 @@
-use Rattle.min_certificate.proofs.Indexed.{both_conflict, no_first, no_second}
+use Rattle.min_certificate.proofs.AccessPlaces.{both_conflict, no_first, no_second}
 use Rattle.min_certificate.proofs.core_accesses.CoreAccesses.is_conflict.Goals as goal
 
 pub returns-in-Some-find : goal.returns-in-Some-find

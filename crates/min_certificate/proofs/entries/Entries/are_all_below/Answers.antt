@@ -5,7 +5,7 @@ use Rattle.clock_core.specs.Order.{Among}
 use Rattle.certificate_codec.specs.declared.certificate.Certificate.{Certificate}
 use Rattle.min_certificate.specs.Places.{entry_in}
 use Rattle.min_certificate.proofs.First.{edge_at, holds_more, holds_all}
-use Rattle.min_certificate.proofs.Looked.{is_below_in}
+use Rattle.min_certificate.proofs.LookedUpEntries.{is_below_in}
 use Rattle.min_certificate.proofs.entries.Entries.are_all_below.Goals as goal
 
 abbrev Below : Certificate → Instr → Instr → Type 0

@@ -1,7 +1,7 @@
 use Rattle.std.proofs.Common.{ℕ, ◌≤◌}
 use Rattle.std.specs.Prelude.{slice_index}
 use Rattle.min_certificate.specs.Places.{entry_in}
-use Rattle.min_certificate.proofs.Looked.{all_sources}
+use Rattle.min_certificate.proofs.LookedUpEntries.{all_sources}
 use Rattle.min_certificate.proofs.entries.Entries.are_sources_below.Goals as goal
 
 pub returns : goal.returns

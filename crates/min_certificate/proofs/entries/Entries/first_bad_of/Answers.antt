@@ -5,7 +5,7 @@ use Rattle.certificate_codec.specs.Ends.{reduced_edges}
 use Rattle.certificate_codec.specs.declared.certificate.Certificate.{Certificate}
 use Rattle.min_certificate.proofs.First.{IsListed, end_in_list, end_number, number_before, bad_at, all_good}
 use Rattle.min_certificate.proofs.First.{number_fits}
-use Rattle.min_certificate.proofs.Looked.{sources_below}
+use Rattle.min_certificate.proofs.LookedUpEntries.{sources_below}
 use Rattle.min_certificate.proofs.entries.Entries.first_bad_of.Goals as goal
 use Rattle.min_certificate.proofs.entries.Entries.first_bad_of.Goals.{After-entry_at-here}
 

@@ -1,7 +1,7 @@
 use Rattle.std.proofs.Common.{inl, inr, ◌≡◌, ◌≢◌, ◌<◌, subst, arith}
 use Rattle.std.proofs.lemmas.Bool.{cases_lt}
 use Rattle.min_certificate.specs.Places.{entry_in, IsUnknownThere}
-use Rattle.min_certificate.proofs.Looked.{all_sources, own_known}
+use Rattle.min_certificate.proofs.LookedUpEntries.{all_sources, own_known}
 use Rattle.min_certificate.proofs.entries.Entries.is_unknown_by_others.Goals as goal
 use Rattle.min_certificate.proofs.entries.Entries.is_unknown_by_others.Goals.{
   else-of-edge-via-then-of-edge+then-of-edge-2+else-not-is_unknown_there,

@@ -1,6 +1,6 @@
 use Rattle.std.proofs.Common.{ap}
 use Rattle.certificate_codec.specs.declared.certificate.Certificate.{Certificate}
-use Rattle.min_certificate.proofs.Looked.{source_on}
+use Rattle.min_certificate.proofs.LookedUpEntries.{source_on}
 use Rattle.min_certificate.proofs.entries.Entries.source.Goals as goal
 
 pub returns : goal.returns

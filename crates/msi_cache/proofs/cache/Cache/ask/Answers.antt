@@ -5,8 +5,8 @@ use Rattle.std.proofs.lemmas.Nat.{mod_below}
 use Rattle.msi_cache.specs.Lines.{waits}
 use Rattle.msi_cache.specs.Table.{is_transient}
 use Rattle.msi_cache.specs.declared.line.Line.{Line}
-use Rattle.msi_cache.proofs.Counting.{one_waits}
-use Rattle.msi_cache.proofs.Waiting.{any_put}
+use Rattle.msi_cache.proofs.WaitCounts.{one_waits}
+use Rattle.msi_cache.proofs.WaitingCaches.{any_put}
 use Rattle.msi_cache.proofs.cache.Cache.ask.Goals as goal
 
 pub invariant_of-self : goal.invariant_of-self

@@ -1,5 +1,5 @@
 -- As many lines wait as were counted, once one of them heard a message.
-use Rattle.msi_cache.proofs.Counting.{recounted}
+use Rattle.msi_cache.proofs.WaitCounts.{recounted}
 use Rattle.msi_cache.proofs.cache.Cache.hear.Goals as goal
 
 pub invariant_of-self : goal.invariant_of-self

@@ -3,7 +3,7 @@ use Rattle.std.proofs.Common.{◌≡◌, ◌∙◌, arith, ap, length, sym}
 use Rattle.std.proofs.lemmas.List.{length-replicate}
 use Rattle.msi_cache.specs.Lines.{empty_line}
 use Rattle.msi_cache.specs.Waiting.{how_many_wait}
-use Rattle.msi_cache.proofs.Counting.{none_empty}
+use Rattle.msi_cache.proofs.WaitCounts.{none_empty}
 use Rattle.msi_cache.proofs.cache.Cache.new.Goals as goal
 
 pub invariant_of-result : goal.invariant_of-result

@@ -1,5 +1,5 @@
 -- The line that answered may wait no longer.
-use Rattle.msi_cache.proofs.Counting.{recounted}
+use Rattle.msi_cache.proofs.WaitCounts.{recounted}
 use Rattle.msi_cache.proofs.cache.Cache.respond.Goals as goal
 
 pub invariant_of-self : goal.invariant_of-self

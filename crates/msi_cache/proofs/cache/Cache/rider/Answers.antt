@@ -2,7 +2,7 @@
 use Rattle.std.proofs.Common.{arith, refl, ◌<◌, ◌%◌, ◌∙◌}
 use Rattle.std.proofs.lemmas.List.{length-set}
 use Rattle.std.proofs.lemmas.Nat.{mod_below}
-use Rattle.msi_cache.proofs.Counting.{same_state}
+use Rattle.msi_cache.proofs.WaitCounts.{same_state}
 use Rattle.msi_cache.proofs.cache.Cache.rider.Goals as goal
 
 pub invariant_of-self-lent : goal.invariant_of-self-lent

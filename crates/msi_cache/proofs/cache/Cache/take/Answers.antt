@@ -1,5 +1,5 @@
 -- The message was handed over to its line, and the lines that wait are counted.
-use Rattle.msi_cache.proofs.Counting.{recounted}
+use Rattle.msi_cache.proofs.WaitCounts.{recounted}
 use Rattle.msi_cache.proofs.cache.Cache.take.Goals as goal
 
 pub invariant_of-self : goal.invariant_of-self

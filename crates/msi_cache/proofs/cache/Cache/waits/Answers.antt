@@ -2,7 +2,7 @@
 use Rattle.std.proofs.Common.{◌∙◌, ap}
 use Rattle.std.specs.Prelude.{nat_lt}
 use Rattle.msi_cache.specs.Lines.{waits}
-use Rattle.msi_cache.proofs.Counting.{some_wait}
+use Rattle.msi_cache.proofs.WaitCounts.{some_wait}
 use Rattle.msi_cache.proofs.cache.Cache.waits.Goals as goal
 
 pub returns : goal.returns

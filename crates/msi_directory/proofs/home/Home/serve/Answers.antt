@@ -5,7 +5,7 @@ use Rattle.msi_directory.specs.Entries.{has_request_row}
 use Rattle.msi_directory.specs.Kept.{home_of}
 use Rattle.msi_directory.proofs.Fits.{request_keeps_fit}
 use Rattle.msi_directory.proofs.Rows.{fits_after, is_served, roomy_kept, stage_found}
-use Rattle.msi_directory.proofs.Seen.{seen_request_block}
+use Rattle.msi_directory.proofs.LentRequests.{seen_request_block}
 use Rattle.msi_directory.proofs.home.Home.serve.Goals as goal
 
 pub find-place-requires : goal.find-place-requires

@@ -1,6 +1,6 @@
 use Rattle.std.proofs.Common.{◌∙◌, ap, ◌%◌, length-set}
 use Rattle.msi_directory.specs.Kept.{kept_more}
-use Rattle.msi_directory.proofs.Keeping.{more, more_counted}
+use Rattle.msi_directory.proofs.KeptEntries.{more, more_counted}
 use Rattle.msi_directory.proofs.kept_entries.KeptEntries.add.Goals as goal
 
 pub invariant_of-self-2 : goal.invariant_of-self-2

@@ -1,5 +1,5 @@
 use Rattle.std.proofs.Common.{sym}
-use Rattle.msi_directory.proofs.Keeping.{seen_at}
+use Rattle.msi_directory.proofs.KeptEntries.{seen_at}
 use Rattle.msi_directory.proofs.kept_entries.KeptEntries.place.Goals as goal
 
 pub returns-in-Some-clause-place : goal.returns-in-Some-clause-place

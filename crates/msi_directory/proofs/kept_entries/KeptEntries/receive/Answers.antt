@@ -1,5 +1,5 @@
 use Rattle.msi_directory.specs.Deeds.{response_deed}
-use Rattle.msi_directory.proofs.Keeping.{changed_counted, done_at}
+use Rattle.msi_directory.proofs.KeptEntries.{changed_counted, done_at}
 use Rattle.msi_directory.proofs.kept_entries.KeptEntries.receive.Goals as goal
 
 pub invariant_of-self : goal.invariant_of-self

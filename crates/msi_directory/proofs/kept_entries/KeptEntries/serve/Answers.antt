@@ -1,6 +1,6 @@
 use Rattle.msi_cache.specs.Messages.{request_seen}
 use Rattle.msi_directory.specs.Deeds.{request_deed}
-use Rattle.msi_directory.proofs.Keeping.{changed_counted, done_at}
+use Rattle.msi_directory.proofs.KeptEntries.{changed_counted, done_at}
 use Rattle.msi_directory.proofs.kept_entries.KeptEntries.serve.Goals as goal
 
 pub invariant_of-self : goal.invariant_of-self

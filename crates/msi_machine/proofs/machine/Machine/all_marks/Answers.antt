@@ -1,7 +1,7 @@
 -- The request of the core that asked is looked at, and then all moves that can be made are marked.
-use Rattle.msi_machine.proofs.Choosing.{seen_holds}
-use Rattle.msi_machine.proofs.Renewed.{all_moves}
-use Rattle.msi_machine.proofs.Roomed.{all_looked_at}
+use Rattle.msi_machine.proofs.ChosenMove.{seen_holds}
+use Rattle.msi_machine.proofs.MarksAfterMoves.{all_moves}
+use Rattle.msi_machine.proofs.RequestRoom.{all_looked_at}
 use Rattle.msi_machine.proofs.machine.Machine.all_marks.Goals as goal
 
 pub with_late-moves-requires-clause-holds : goal.with_late-moves-requires-clause-holds

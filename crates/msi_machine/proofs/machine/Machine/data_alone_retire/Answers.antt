@@ -1,7 +1,7 @@
 use Rattle.std.proofs.Common.{subst}
 use Rattle.msi_machine.specs.Delivering.{MessagesRetire}
 use Rattle.msi_state.specs.States.{Machinery}
-use Rattle.msi_machine.proofs.Retiring.{messages_retire}
+use Rattle.msi_machine.proofs.DataRetirements.{messages_retire}
 use Rattle.msi_machine.proofs.machine.Machine.data_alone_retire.Goals as goal
 
 pub returns : goal.returns

@@ -1,4 +1,4 @@
-use Rattle.msi_machine.proofs.Roomed.{room_made}
+use Rattle.msi_machine.proofs.RequestRoom.{room_made}
 use Rattle.msi_machine.proofs.machine.Machine.make_room.Goals as goal
 
 pub make_room-requires-clause-holds : goal.make_room-requires-clause-holds

@@ -6,19 +6,19 @@ use Rattle.image_mem.specs.Contents.{Contents}
 use Rattle.rv_core.specs.declared.core_state.Core.{Core}
 use Rattle.rv_core.specs.States.{starting}
 use Rattle.machine_bound.specs.Bound.{total_owed}
-use Rattle.machine_bound.proofs.Ends.{owed_start}
+use Rattle.machine_bound.proofs.RunEnds.{owed_start}
 use Rattle.machine_data.specs.Coherent.{Coherent, opening_memory}
-use Rattle.machine_data.proofs.Opening.{start_coherent}
+use Rattle.machine_data.proofs.OpeningWords.{start_coherent}
 use Rattle.machine_invariant.specs.Holds.{MachineHolds}
-use Rattle.machine_invariant.proofs.Begins.{holds_start}
+use Rattle.machine_invariant.proofs.StartInvariant.{holds_start}
 use Rattle.machine_plain.specs.Plain.{plain}
 use Rattle.machine_plain.proofs.Shows.{plain_start}
-use Rattle.machine_ports.proofs.Counting.{kept_long}
+use Rattle.machine_ports.proofs.CoreRanges.{kept_long}
 use Rattle.msi_state.specs.States.{Machinery, State}
 use Rattle.msi_machine.specs.declared.standing.Standing.{Standing}
 use Rattle.msi_machine.specs.Standings.{may_begin, standing_with}
 use Rattle.msi_machine.proofs.AtHand.{one_writer}
-use Rattle.msi_machine.proofs.Beginning.{notes_begin}
+use Rattle.msi_machine.proofs.StartMarks.{notes_begin}
 use Rattle.msi_machine.proofs.machine.Machine.new.Goals as goal
 
 pub first_marks-marks-requires : goal.first_marks-marks-requires

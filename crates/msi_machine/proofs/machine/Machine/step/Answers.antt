@@ -5,17 +5,17 @@ use Rattle.std.proofs.lemmas.List.{with_items_is}
 use Rattle.std.proofs.lemmas.Nat.{mod_below}
 use Rattle.machine_bound.proofs.Capacity.{nearer}
 use Rattle.machine_bound.proofs.Payments.{earns}
-use Rattle.machine_data.proofs.Steps.{step_works}
+use Rattle.machine_data.proofs.WordSteps.{step_works}
 use Rattle.machine_invariant.specs.Holds.{MachineHolds}
-use Rattle.machine_invariant.proofs.Kept.{holds_kept}
-use Rattle.machine_invariant.proofs.Stepping.{step_cores}
+use Rattle.machine_invariant.proofs.MoveInvariant.{holds_kept}
+use Rattle.machine_invariant.proofs.StepFrame.{step_cores}
 use Rattle.machine_plain.specs.Plain.{plain}
-use Rattle.machine_plain.proofs.Forgetting.{plain_event, plain_step}
+use Rattle.machine_plain.proofs.ForgetfulSteps.{plain_event, plain_step}
 use Rattle.machine_plain.proofs.SameMoves.{plain_moves}
-use Rattle.machine_progress.proofs.Rested.{rooms_there, rows_there}
+use Rattle.machine_progress.proofs.MoveGrounds.{rooms_there, rows_there}
 use Rattle.machine_progress.proofs.Stuck.{some_move}
 use Rattle.msi_state.specs.Events.{Event}
-use Rattle.move_marks.proofs.Choosing.{numbered, numbered_chosen, numbered_passes}
+use Rattle.move_marks.proofs.NumberedMoves.{numbered, numbered_chosen, numbered_passes}
 use Rattle.msi_state.specs.declared.moves.Move.{Move}
 use Rattle.machine_ports.specs.Steppings.{IsNumbered}
 use Rattle.msi_state.specs.Moves.{candidates}
@@ -25,8 +25,8 @@ use Rattle.msi_state.specs.Steps.{enabled, event, moves, rider_left, step}
 use Rattle.msi_machine.specs.declared.standing.Standing.{Standing}
 use Rattle.msi_machine.specs.Steppings.{HasMoved, KeepsPromises}
 use Rattle.msi_machine.proofs.AtHand.{one_writer}
-use Rattle.msi_machine.proofs.Choosing.{found_enabled, seen_holds}
-use Rattle.msi_machine.proofs.Moves.{notes_kept}
+use Rattle.msi_machine.proofs.ChosenMove.{found_enabled, seen_holds}
+use Rattle.msi_machine.proofs.MoveFrames.{notes_kept}
 use Rattle.msi_machine.proofs.Standings.{standings_long}
 use Rattle.msi_machine.proofs.machine.Machine.step.Goals as goal
 

@@ -1,14 +1,14 @@
 -- What is kept of the cores follows each move.
 use Rattle.std.proofs.Common.{ap, ℕ}
 use Rattle.rtr_types.specs.declared.TheConstants.{CORES_MAX}
-use Rattle.move_marks.proofs.Turned.{request_stays, response_stays}
+use Rattle.move_marks.proofs.NextMoves.{request_stays, response_stays}
 use Rattle.msi_state.specs.declared.moves.Move.TheVariants.{FromHome}
 use Rattle.msi_state.specs.Moves.{core_of}
 use Rattle.msi_state.specs.States.{State}
 use Rattle.msi_state.specs.Steps.{rider_left}
-use Rattle.msi_machine.proofs.Ended.{no_asker}
-use Rattle.msi_machine.proofs.Moves.{core_moves, kept_here, kept_moved, message_moves, turn_kept}
-use Rattle.msi_machine.proofs.Renewed.{all_others}
+use Rattle.msi_machine.proofs.MarksAndEnd.{no_asker}
+use Rattle.msi_machine.proofs.MoveFrames.{core_moves, kept_here, kept_moved, message_moves, turn_kept}
+use Rattle.msi_machine.proofs.MarksAfterMoves.{all_others}
 use Rattle.msi_machine.proofs.parts.Parts.make_move.Goals as goal
 
 pub move_core-requires-clause-stands : goal.move_core-requires-clause-stands

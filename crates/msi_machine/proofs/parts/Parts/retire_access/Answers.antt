@@ -8,7 +8,7 @@ use Rattle.msi_machine.specs.declared.standing.Standing.{Standing}
 use Rattle.msi_machine.specs.Standings.{standing_with}
 use Rattle.msi_memory.specs.Memories.{port_at}
 use Rattle.msi_state.specs.States.{Machinery, core_at}
-use Rattle.msi_machine.proofs.Touched.{retired_waits}
+use Rattle.msi_machine.proofs.TouchedLines.{retired_waits}
 use Rattle.msi_machine.proofs.parts.Parts.retire_access.Goals as goal
 
 pub returns-clause-renewed : goal.returns-clause-renewed

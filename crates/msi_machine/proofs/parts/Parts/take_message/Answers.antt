@@ -4,9 +4,9 @@ use Rattle.msi_laws.proofs.Ready.{memory_ready}
 use Rattle.msi_state.specs.declared.moves.Move.TheVariants.{FromHome}
 use Rattle.msi_state.specs.States.{Machinery, State}
 use Rattle.msi_state.specs.Steps.{rider_left}
-use Rattle.machine_progress.proofs.Rested.{rows_there}
+use Rattle.machine_progress.proofs.MoveGrounds.{rows_there}
 use Rattle.machine_invariant.proofs.Awaits.{core_port, enabled_core}
-use Rattle.msi_machine.proofs.Moves.{message_marks}
+use Rattle.msi_machine.proofs.MoveFrames.{message_marks}
 use Rattle.msi_machine.proofs.parts.Parts.take_message.Goals as goal
 
 pub receive-retired-requires-clause-row : goal.receive-retired-requires-clause-row

@@ -1,15 +1,15 @@
 -- A marked move shows a core that isn't done; without a mark each core's standing decides. What follows from being done
 -- follows from what a machine always holds.
 use Rattle.std.proofs.Common.{◌≡◌, ◌∙◌, sym, ap, false, length, subst}
-use Rattle.machine_bound.proofs.Ends.{done_earned}
+use Rattle.machine_bound.proofs.RunEnds.{done_earned}
 use Rattle.machine_data.specs.Coherent.{Coherent}
 use Rattle.machine_data.proofs.Final.{final_current}
 use Rattle.machine_plain.proofs.Shows.{plain_done}
-use Rattle.machine_invariant.proofs.Ended.{links_left}
+use Rattle.machine_invariant.proofs.DoneCores.{links_left}
 use Rattle.msi_state.specs.FinalMemory.{final_words}
 use Rattle.msi_state.specs.States.{Machinery, State, all_done}
 use Rattle.msi_machine.specs.Marks.{marked}
-use Rattle.msi_machine.proofs.Ended.{ended, marked_goes_on, some_there}
+use Rattle.msi_machine.proofs.MarksAndEnd.{ended, marked_goes_on, some_there}
 use Rattle.msi_machine.proofs.Standings.{done_stands}
 use Rattle.msi_machine.proofs.stepped.MachineSteppedMachine.done.Goals as goal
 

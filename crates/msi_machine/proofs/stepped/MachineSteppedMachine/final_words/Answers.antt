@@ -2,11 +2,11 @@ use Rattle.std.proofs.Common.{◌∙◌, ap, ℕ, List}
 use Rattle.std.specs.Prelude.{slice_index}
 use Rattle.machine_data.proofs.Final.{final_current}
 use Rattle.machine_plain.proofs.Shows.{plain_words}
-use Rattle.machine_invariant.proofs.Ended.{links_left}
+use Rattle.machine_invariant.proofs.DoneCores.{links_left}
 use Rattle.msi_state.specs.FinalMemory.{final_words}
 use Rattle.msi_state.specs.States.{Machinery, all_done}
 use Rattle.msi_machine.proofs.AtHand.{ends_at_hand}
-use Rattle.msi_machine.proofs.Choosing.{seen_holds}
+use Rattle.msi_machine.proofs.ChosenMove.{seen_holds}
 use Rattle.msi_machine.proofs.stepped.MachineSteppedMachine.final_words.Goals as goal
 
 pub final_words-requires-clause-at_hand : goal.final_words-requires-clause-at_hand

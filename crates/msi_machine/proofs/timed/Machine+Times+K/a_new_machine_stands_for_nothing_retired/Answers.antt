@@ -1,7 +1,7 @@
 use Rattle.std.proofs.Common.{sym, subst, []}
 use Rattle.access_times.specs.declared.times.Times.{Times}
 use Rattle.msi_state.specs.States.{State}
-use Rattle.machine_times.proofs.Begins.{machine_start}
+use Rattle.machine_times.proofs.NewMachine.{machine_start}
 use Rattle.machine_times.proofs.RiderLaws.{times_fresh}
 use Rattle.machine_times.specs.Retirements.{MachineStandsFor}
 use Rattle.machine_times.specs.TimedSteps.{times_parts}

@@ -4,14 +4,14 @@ use Rattle.access_times.specs.Times.{times_riding}
 use Rattle.access_times.specs.declared.times.Times.{Times}
 use Rattle.msi_state.specs.States.{State}
 use Rattle.msi_state.specs.Steps.{carry_told, event, rider_left}
-use Rattle.machine_times.proofs.Absorbing.{meet_alike}
+use Rattle.machine_times.proofs.MetRiders.{meet_alike}
 use Rattle.machine_times.proofs.RiderLaws.{times_absorb}
-use Rattle.machine_times.proofs.Timed.{finds_exact}
-use Rattle.machine_times.proofs.Told.{timed_told, clocks_told}
+use Rattle.machine_times.proofs.MoveTimes.{finds_exact}
+use Rattle.machine_times.proofs.NotedRiders.{timed_told, clocks_told}
 use Rattle.machine_times.specs.Retirements.{MachineStandsFor}
 use Rattle.machine_times.specs.TimedSteps.{times_parts, with_step}
 use Rattle.std.specs.Prelude.{reverse}
-use Rattle.msi_machine.proofs.Choosing.{seen_holds, taken_enabled}
+use Rattle.msi_machine.proofs.ChosenMove.{seen_holds, taken_enabled}
 use Rattle.msi_machine.proofs.timed.Machine+Times+K.step_timed.Goals as goal
 
 pub returns-clause-stands : goal.returns-clause-stands

@@ -1,7 +1,7 @@
 -- The home takes the response, and its answer goes on its way.
 use Rattle.std.proofs.Common.{arith, ◌∙◌, refl}
 use Rattle.msi_memory.proofs.HomeTurns.{oldest_response, sends, took}
-use Rattle.msi_memory.proofs.Served.{take_front}
+use Rattle.msi_memory.proofs.ServedAnswers.{take_front}
 use Rattle.msi_memory.proofs.memory.MemorySystem.take_response.Goals as goal
 
 pub deliver-requires : goal.deliver-requires

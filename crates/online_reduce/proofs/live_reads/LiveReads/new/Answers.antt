@@ -2,7 +2,7 @@ use Rattle.std.proofs.Common.{◌%◌, ◌∙◌, ap, refl, sym, subst, ℕ}
 use Rattle.rtr_types.specs.declared.TheConstants.{BLOCK_WORDS, CORES_MAX}
 use Rattle.rtr_types.specs.CoreSets.{no_cores}
 use Rattle.online_reduce.specs.LiveReads.{AreNoted, reads_of}
-use Rattle.online_reduce.proofs.Found.{load_reads}
+use Rattle.online_reduce.proofs.CandidateLists.{load_reads}
 use Rattle.online_reduce.proofs.SetReads.{live_noted, live_reads, no_reads_of, none_noted}
 use Rattle.online_reduce.proofs.live_reads.LiveReads.new.Goals as goal
 use Rattle.online_reduce.proofs.live_reads.LiveReads.new.Goals.{then-is_write, else-is_write}

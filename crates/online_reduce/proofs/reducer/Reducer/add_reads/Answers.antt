@@ -6,8 +6,8 @@ use Rattle.roomy_lists.specs.Lists.{items_in}
 use Rattle.online_reduce.specs.Reduced.{clock_of}
 use Rattle.online_reduce.specs.Rule.{edges_into}
 use Rattle.online_reduce.proofs.Drawn.{drew, found_are, none_are}
-use Rattle.online_reduce.proofs.Found.{found_few}
-use Rattle.online_reduce.proofs.Retired.{AreFound, sources_apart, sources_pair}
+use Rattle.online_reduce.proofs.CandidateLists.{found_few}
+use Rattle.online_reduce.proofs.RetiredParts.{AreFound, sources_apart, sources_pair}
 use Rattle.online_reduce.proofs.Rooms.{length-after}
 use Rattle.online_reduce.proofs.reducer.Reducer.add_reads.Goals as goal
 use Rattle.online_reduce.proofs.reducer.Reducer.add_reads.Goals.{After-new-found, After-index-self-own-2}

@@ -12,7 +12,7 @@ use Rattle.online_reduce.specs.Rule.{edge_to, edges_into}
 use Rattle.online_reduce.specs.LiveReads.{drawn}
 use Rattle.online_reduce.specs.declared.source.Source.{Source}
 use Rattle.online_reduce.proofs.Drawn.{drawn_none, drew_one, no_edges, one_edge, write_is}
-use Rattle.online_reduce.proofs.Retired.{AreFound, sources_pair}
+use Rattle.online_reduce.proofs.RetiredParts.{AreFound, sources_pair}
 use Rattle.online_reduce.proofs.reducer.Reducer.add_write.Goals as goal
 use Rattle.online_reduce.proofs.reducer.Reducer.add_write.Goals.{After-index-self-own, In-Some, In_default}
 

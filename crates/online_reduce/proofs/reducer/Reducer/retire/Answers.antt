@@ -1,5 +1,5 @@
 use Rattle.std.proofs.Common.{◌∙◌}
-use Rattle.online_reduce.proofs.Touched.{adds_access}
+use Rattle.online_reduce.proofs.TouchedState.{adds_access}
 use Rattle.online_reduce.proofs.reducer.Reducer.retire.Goals as goal
 
 pub returns-clause-adds : goal.returns-clause-adds

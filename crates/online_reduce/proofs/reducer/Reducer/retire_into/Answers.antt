@@ -8,9 +8,9 @@ use Rattle.access_times.specs.Times.{times_noted}
 use Rattle.online_reduce.specs.Exact.{IsHeld}
 use Rattle.online_reduce.specs.Reduced.{Reduced, clock_of, retired}
 use Rattle.online_reduce.proofs.Drawn.{counted_is_retired}
-use Rattle.online_reduce.proofs.Held.{held}
-use Rattle.online_reduce.proofs.Retired.{same_clock_of}
-use Rattle.online_reduce.proofs.Touched.{adds_access}
+use Rattle.online_reduce.proofs.LastNoted.{held}
+use Rattle.online_reduce.proofs.RetiredParts.{same_clock_of}
+use Rattle.online_reduce.proofs.TouchedState.{adds_access}
 use Rattle.online_reduce.proofs.reducer.Reducer.retire_into.Goals as goal
 
 -- the core is one of those that there are

@@ -6,7 +6,7 @@ use Rattle.race_log.specs.Counts.{edge_count_of, position_count}
 use Rattle.race_log.specs.Sources.{log_edges}
 use Rattle.race_log.specs.Validity.{Valid}
 use Rattle.race_log.specs.declared.recording.Recording.{Recording}
-use Rattle.race_log.proofs.Counted.{edges_fit, positions_fit}
+use Rattle.race_log.proofs.CountedEdges.{edges_fit, positions_fit}
 use Rattle.race_log.proofs.EdgeCounts.{edges-counted}
 use Rattle.race_log.proofs.recording.Recording.edge_count.Goals as goal
 

@@ -1,4 +1,4 @@
-use Rattle.recorder.proofs.Turning.{accepts_next, readied, records_next, tells_next, turned_by}
+use Rattle.recorder.proofs.RecorderTurn.{accepts_next, readied, records_next, tells_next, turned_by}
 use Rattle.recorder.proofs.run.RecorderStepping.turn.Goals as goal
 
 pub step_timed-requires-clause-accepts : goal.step_timed-requires-clause-accepts

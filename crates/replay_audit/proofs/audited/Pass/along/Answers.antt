@@ -1,6 +1,6 @@
 use Rattle.std.proofs.Common.{[], ◌∙◌, ℕ, ap}
 use Rattle.std.specs.Prelude.{replicate}
-use Rattle.replay_audit.proofs.Auditing.{passed_same}
+use Rattle.replay_audit.proofs.LowAudit.{passed_same}
 use Rattle.replay_audit.proofs.audited.Pass.along.Goals as goal
 
 pub follow-requires-clause-begins : goal.follow-requires-clause-begins

@@ -1,6 +1,6 @@
 use Rattle.std.proofs.Common.{◌≡◌, [], inl, refl, sym, subst}
 use Rattle.replay_core.specs.Sources.{listed, sources_in}
-use Rattle.replay_core.proofs.Awaited.{listed_nothing}
+use Rattle.replay_core.proofs.AwaitedEdges.{listed_nothing}
 use Rattle.replay_audit.proofs.log_clocks.LogClocks.keep.Goals as goal
 
 pub returns-in-None-clause-clocks : goal.returns-in-None-clause-clocks

@@ -1,6 +1,6 @@
 use Rattle.std.proofs.Common.{ℕ, List, ap, ◌∙◌, slice_index}
 use Rattle.clock_core.specs.Order.{previous}
-use Rattle.replay_audit.proofs.Merged.{merged_none, merged_some}
+use Rattle.replay_audit.proofs.MergedSources.{merged_none, merged_some}
 use Rattle.replay_audit.proofs.log_clocks.LogClocks.next.Goals as goal
 use Rattle.replay_audit.proofs.log_clocks.LogClocks.next.Goals.{then-source-ne0, else-source-ne0}
 

@@ -11,9 +11,9 @@ use Rattle.replay_audit.specs.Clocks.{Kept}
 use Rattle.replay_audit.specs.Marks.{first_mark}
 use Rattle.replay_audit.specs.Trails.{Trailed}
 use Rattle.replay_audit.specs.Walks.{Walked, IsWalk}
-use Rattle.replay_audit.proofs.Touching.{IsFoundAt, Judged, access_place, counted_next, each_marked, few_place}
-use Rattle.replay_audit.proofs.Touching.{judged_none, judged_some, judged_start, placed_next, places_start}
-use Rattle.replay_audit.proofs.Touching.{ready_place, touched_place, verdict, walk_there}
+use Rattle.replay_audit.proofs.LowJudgement.{IsFoundAt, Judged, access_place, counted_next, each_marked, few_place}
+use Rattle.replay_audit.proofs.LowJudgement.{judged_none, judged_some, judged_start, placed_next, places_start}
+use Rattle.replay_audit.proofs.LowJudgement.{ready_place, touched_place, verdict, walk_there}
 use Rattle.replay_audit.proofs.whole_order.WholeOrder.judge.Goals as goal
 use Rattle.replay_audit.proofs.whole_order.WholeOrder.judge.Goals.{After-as_slice-core-items}
 use Rattle.replay_audit.proofs.whole_order.WholeOrder.judge.Goals.{in-Some+in_ok-watch, in_default}

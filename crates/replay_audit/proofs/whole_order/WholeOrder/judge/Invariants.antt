@@ -4,7 +4,7 @@ use Rattle.std.specs.Prelude.{slice_index}
 use Rattle.rtr_types.specs.declared.TheConstants.{CORES_MAX}
 use Rattle.replay_core.specs.Orders.{counts, nought}
 use Rattle.replay_audit.specs.Touches.{IsPlaceOf, touches_of}
-use Rattle.replay_audit.proofs.Touching.{Judged}
+use Rattle.replay_audit.proofs.LowJudgement.{Judged}
 use Rattle.replay_audit.proofs.whole_order.WholeOrder.judge.Given as goal
 
 abbrev pub invariant-loop-core : goal.invariant-loop-core

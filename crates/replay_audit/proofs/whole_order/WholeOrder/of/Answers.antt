@@ -1,8 +1,8 @@
 -- Place by place: what was noted is the low order's front, and the lowest ready core comes next; where none is ready
 -- the log isn't whole.
 use Rattle.std.proofs.Common.{◌∙◌, List, ℕ, refl, sym, subst}
-use Rattle.replay_core.proofs.Tallying.{inside_plan, below_plan, less_to_go}
-use Rattle.replay_audit.proofs.Walking.{Walking, can_note, low_whole, walk_is, walking_on, walking_start}
+use Rattle.replay_core.proofs.LowCounts.{inside_plan, below_plan, less_to_go}
+use Rattle.replay_audit.proofs.LowWalk.{Walking, can_note, low_whole, walk_is, walking_on, walking_start}
 use Rattle.replay_audit.proofs.whole_order.WholeOrder.of.Goals as goal
 
 pub loop-core-init : goal.loop-core-init

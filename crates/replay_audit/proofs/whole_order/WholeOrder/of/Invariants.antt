@@ -1,6 +1,6 @@
 use Rattle.replay_core.proofs.Low.{left}
 use Rattle.replay_core.specs.Tallies.{count_of}
-use Rattle.replay_audit.proofs.Walking.{Walking}
+use Rattle.replay_audit.proofs.LowWalk.{Walking}
 use Rattle.replay_audit.proofs.whole_order.WholeOrder.of.Given as goal
 
 -- the instructions of a front of the low order were noted

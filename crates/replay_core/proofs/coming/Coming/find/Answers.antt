@@ -2,7 +2,7 @@ use Rattle.std.proofs.Common.{List, ℕ, sym, subst}
 use Rattle.std.specs.Prelude.{Option}
 use Rattle.race_log.specs.Sources.{log_edges}
 use Rattle.replay_core.specs.Sources.{AreSources, sources_in}
-use Rattle.replay_core.proofs.Awaited.{no_sources}
+use Rattle.replay_core.proofs.AwaitedEdges.{no_sources}
 use Rattle.replay_core.proofs.coming.Coming.find.Goals as goal
 
 pub returns-then-is_early-clause-sources : goal.returns-then-is_early-clause-sources

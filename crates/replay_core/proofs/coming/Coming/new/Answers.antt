@@ -1,4 +1,4 @@
-use Rattle.replay_core.proofs.Awaited.{coming_unknown}
+use Rattle.replay_core.proofs.AwaitedEdges.{coming_unknown}
 use Rattle.replay_core.proofs.coming.Coming.new.Goals as goal
 
 pub returns : goal.returns

@@ -1,4 +1,4 @@
-use Rattle.replay_core.proofs.Awaited.{known_next}
+use Rattle.replay_core.proofs.AwaitedEdges.{known_next}
 use Rattle.replay_core.proofs.coming.Coming.next.Goals as goal
 
 pub returns-in-Some : goal.returns-in-Some

@@ -3,8 +3,8 @@
 use Rattle.std.proofs.Common.{◌≡◌, ◌+◌, ℕ, List, sym, subst, refl, arith}
 use Rattle.race_log.specs.Sources.{log_edges}
 use Rattle.replay_core.specs.declared.coming.Coming.{Coming}
-use Rattle.replay_core.proofs.Awaited.{IsPut, PassedTo, pass_own, pass_more, pass_known, pass_start, passed_coming}
-use Rattle.replay_core.proofs.Awaited.{passed_sources, taken_none, taken_some}
+use Rattle.replay_core.proofs.AwaitedEdges.{IsPut, PassedTo, pass_own, pass_more, pass_known, pass_start, passed_coming}
+use Rattle.replay_core.proofs.AwaitedEdges.{passed_sources, taken_none, taken_some}
 use Rattle.replay_core.proofs.coming.Coming.pass.Goals as goal
 use Rattle.replay_core.proofs.coming.Coming.pass.Goals.{then-of-at+in-Some, then-of-at+in-None, else-of-at}
 

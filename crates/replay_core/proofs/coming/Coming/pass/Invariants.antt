@@ -1,6 +1,6 @@
 -- what each core so far has as a source, and as its next edge
 use Rattle.race_log.specs.Sources.{log_edges}
-use Rattle.replay_core.proofs.Awaited.{PassedTo}
+use Rattle.replay_core.proofs.AwaitedEdges.{PassedTo}
 use Rattle.replay_core.proofs.coming.Coming.pass.Given as goal
 
 abbrev pub invariant-loop-of : goal.invariant-loop-of

@@ -1,6 +1,6 @@
 use Rattle.std.proofs.Common.{refl, Some, None, ℕ}
 use Rattle.std.specs.Prelude.{Option}
-use Rattle.replay_core.proofs.Awaited.{source_by, still_next}
+use Rattle.replay_core.proofs.AwaitedEdges.{source_by, still_next}
 use Rattle.replay_core.proofs.coming.Coming.step.Goals as goal
 
 pub returns-in-Some-clause-source : goal.returns-in-Some-clause-source

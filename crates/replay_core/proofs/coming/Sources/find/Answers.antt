@@ -5,7 +5,7 @@ use Rattle.replay_core.specs.Plans.{Plan}
 use Rattle.replay_core.specs.declared.coming.Coming.{Coming}
 use Rattle.replay_core.specs.Sources.{AreSources, sources_in}
 use Rattle.replay_core.specs.Coming.{IsComing, coming_at, no_coming}
-use Rattle.replay_core.proofs.Awaited.{coming_step}
+use Rattle.replay_core.proofs.AwaitedEdges.{coming_step}
 use Rattle.replay_core.proofs.coming.Sources.find.Goals as goal
 
 pub find-requires-clause-coming : goal.find-requires-clause-coming

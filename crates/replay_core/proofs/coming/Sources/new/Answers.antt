@@ -1,5 +1,5 @@
 use Rattle.std.proofs.Common.{arith}
-use Rattle.replay_core.proofs.Awaited.{unknown_coming}
+use Rattle.replay_core.proofs.AwaitedEdges.{unknown_coming}
 use Rattle.replay_core.proofs.coming.Sources.new.Goals as goal
 
 pub invariant_of-result : goal.invariant_of-result

@@ -1,4 +1,4 @@
-use Rattle.replay_core.proofs.Awaited.{AreUnknown}
+use Rattle.replay_core.proofs.AwaitedEdges.{AreUnknown}
 use Rattle.replay_core.proofs.coming.Sources.new.Given as goal
 
 abbrev pub invariant-loop-core : goal.invariant-loop-core

@@ -2,7 +2,7 @@ use Rattle.std.proofs.Common.{◌≡◌, ◌∙◌, ◌-◌, ◌<◌, length, sy
 use Rattle.replay_core.specs.Plans.{Plan}
 use Rattle.replay_core.specs.Orders.{lowest_ready}
 use Rattle.replay_core.specs.Tallies.{Tallied, count_of}
-use Rattle.replay_core.proofs.Lowering.{awaited_at, awaited_still, low_is, lowest_here, lowest_still}
+use Rattle.replay_core.proofs.LowestReady.{awaited_at, awaited_still, low_is, lowest_here, lowest_still}
 use Rattle.replay_core.proofs.low_order.LowOrder.advance.Goals as goal
 
 pub invariant_of-self : goal.invariant_of-self

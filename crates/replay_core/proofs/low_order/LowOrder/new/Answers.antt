@@ -1,4 +1,4 @@
-use Rattle.replay_core.proofs.Lowering.{awaited_none}
+use Rattle.replay_core.proofs.LowestReady.{awaited_none}
 use Rattle.replay_core.proofs.low_order.LowOrder.new.Goals as goal
 
 pub lowest_from-low-requires-clause-awaited : goal.lowest_from-low-requires-clause-awaited

@@ -12,7 +12,7 @@ use Rattle.replay_core.specs.Orders.{counts_in}
 use Rattle.replay_core.specs.Play.{Use}
 use Rattle.replay_core.specs.Answers.{UnderWay, RetiresGiven, UsesWithin}
 use Rattle.replay_core.proofs.Ready.{ready_true}
-use Rattle.replay_core.proofs.Steps.{used_within, shared_within, retires_by}
+use Rattle.replay_core.proofs.PlaceSteps.{used_within, shared_within, retires_by}
 use Rattle.replay_core.proofs.replay.Replay.advance_given.Goals as goal
 
 pub found-old-requires : goal.found-old-requires

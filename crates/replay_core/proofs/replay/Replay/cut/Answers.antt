@@ -1,5 +1,5 @@
 use Rattle.replay_core.specs.Orders.{counts_in}
-use Rattle.replay_core.proofs.Steps.{cut_made}
+use Rattle.replay_core.proofs.PlaceSteps.{cut_made}
 use Rattle.replay_core.proofs.replay.Replay.cut.Goals as goal
 
 pub returns : goal.returns

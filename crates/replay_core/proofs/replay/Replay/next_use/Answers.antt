@@ -1,7 +1,7 @@
 use Rattle.std.proofs.Common.{◌∙◌, ap, refl}
 use Rattle.rv_core.specs.Steps.{access_of}
 use Rattle.replay_core.specs.Play.{core_at}
-use Rattle.replay_core.proofs.Steps.{used_within}
+use Rattle.replay_core.proofs.PlaceSteps.{used_within}
 use Rattle.replay_core.proofs.replay.Replay.next_use.Goals as goal
 
 pub returns-clause-within : goal.returns-clause-within

@@ -3,9 +3,9 @@
 use Rattle.std.proofs.Common.{◌∙◌, ◌++◌, ◌∷◌, [], refl, sym}
 use Rattle.replay_core.specs.Plans.{plan_of}
 use Rattle.replay_core.specs.Play.{given_by}
-use Rattle.replay_core.proofs.Tallying.{below_plan, inside_plan, less_to_go}
-use Rattle.replay_core.proofs.Runs.{inside_here, ready_here, short_here, stuck_here, together_on, together_start}
-use Rattle.replay_core.proofs.Runs.{whole_here}
+use Rattle.replay_core.proofs.LowCounts.{below_plan, inside_plan, less_to_go}
+use Rattle.replay_core.proofs.LowRuns.{inside_here, ready_here, short_here, stuck_here, together_on, together_start}
+use Rattle.replay_core.proofs.LowRuns.{whole_here}
 use Rattle.replay_core.proofs.replay.Replay.run_given.Goals as goal
 
 pub loop-core-init : goal.loop-core-init

@@ -4,7 +4,7 @@ use Rattle.replay_core.specs.Plans.{plan_of}
 use Rattle.replay_core.specs.Play.{given_by}
 use Rattle.replay_core.specs.Tallies.{count_of}
 use Rattle.replay_core.proofs.Low.{left}
-use Rattle.replay_core.proofs.Runs.{Together}
+use Rattle.replay_core.proofs.LowRuns.{Together}
 use Rattle.replay_core.proofs.replay.Replay.run_given.Given as goal
 
 abbrev pub invariant-loop-core : goal.invariant-loop-core

@@ -1,7 +1,7 @@
 use Rattle.std.proofs.Common.{◌≡◌, ◌∙◌, ◌+◌, ◌<◌, sym, ap, arith, length}
 use Rattle.std.proofs.lemmas.List.{get_or_default}
 use Rattle.replay_core.specs.Tallies.{Tallied, count_of}
-use Rattle.replay_core.proofs.Tallying.{sourced_in, unsourced_by}
+use Rattle.replay_core.proofs.LowCounts.{sourced_in, unsourced_by}
 use Rattle.replay_core.proofs.tally.Tally.are_met.Goals as goal
 
 pub returns-then-get-index : goal.returns-then-get-index

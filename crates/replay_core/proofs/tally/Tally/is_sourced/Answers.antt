@@ -7,7 +7,7 @@ use Rattle.race_log.specs.Sources.{log_edges}
 use Rattle.replay_core.specs.Play.{instr}
 use Rattle.replay_core.specs.Sources.{AreSources, sources_in}
 use Rattle.replay_core.specs.Tallies.{Tallied, count_of, next_of}
-use Rattle.replay_core.proofs.Tallying.{sourced_in, wanted_here}
+use Rattle.replay_core.proofs.LowCounts.{sourced_in, wanted_here}
 use Rattle.replay_core.proofs.tally.Tally.is_sourced.Goals as goal
 
 pub returns-in-None : goal.returns-in-None

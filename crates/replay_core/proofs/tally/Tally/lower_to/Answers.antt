@@ -1,6 +1,6 @@
 use Rattle.std.proofs.Common.{◌+◌, sym, ap, arith}
 use Rattle.replay_core.specs.Tallies.{Tallied, count_of}
-use Rattle.replay_core.proofs.Lowering.{lowered_all}
+use Rattle.replay_core.proofs.LowestReady.{lowered_all}
 use Rattle.replay_core.proofs.tally.Tally.lower_to.Goals as goal
 
 pub returns-clause-waits : goal.returns-clause-waits

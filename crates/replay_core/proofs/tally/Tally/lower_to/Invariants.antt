@@ -1,5 +1,5 @@
 -- the counts of the cores so far are lowered
-use Rattle.replay_core.proofs.Lowering.{LoweredTo}
+use Rattle.replay_core.proofs.LowestReady.{LoweredTo}
 use Rattle.replay_core.proofs.tally.Tally.lower_to.Given as goal
 
 abbrev pub invariant-loop-of : goal.invariant-loop-of

@@ -1,7 +1,7 @@
 use Rattle.std.proofs.Common.{◌∙◌, subst}
 use Rattle.replay_core.specs.Plans.{Plan}
 use Rattle.replay_core.specs.Tallies.{AreWanted}
-use Rattle.replay_core.proofs.Tallying.{counts_start}
+use Rattle.replay_core.proofs.LowCounts.{counts_start}
 use Rattle.replay_core.proofs.tally.Tally.new.Goals as goal
 
 pub invariant_of-result : goal.invariant_of-result

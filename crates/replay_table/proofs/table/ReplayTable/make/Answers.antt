@@ -13,8 +13,8 @@ use Rattle.replay_table.specs.declared.view.View.{View}
 use Rattle.replay_table.specs.Kinds.{first_view, without_first, first_alone, rest_view, dealt_view}
 use Rattle.replay_table.specs.Seats.{IsFresh, Opening, Sitting}
 use Rattle.replay_table.proofs.Lookups.{upcoming_is, can_begin}
-use Rattle.replay_table.proofs.Starts.{first_rule, drop_own, take_own, first_tied, rest_splits, dealt_more, longer}
-use Rattle.replay_table.proofs.Moves.{splits}
+use Rattle.replay_table.proofs.FirstView.{first_rule, drop_own, take_own, first_tied, rest_splits, dealt_more, longer}
+use Rattle.replay_table.proofs.ViewCuts.{splits}
 use Rattle.replay_table.proofs.table.ReplayTable.make.Goals as goal
 
 cores_are : {r s : Recording} → r ≡ s → Valid s → r.params.cores ≡ length s.totals

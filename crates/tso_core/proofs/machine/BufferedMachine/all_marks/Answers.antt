@@ -1,7 +1,7 @@
 -- The mover's oldest request is looked at, and then all moves that can be made are marked.
-use Rattle.tso_core.proofs.Ended.{holds_seen}
-use Rattle.tso_core.proofs.Renewed.{all_moves}
-use Rattle.tso_core.proofs.Roomed.{all_looked_at}
+use Rattle.tso_core.proofs.NoMoveAtEnd.{holds_seen}
+use Rattle.tso_core.proofs.MarksAfterMoves.{all_moves}
+use Rattle.tso_core.proofs.RequestRoom.{all_looked_at}
 use Rattle.tso_core.proofs.machine.BufferedMachine.all_marks.Goals as goal
 
 pub with_late-moves-requires-clause-holds : goal.with_late-moves-requires-clause-holds

@@ -1,4 +1,4 @@
-use Rattle.tso_core.proofs.Roomed.{room_made}
+use Rattle.tso_core.proofs.RequestRoom.{room_made}
 use Rattle.tso_core.proofs.machine.BufferedMachine.make_room.Goals as goal
 
 pub invariant_of-self : goal.invariant_of-self

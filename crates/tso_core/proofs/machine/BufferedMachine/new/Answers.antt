@@ -3,11 +3,11 @@
 use Rattle.std.proofs.Common.{◌≡◌, ◌∙◌, length, ℕ, arith}
 use Rattle.tso_state.specs.States.{BufferedCore, buffered_start}
 use Rattle.tso_plain.specs.Plain.{plain}
-use Rattle.tso_plain.proofs.Steps.{plain_start}
+use Rattle.tso_plain.proofs.ForgetfulSteps.{plain_start}
 use Rattle.tso_core.specs.Standings.{standing_with}
 use Rattle.machine_ports.proofs.AtHand.{one_writer}
-use Rattle.machine_ports.proofs.Counting.{kept_long}
-use Rattle.tso_core.proofs.Beginning.{begun_coherent, begun_holds, notes_first}
+use Rattle.machine_ports.proofs.CoreRanges.{kept_long}
+use Rattle.tso_core.proofs.StartMarks.{begun_coherent, begun_holds, notes_first}
 use Rattle.tso_core.proofs.machine.BufferedMachine.new.Goals as goal
 
 pub first_marks-marks-requires : goal.first_marks-marks-requires

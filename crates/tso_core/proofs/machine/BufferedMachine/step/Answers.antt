@@ -3,18 +3,18 @@
 use Rattle.std.proofs.Common.{◌≡◌, ◌∙◌, ap, sym, subst, ◌<◌, ◌%◌, List, length, true, ℕ}
 use Rattle.std.proofs.lemmas.List.{with_items_is}
 use Rattle.std.proofs.lemmas.Nat.{mod_below}
-use Rattle.tso_invariant.proofs.Kept.{step_cores}
+use Rattle.tso_invariant.proofs.MoveInvariant.{step_cores}
 use Rattle.tso_plain.specs.Plain.{plain}
 use Rattle.tso_plain.proofs.Events.{plain_event}
-use Rattle.tso_plain.proofs.Steps.{plain_step, plain_told}
+use Rattle.tso_plain.proofs.ForgetfulSteps.{plain_step, plain_told}
 use Rattle.tso_core.specs.Machineries.{Machinery}
 use Rattle.tso_core.specs.Moving.{AcceptsOf, rider_left}
 use Rattle.tso_state.specs.States.{State}
 use Rattle.tso_state.specs.Steps.{enabled, event}
 use Rattle.tso_core.specs.declared.standing.Standing.{Standing}
 use Rattle.tso_core.specs.Steppings.{HasMoved, KeepsPromises}
-use Rattle.tso_core.proofs.Choosing.{found_chosen, found_enabled, found_taken, some_counted}
-use Rattle.tso_core.proofs.Moves.{notes_kept}
+use Rattle.tso_core.proofs.ChosenMove.{found_chosen, found_enabled, found_taken, some_counted}
+use Rattle.tso_core.proofs.MoveFrames.{notes_kept}
 use Rattle.tso_core.proofs.Promises.{promises_kept}
 use Rattle.tso_core.proofs.Standings.{standings_long}
 use Rattle.tso_core.proofs.machine.BufferedMachine.step.Goals as goal

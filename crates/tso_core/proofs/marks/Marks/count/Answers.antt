@@ -1,5 +1,5 @@
 use Rattle.std.proofs.Common.{◌∙◌, ◌+◌}
-use Rattle.tso_core.proofs.Marked.{marked_long}
+use Rattle.tso_core.proofs.MarkCounts.{marked_long}
 use Rattle.tso_core.proofs.marks.Marks.count.Goals as goal
 
 pub returns : goal.returns

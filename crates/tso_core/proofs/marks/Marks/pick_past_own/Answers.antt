@@ -8,7 +8,7 @@ use Rattle.move_marks.specs.Members.{members}
 use Rattle.move_marks.proofs.Picks.{found_here, found_past}
 use Rattle.tso_state.specs.declared.moves.Move.TheVariants.{Order}
 use Rattle.tso_core.specs.Marks.{move_of}
-use Rattle.tso_core.proofs.Marked.{past_own_long}
+use Rattle.tso_core.proofs.MarkCounts.{past_own_long}
 use Rattle.tso_core.proofs.marks.Marks.pick_past_own.Goals as goal
 
 pub returns-then-number-many : goal.returns-then-number-many

@@ -1,7 +1,7 @@
 use Rattle.std.proofs.Common.{◌∙◌}
 use Rattle.msi_memory.specs.Memories.{Memory, port_at, rider_at}
 use Rattle.tso_state.specs.Events.{Ordered}
-use Rattle.tso_core.proofs.Leaving.{accepts_behind, drained_state, rider_stays, tells_behind}
+use Rattle.tso_core.proofs.OldestLeaves.{accepts_behind, drained_state, rider_stays, tells_behind}
 use Rattle.tso_core.proofs.parts.Parts.drain.Goals as goal
 
 pub tell_behind-requires-clause-accepts : goal.tell_behind-requires-clause-accepts

@@ -1,7 +1,7 @@
 use Rattle.std.proofs.Common.{◌∙◌}
 use Rattle.msi_memory.specs.Memories.{Memory}
 use Rattle.tso_state.specs.Events.{Logged}
-use Rattle.tso_core.proofs.Leaving.{accepts_behind, logged_state, tells_behind}
+use Rattle.tso_core.proofs.OldestLeaves.{accepts_behind, logged_state, tells_behind}
 use Rattle.tso_core.proofs.parts.Parts.log.Goals as goal
 
 pub tell_behind-requires-clause-accepts : goal.tell_behind-requires-clause-accepts

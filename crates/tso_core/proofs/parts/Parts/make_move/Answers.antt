@@ -6,12 +6,13 @@ use Rattle.msi_memory.specs.Acts.{TakeMessage}
 use Rattle.msi_laws.proofs.Ready.{memory_ready}
 use Rattle.tso_state.specs.declared.moves.Move.TheVariants.{Order}
 use Rattle.tso_state.specs.Moves.{core_of}
-use Rattle.tso_invariant.proofs.Rested.{rows_there}
-use Rattle.move_marks.proofs.Turned.{request_stays, response_stays}
+use Rattle.tso_invariant.proofs.MoveGrounds.{rows_there}
+use Rattle.move_marks.proofs.NextMoves.{request_stays, response_stays}
 use Rattle.tso_core.specs.Moving.{rider_left}
-use Rattle.tso_core.proofs.Moves.{at_port, core_after, core_moved, core_moves, kept_moved, message_moves, order_stands}
-use Rattle.tso_core.proofs.Moves.{own_marks, port_marks, port_seen, ports_few, room_still}
-use Rattle.tso_core.proofs.Renewed.{turn_kept}
+use Rattle.tso_core.proofs.MoveFrames.{at_port, core_after, core_moved, core_moves}
+use Rattle.tso_core.proofs.MoveFrames.{kept_moved, message_moves, order_stands}
+use Rattle.tso_core.proofs.MoveFrames.{own_marks, port_marks, port_seen, ports_few, room_still}
+use Rattle.tso_core.proofs.MarksAfterMoves.{turn_kept}
 use Rattle.tso_core.proofs.parts.Parts.make_move.Goals as goal
 
 -- ---- what each move rests on

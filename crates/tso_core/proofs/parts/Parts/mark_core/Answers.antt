@@ -1,4 +1,4 @@
-use Rattle.tso_core.proofs.Moves.{marked_of_seen, port_of_seen}
+use Rattle.tso_core.proofs.MoveFrames.{marked_of_seen, port_of_seen}
 use Rattle.tso_core.proofs.parts.Parts.mark_core.Goals as goal
 
 pub mark_own-requires : goal.mark_own-requires

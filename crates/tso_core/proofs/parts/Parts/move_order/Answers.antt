@@ -2,7 +2,7 @@ use Rattle.std.proofs.Common.{◌∙◌, refl}
 use Rattle.tso_state.specs.declared.moves.Move.TheVariants.{Order}
 use Rattle.tso_core.specs.Moving.{rider_left}
 use Rattle.tso_core.proofs.Heads.{order_standing}
-use Rattle.tso_core.proofs.Moves.{at_port, core_after, core_before, order_moved, own_marks, room_still}
+use Rattle.tso_core.proofs.MoveFrames.{at_port, core_after, core_before, order_moved, own_marks, room_still}
 use Rattle.tso_core.proofs.parts.Parts.move_order.Goals as goal
 
 pub order-requires-clause-room : goal.order-requires-clause-room

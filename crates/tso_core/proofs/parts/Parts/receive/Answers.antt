@@ -6,7 +6,7 @@ use Rattle.msi_memory.specs.Memories.{Memory, port_at}
 use Rattle.tso_state.specs.States.{State}
 use Rattle.tso_core.specs.Machineries.{Machinery}
 use Rattle.tso_core.specs.Workings.{asked_by}
-use Rattle.tso_core.proofs.Doing.{message_granted, message_quiet, taken}
+use Rattle.tso_core.proofs.CoreMoves.{message_granted, message_quiet, taken}
 use Rattle.tso_core.proofs.parts.Parts.receive.Goals as goal
 use Rattle.tso_core.proofs.parts.Parts.receive.Goals.{then-take_message, else-take_message}
 

@@ -7,7 +7,7 @@ use Rattle.tso_clerk.specs.Telling.{TellsAll}
 use Rattle.tso_state.specs.States.{BufferedCore, core_at}
 use Rattle.tso_core.specs.Machineries.{Machinery}
 use Rattle.tso_core.specs.Workings.{HasTold, locals_of}
-use Rattle.tso_core.proofs.Telling.{Behind, accepts_next, all_told, instr, one_told}
+use Rattle.tso_core.proofs.ToldAlone.{Behind, accepts_next, all_told, instr, one_told}
 use Rattle.tso_core.proofs.parts.Parts.tell_behind.Given.{Over}
 use Rattle.tso_core.proofs.parts.Parts.tell_behind.Goals as goal
 use Rattle.tso_core.proofs.parts.Parts.tell_behind.Goals.{After-instr-at}

@@ -1,6 +1,6 @@
 use Rattle.std.proofs.Common.{◌≡◌, ◌<◌, ◌≤◌, length}
 use Rattle.tso_state.specs.States.{core_at}
-use Rattle.tso_core.proofs.Telling.{Behind}
+use Rattle.tso_core.proofs.ToldAlone.{Behind}
 use Rattle.tso_core.proofs.parts.Parts.tell_behind.Given as goal
 
 abbrev pub invariant-loop-last : goal.invariant-loop-last

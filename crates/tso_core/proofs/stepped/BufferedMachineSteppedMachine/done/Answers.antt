@@ -3,9 +3,9 @@ use Rattle.std.proofs.Common.{◌∙◌, sym, ap, length}
 use Rattle.rtr_types.proofs.Truths.{true_is}
 use Rattle.msi_laws.proofs.Final.{final_current}
 use Rattle.tso_state.specs.States.{State}
-use Rattle.tso_invariant.proofs.Ending.{links_left}
-use Rattle.tso_plain.proofs.Steps.{plain_done}
-use Rattle.tso_core.proofs.Ended.{ends_by, holds_seen}
+use Rattle.tso_invariant.proofs.DoneMachine.{links_left}
+use Rattle.tso_plain.proofs.ForgetfulSteps.{plain_done}
+use Rattle.tso_core.proofs.NoMoveAtEnd.{ends_by, holds_seen}
 use Rattle.tso_core.proofs.stepped.BufferedMachineSteppedMachine.done.Goals as goal
 
 pub returns-clause-done : goal.returns-clause-done

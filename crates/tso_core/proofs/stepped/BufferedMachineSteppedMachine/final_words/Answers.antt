@@ -6,7 +6,7 @@ use Rattle.msi_memory.specs.Finals.{block_words}
 use Rattle.msi_state.specs.States.{State as MachineState}
 use Rattle.tso_state.specs.States.{State, all_done}
 use Rattle.tso_data.specs.Orders.{Coherent}
-use Rattle.tso_invariant.proofs.Ending.{links_left}
+use Rattle.tso_invariant.proofs.DoneMachine.{links_left}
 use Rattle.tso_core.specs.Machineries.{Machinery}
 use Rattle.machine_ports.proofs.AtHand.{ends_at_hand}
 use Rattle.tso_core.proofs.stepped.BufferedMachineSteppedMachine.final_words.Goals as goal

@@ -1,8 +1,8 @@
 use Rattle.access_times.specs.Times.{times_riding}
 use Rattle.machine_times.specs.TimedSteps.{times_parts}
-use Rattle.tso_times.proofs.Meeting.{meet_alike}
-use Rattle.tso_core.proofs.Choosing.{taken_enabled}
-use Rattle.tso_core.proofs.Ended.{holds_seen}
+use Rattle.tso_times.proofs.MetRiders.{meet_alike}
+use Rattle.tso_core.proofs.ChosenMove.{taken_enabled}
+use Rattle.tso_core.proofs.NoMoveAtEnd.{holds_seen}
 use Rattle.tso_core.proofs.TimedTold.{step_finds, step_stands}
 use Rattle.tso_core.proofs.timed.BufferedMachine+Times+K.step_timed.Goals as goal
 

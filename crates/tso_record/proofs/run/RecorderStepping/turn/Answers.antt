@@ -1,10 +1,10 @@
 use Rattle.std.proofs.Common.{◌<◌, ap, refl, suc, sym, subst, ◌∙◌}
 use Rattle.tso_bound.specs.Bound.{left}
-use Rattle.tso_outcome.proofs.Turns.{Steps}
+use Rattle.tso_outcome.proofs.RunPlaces.{Steps}
 use Rattle.tso_plain.specs.Plain.{plain}
 use Rattle.tso_records.specs.Standings.{TimedState}
 use Rattle.tso_state.specs.Runs.{chosen}
-use Rattle.tso_record.proofs.Standing.{accepts_next, records_next, records_same}
+use Rattle.tso_record.proofs.RecordedPlaces.{accepts_next, records_next, records_same}
 use Rattle.tso_record.proofs.run.RecorderStepping.turn.Goals as goal
 
 pub step_timed-requires-clause-roomy : goal.step_timed-requires-clause-roomy

@@ -4,7 +4,8 @@ use Rattle.std.proofs.Common.{ℕ, subst, arith}
 use Rattle.std.specs.Prelude.{Bool, Option}
 use Rattle.vector_reduce.specs.declared.arrivals.Arrival.{Arrival}
 use Rattle.vector_reduce.specs.Arrivals.{AnyDue, Arranged, Arranges, Takes}
-use Rattle.vector_reduce.proofs.Closed.{closed_at_end, due_is, goes, goes_on, less_to_go, source_inside, still_fits}
+use Rattle.vector_reduce.proofs.ClosingCuts.{closed_at_end, due_is, goes, goes_on}
+use Rattle.vector_reduce.proofs.ClosingCuts.{less_to_go, source_inside, still_fits}
 use Rattle.vector_reduce.proofs.arrivals.Arrivals.close.Goals as goal
 
 pub loop-core-init : goal.loop-core-init

@@ -1,5 +1,5 @@
 use Rattle.std.proofs.Common.{length}
-use Rattle.vector_reduce.proofs.Closed.{Going, to_go}
+use Rattle.vector_reduce.proofs.ClosingCuts.{Going, to_go}
 use Rattle.vector_reduce.proofs.arrivals.Arrivals.close.Given as goal
 
 abbrev pub invariant-loop-core : goal.invariant-loop-core

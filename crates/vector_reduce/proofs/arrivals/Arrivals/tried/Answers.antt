@@ -6,7 +6,7 @@ use Rattle.rtr_types.specs.declared.instr.Edge.{Edge}
 use Rattle.vector_reduce.specs.Arrivals.{Arranged, IsClosedAt, IsClosing, counts_of}
 use Rattle.vector_reduce.specs.Cuts.{Holds}
 use Rattle.vector_reduce.specs.Vectors.{edge_at}
-use Rattle.vector_reduce.proofs.Closed.{tries_first, tries_implied, tries_next, tries_shown}
+use Rattle.vector_reduce.proofs.ClosingCuts.{tries_first, tries_implied, tries_next, tries_shown}
 use Rattle.vector_reduce.proofs.arrivals.Arrivals.tried.Goals as goal
 
 pub loop-position-init : goal.loop-position-init

@@ -1,4 +1,4 @@
-use Rattle.vector_reduce.proofs.Closed.{Trying}
+use Rattle.vector_reduce.proofs.ClosingCuts.{Trying}
 use Rattle.vector_reduce.proofs.arrivals.Arrivals.tried.Given as goal
 
 abbrev pub invariant-loop-position : goal.invariant-loop-position

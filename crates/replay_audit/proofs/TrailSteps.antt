@@ -1,0 +1,282 @@
+-- A trail goes on by one instruction.
+use Rattle.std.proofs.Common.{inl, inr, ◌≡◌, ◌≢◌, ◌⊎◌, ℕ, ◌+◌, ◌<◌, ◌≤◌, true, false, Bool, not, ◌&&◌, List, [], ◌∷◌}
+use Rattle.std.proofs.Common.{◌++◌, replicate, reverse, refl, sym, ap}
+use Rattle.std.proofs.Common.{◌∙◌, subst, arith, append-nil}
+use Rattle.std.specs.Prelude.{slice_index, nat_le, Option, Some, None}
+use Rattle.std.proofs.lemmas.Bool.Decides.{nat_tests}
+use Rattle.std.proofs.lemmas.Bool.{not-true, and_parts}
+use Rattle.rtr_types.specs.declared.TheConstants.{CORES_MAX}
+use Rattle.rtr_types.specs.declared.instr.Instr.{Instr}
+use Rattle.rtr_types.specs.declared.instr.Edge.{Edge}
+use Rattle.rtr_types.specs.declared.access.Access.{Access}
+use Rattle.rtr_types.specs.declared.pairs.Which.{Which}
+use Rattle.clock_core.specs.Order.{Before, IsOrLeads, Among}
+use Rattle.clock_core.specs.Reach.{IsClock}
+use Rattle.clock_core.proofs.Reach.{clock_same}
+use Rattle.conflict_edge.specs.Clocks.{Candidate}
+use Rattle.conflict_edge.specs.Conflicts.{Conflicts, ConflictPair, CountsRise, StandsIn, do_conflict}
+use Rattle.conflict_edge.specs.Least.{Suffices}
+use Rattle.conflict_edge.proofs.Candidates.{candidates_law}
+use Rattle.conflict_edge.proofs.History.{do_conflict-true, do_conflict-yes}
+use Rattle.conflict_edge.proofs.Online.{candidate_source, last_read-is}
+use Rattle.conflict_edge.proofs.NewestFirst.{stands_back, reverse-next}
+use Rattle.conflict_edge.proofs.AccessPlaces.{positive}
+use Rattle.race_log.specs.declared.recording.Recording.{Recording}
+use Rattle.race_log.specs.Sources.{log_edges}
+use Rattle.race_log.specs.Validity.{Valid}
+use Rattle.replay_core.specs.Plans.{plan_of}
+use Rattle.replay_core.specs.Play.{instr}
+use Rattle.replay_core.specs.Orders.{bump, nought, Ready}
+use Rattle.replay_core.specs.Answers.{told}
+use Rattle.clock_entries.specs.Laws.{IsAcyclic}
+use Rattle.replay_audit.specs.declared.marks.Mark.{Mark}
+use Rattle.replay_audit.specs.declared.unordered.Unordered.{Unordered}
+use Rattle.replay_core.specs.Sources.{AreSources}
+use Rattle.replay_audit.specs.Clocks.{Kept, clock_at, Clocked}
+use Rattle.replay_audit.specs.Marks.{first_mark, AreMarksCovered, AreMarked}
+use Rattle.replay_audit.specs.Unordered.{IsLatestBefore, IsUnordered, is_open, AreCovered, IsLatestAt}
+use Rattle.replay_audit.specs.Trails.{Trailed, FoundNext, Watches, with_kept, Trails, IsFinding, IsTrailOf}
+use Rattle.replay_audit.proofs.Pairs.{Apart, both_left, both_right, across, pairs_which}
+use Rattle.replay_audit.proofs.ClockSteps.{clocked_on, clock_found, clocked_start}
+use Rattle.replay_audit.proofs.Scan.{split_more}
+use Rattle.replay_audit.proofs.MarkLaws.{AreCandidatesCovered, covered_marks, marked_next, marked_start}
+
+-- ---- what a clock says of an earlier access
+
+and_false : (a b : Bool) → a && not b ≡ false → a ≡ true → b ≡ true
+and_false true true e t = refl
+and_false true false e t = absurd (cc)
+and_false false b e t = absurd (cc)
+
+open_conflict : (b a : Access) (k : List ℕ) → is_open b a k ≡ true → Conflicts b a ×
+    (slice_index k b.at.core < b.at.count)
+open_conflict b a k t =
+    let p = and_parts (do_conflict b a) (not (nat_le b.at.count (slice_index k b.at.core))) t in
+    let q : nat_le b.at.count (slice_index k b.at.core) ≡ false =
+    not-true (nat_le b.at.count (slice_index k b.at.core)) p.1 in
+    (do_conflict-true b a p.0, grind (arith, nat_tests))
+
+closed_covers : (b a : Access) (k : List ℕ) → is_open b a k ≡ false → Conflicts b a →
+    b.at.count ≤ slice_index k b.at.core
+closed_covers b a k t c =
+    let q : nat_le b.at.count (slice_index k b.at.core) ≡ true =
+    and_false (do_conflict b a) (nat_le b.at.count (slice_index k b.at.core)) t
+    (do_conflict-yes b a c) in
+    grind (arith, nat_tests)
+
+-- the clock is a's
+abbrev pub IsClockOf : List Edge → Access → List ℕ → Type 0
+IsClockOf edges a k = IsClock (Among edges) a.at (λ i. slice_index k i)
+
+-- the clock covers another core's instruction exactly where this is before it
+covered : (edges : List Edge) (y z : Instr) (clock : ℕ → ℕ) → IsClock (Among edges) y clock → 1 ≤ z.count →
+    z.core ≢ y.core →
+    (z.count ≤ clock z.core → Before (Among edges) z y) × (Before (Among edges) z y → z.count ≤ clock z.core)
+covered edges y z clock k pos ne = (λ le. by ((k z pos).0 le), λ p. (k z pos).1 (inr p))
+  where
+    by : IsOrLeads (Among edges) z y → Before (Among edges) z y
+    by (inl e) = absurd (ne (ap (λ (x : Instr). x.core) e))
+    by (inr p) = p
+
+covered_before : (edges : List Edge) (b a : Access) (k : List ℕ) → IsClockOf edges a k → 1 ≤ b.at.count →
+    is_open b a k ≡ false → Conflicts b a →
+    Before (Among edges) b.at a.at
+covered_before edges b a k h pos t c =
+    (covered edges a.at b.at (λ i. slice_index k i) h pos c.0).0 (closed_covers b a k t c)
+
+open_loose : (edges : List Edge) (b a : Access) (k : List ℕ) → IsClockOf edges a k → 1 ≤ b.at.count →
+    is_open b a k ≡ true → Before (Among edges) b.at a.at → ⊥
+open_loose edges b a k h pos t p =
+    let o = open_conflict b a k t in
+    let le = (covered edges a.at b.at (λ i. slice_index k i) h pos o.0.0).1 p in
+    let lt = o.1 in omega arith
+
+stands_mid : (xs : List Access) (e : Access) (ys : List Access) (b : Access) → (e ≡ b) ⊎ StandsIn ys b →
+    StandsIn (xs ++ e ∷ ys) b
+stands_mid [] e ys b (inl q) = inl q
+stands_mid [] e ys b (inr s) = inr s
+stands_mid (x ∷ xs) e ys b s = inr (stands_mid xs e ys b s)
+
+single_apart : (a : Access) (x y : Instr) → ConflictPair (a ∷ []) x y → ⊥
+single_apart a x y (inl p) = p.2
+single_apart a x y (inr p) = p
+
+-- with no open access the log orders the conflicts of one access more
+covered_suffice : (edges : List Edge) (list : List Access) (a : Access) (k : List ℕ) → IsClockOf edges a k →
+    CountsRise list → Suffices list (Among edges) →
+    AreCovered list a k → Suffices (list ++ a ∷ []) (Among edges)
+covered_suffice edges list a k h rise suf all x y p = by (pairs_which list (a ∷ []) x y p)
+  where
+    last : (b d : Access) → StandsIn list b → StandsIn (a ∷ []) d → b.at ≡ x → d.at ≡ y → Conflicts b d →
+        Before (Among edges) x y
+    last b d s (inl e) bx dy c =
+        let go : Before (Among edges) b.at a.at = covered_before edges b a k h (positive list b rise s) (all b s)
+        (subst (λ (z : Access). Conflicts b z) (sym e) c) in
+        subst (λ (z : Instr). Before (Among edges) z y) bx
+        (subst (λ (z : Instr). Before (Among edges) b.at z) (ap (λ (z : Access). z.at) e ∙ dy) go)
+    last b d s (inr e) bx dy c = absurd e
+
+    by : Apart list (a ∷ []) x y → Before (Among edges) x y
+    by (both_left q) = suf x y q
+    by (both_right q) = absurd (single_apart a x y q)
+    by (across b d s t bx dy c) = last b d s t bx dy c
+
+latest_before : (edges : List Edge) (list : List Access) (a : Access) (k : List ℕ) (x : Instr) → IsClockOf edges a k →
+    CountsRise list →
+    IsLatestAt list a k x → IsLatestBefore edges list a x
+latest_before edges list a k x h rise l = record {
+  older = l.older;
+  earlier = l.earlier;
+  newer = l.newer;
+  split = l.split;
+  at = l.at;
+  conflict = (open_conflict l.earlier a k l.is_left).0;
+  unordered = open_loose edges l.earlier a k h (pos l.earlier (inl refl)) l.is_left;
+  latest = λ b s c. covered_before edges b a k h (pos b (inr s)) (l.latest b s) c;
+}
+  where
+    pos : (b : Access) → (l.earlier ≡ b) ⊎ StandsIn l.newer b → 1 ≤ b.at.count
+    pos b s = positive list b rise
+        (subst (λ (z : List Access). StandsIn z b) (sym l.split) (stands_mid l.older l.earlier l.newer b s))
+
+finding_more : (edges : List Edge) (list : List Access) (a : Access) (x y : Instr) → IsUnordered edges list x y →
+    IsUnordered edges (list ++ a ∷ []) x y
+finding_more edges list a x y h = record {
+  front = h.front;
+  later = h.later;
+  at = h.at;
+  ordered = h.ordered;
+  partner = h.partner;
+  rest = h.rest ++ a ∷ [];
+  split = split_more list h.front h.rest h.later a h.split;
+}
+
+-- what the marks are enough for
+checked_suffice : (edges : List Edge) (list : List Access) (a : Access) (k : List ℕ) → IsClockOf edges a k →
+    CountsRise (list ++ a ∷ []) → CountsRise list →
+    Suffices list (Among edges) → AreCandidatesCovered (reverse list) a k → Suffices (list ++ a ∷ []) (Among edges)
+checked_suffice edges list a k h now rise suf ch = candidates_law list a edges now suf ordered
+  where
+    ordered : (z : Instr) → Candidate (reverse list) a z → Before (Among edges) z a.at
+    ordered z c =
+        let src = candidate_source (reverse list) a z c in
+        let pos : 1 ≤ z.count = subst (λ (x : Instr). 1 ≤ x.count) src.2
+        (positive list src.0 rise (stands_back list src.0 src.1)) in
+        let ne : z.core ≢ a.at.core = λ e. src.3.0 (ap (λ (x : Instr). x.core) src.2 ∙ e) in
+        (covered edges a.at z (λ i. slice_index k i) h pos ne).0 (ch z c)
+
+-- what is known of the accesses before
+pub record Earlier (list : List Access) (marks : List Mark) : Type 0 where
+  pub rise : CountsRise list
+  pub marked : AreMarked (reverse list) marks
+  pub cores : (b : Access) → StandsIn list b → b.at.core < CORES_MAX
+
+none_next : (edges : List Edge) (marks : List Mark) (list : List Access) (a : Access) (k : List ℕ) →
+    IsClockOf edges a k → CountsRise (list ++ a ∷ []) →
+    Earlier list marks → Suffices list (Among edges) →
+    AreMarksCovered marks a k ⊎ AreCovered list a k → Suffices (list ++ a ∷ []) (Among edges)
+none_next edges marks list a k h now was f (inr all) = covered_suffice edges list a k h was.rise f all
+none_next edges marks list a k h now was f (inl s) = checked_suffice edges list a k h now was.rise f
+    (covered_marks (reverse list) marks a k was.marked
+    (λ b w i e. was.cores b (stands_back list b (last_read-is (reverse list) w i b e).stands)) s)
+
+pub finding_next : (edges : List Edge) (marks : List Mark) (list : List Access) (a : Access) (k : List ℕ)
+    (o p : Option Unordered) → IsClockOf edges a k →
+    CountsRise (list ++ a ∷ []) → Earlier list marks → IsFinding edges list o → FoundNext o marks list a k p →
+    IsFinding edges (list ++ a ∷ []) p
+finding_next edges marks list a k (Some o) p h now was f n =
+    subst (λ (z : Option Unordered). IsFinding edges (list ++ a ∷ []) z) (sym n)
+    (finding_more edges list a o.first o.second f)
+finding_next edges marks list a k None None h now was f n = none_next edges marks list a k h now was f n
+finding_next edges marks list a k None (Some o) h now was f n = record {
+  front = list;
+  later = a;
+  rest = [];
+  split = refl;
+  at = sym n.1;
+  ordered = f;
+  partner = latest_before edges list a k o.first h was.rise n.0;
+}
+
+-- ---- a trail
+
+-- no access yet, with the clocks of instructions that were noted
+pub trail_along : (edges : List Edge) (cores words : ℕ) (f : ℕ → ℕ) (t : Trailed) → Clocked edges cores f t.kept →
+    t.marks ≡ replicate words first_mark → t.accesses ≡ [] → t.found ≡ None → IsTrailOf edges cores f [] t
+trail_along edges cores words f t clocked marks accesses found = record {
+  clocked = clocked;
+  accesses_is = accesses;
+  marked = subst (λ (l : List Mark). AreMarked [] l) (sym marks) (marked_start words);
+  finding = λ acyclic. subst (λ (o : Option Unordered). IsFinding edges [] o) (sym found) (λ x y p. absurd p);
+}
+
+pub trail_start : (edges : List Edge) (cores words : ℕ) (t : Trailed) → t.kept.numbers ≡ replicate cores [] →
+    t.kept.clocks ≡ replicate cores [] →
+    t.marks ≡ replicate words first_mark → t.accesses ≡ [] → t.found ≡ None → IsTrailOf edges cores nought [] t
+trail_start edges cores words t numbers clocks = trail_along edges cores words nought t
+    (clocked_start edges cores t.kept numbers clocks)
+
+module _ (which : Which) (r : Recording) (valid : Valid r) (f : ℕ → ℕ) (c : ℕ) (ready : Ready (plan_of which r) f c)
+    (list : List Access) (s : Trailed)
+    (trail : IsTrailOf (log_edges which r) r.params.cores f list s) (sources : List ℕ)
+    (are : AreSources (log_edges which r) (instr c (f c + 1)) sources) where
+  -- with the next instruction of a ready core, and its access
+  pub trail_on : (access : Option Access) (t : Trailed) → Trails s (instr c (f c + 1)) sources r.params.cores access t →
+      ((a : Access) → StandsIn (told access) a → a.at ≡ instr c (f c + 1)) →
+      CountsRise list → CountsRise (list ++ told access) → ((b : Access) → StandsIn list b → b.at.core < CORES_MAX) →
+      c < CORES_MAX →
+      IsTrailOf (log_edges which r) r.params.cores (bump f c) (list ++ told access) t
+  trail_on None t h at rise now cores few =
+      subst (λ (x : Trailed). IsTrailOf (log_edges which r) r.params.cores (bump f c) (list ++ []) x) (sym h.watched)
+      (subst (λ (l : List Access). IsTrailOf (log_edges which r) r.params.cores (bump f c) l (with_kept s h.kept))
+      (sym (append-nil list)) (record {
+        clocked = clocked_on which r valid f s.kept trail.clocked c sources h.kept ready are h.noted;
+        accesses_is = trail.accesses_is;
+        marked = trail.marked;
+        finding = trail.finding;
+      }))
+  trail_on (Some a) t h at rise now cores few = record {
+    clocked = subst (λ (k : Kept). Clocked (log_edges which r) r.params.cores (bump f c) k) (sym h.watched.kept)
+        (clocked_on which r valid f s.kept trail.clocked c sources h.kept ready are h.noted);
+    accesses_is = h.watched.accesses ∙ ap (λ (l : List Access). l ++ a ∷ []) trail.accesses_is;
+    marked = subst (λ (l : List Access). AreMarked l t.marks) (sym (reverse-next list a))
+        (subst (λ (m : List Mark). AreMarked (a ∷ reverse list) m) (sym h.watched.marks)
+        (marked_next (reverse list) s.marks a core trail.marked));
+    finding = λ acyclic. finding_next (log_edges which r) s.marks list a h.watched.clock s.found t.found
+        (clock_of acyclic) now
+        (record { rise = rise; marked = trail.marked; cores = cores }) (trail.finding acyclic)
+        (subst (λ (l : List Access). FoundNext s.found s.marks l a h.watched.clock t.found) trail.accesses_is
+        h.watched.found);
+  }
+    where
+      here : a.at ≡ instr c (f c + 1)
+      here = at a (inl refl)
+
+      core : a.at.core < CORES_MAX
+      core = subst (λ (x : Instr). x.core < CORES_MAX) (sym here) few
+
+      clock_of : IsAcyclic (log_edges which r) → IsClockOf (log_edges which r) a h.watched.clock
+      clock_of acyclic = subst (λ (x : Instr). IsClock (Among (log_edges which r)) x
+          (λ i. slice_index h.watched.clock i)) (sym here)
+          (clock_same (Among (log_edges which r)) (instr c (f c + 1)) (clock_at h.kept (instr c (f c + 1)))
+          (λ i. slice_index h.watched.clock i)
+          (λ i. sym (h.watched.clock_is i ∙ ap (λ (x : Instr). clock_at h.kept x i) here))
+          (clock_found which r valid f s.kept trail.clocked c sources h.kept ready are h.noted acyclic))
+
+-- an access of an instruction that was noted before
+pub trail_watched : (edges : List Edge) (cores : ℕ) (f : ℕ → ℕ) (list : List Access) (s t : Trailed) (a : Access) →
+    IsTrailOf edges cores f list s → Watches s a t → a.at.core < cores → a.at.core < CORES_MAX → 1 ≤ a.at.count →
+    a.at.count ≤ f a.at.core → CountsRise list → CountsRise (list ++ a ∷ []) →
+    ((b : Access) → StandsIn list b → b.at.core < CORES_MAX) → IsTrailOf edges cores f (list ++ a ∷ []) t
+trail_watched edges cores f list s t a trail w inside few pos le rise now each = record {
+  clocked = subst (λ (k : Kept). Clocked edges cores f k) (sym w.kept) trail.clocked;
+  accesses_is = w.accesses ∙ ap (λ (l : List Access). l ++ a ∷ []) trail.accesses_is;
+  marked = subst (λ (l : List Access). AreMarked l t.marks) (sym (reverse-next list a))
+      (subst (λ (m : List Mark). AreMarked (a ∷ reverse list) m) (sym w.marks)
+      (marked_next (reverse list) s.marks a few trail.marked));
+  finding = λ acyclic. finding_next edges s.marks list a w.clock s.found t.found
+      (clock_same (Among edges) a.at (clock_at s.kept a.at) (λ i. slice_index w.clock i) (λ i. sym (w.clock_is i))
+      (trail.clocked.exact acyclic a.at.core a.at.count inside pos le)) now
+      (record { rise = rise; marked = trail.marked; cores = each }) (trail.finding acyclic)
+      (subst (λ (l : List Access). FoundNext s.found s.marks l a w.clock t.found) trail.accesses_is w.found);
+}
