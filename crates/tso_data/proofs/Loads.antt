@@ -12,8 +12,8 @@ use Rattle.msi_memory.specs.Acts.{allows}
 use Rattle.msi_memory.specs.Memories.{word_at}
 use Rattle.tso_state.specs.declared.pending.Pending.{Pending}
 use Rattle.tso_state.specs.declared.pending.Pending.TheVariants.{Load as PendingLoad}
-use Rattle.tso_state.specs.Events.{Drains, Logs, event_ordering}
-use Rattle.tso_data.specs.Orders.{LoadLeaves, still_there}
+use Rattle.tso_state.specs.Events.{Drains, Logs, event_ordering, still_there}
+use Rattle.tso_data.specs.Orders.{LoadLeaves}
 
 module _ {R K : Type 0} where
   pub load_leaves : (riding : Riding R) (core count word value : ℕ) (rest : List Pending) (p : Port R K) →

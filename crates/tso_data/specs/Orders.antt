@@ -1,12 +1,8 @@
 -- What the ordered accesses of a machine with store buffers make of memory.
-use Rattle.std.specs.Prelude.{◌≡◌, ℕ, ◌/◌, ◌==◌, Bool, true, false, ◌&&◌, List}
+use Rattle.std.specs.Prelude.{◌≡◌, ℕ, Bool, true, false, List}
 use Rattle.access_times.specs.Riding.{Riding, Carrying}
-use Rattle.rtr_types.specs.declared.TheConstants.{BLOCK_WORDS}
 use Rattle.rtr_types.specs.declared.instr.Instr.{Instr}
 use Rattle.rtr_types.specs.declared.access.Kind.TheVariants.{Load}
-use Rattle.msi_memory.specs.declared.port.Port.{Port}
-use Rattle.msi_memory.specs.Acts.{allows}
-use Rattle.msi_memory.specs.Memories.{word_at}
 use Rattle.msi_state.specs.Events.{Event as ClerkEvent, Nothing as NothingTold, Accesses}
 use Rattle.msi_laws.specs.Words.{HaveWords}
 use Rattle.tso_state.specs.Events.{Event, Performs, Drains, Logs}
@@ -22,10 +18,6 @@ module _ {R K : Type 0} where
   -- the copies of each block that count have the memory's words; the memory gives each block's words
   abbrev pub Coherent : Riding R → Carrying K → State R K → (ℕ → List ℕ) → Type 0
   Coherent riding carrying s memory = HaveWords riding carrying s.memory memory
-
-  -- the port can read the word, and it has this value still
-  abbrev pub still_there : Riding R → Port R K → (word value : ℕ) → Bool
-  still_there riding p word value = allows riding p (word / BLOCK_WORDS) Load && (word_at riding p word == value)
 
 -- as it leaves the queue, a pending load is ordered where its word is still there, with the value that it got as the
 -- word before and after, and is logged with that value elsewhere

@@ -26,7 +26,7 @@ use Rattle.tso_recordings.specs.Logged.{IsOneOf, LoggedLaw, LogsAt}
 use Rattle.tso_recordings.specs.Schedules.{tso_recording_of}
 use Rattle.tso_bound.specs.Ends.{end_of}
 use Rattle.tso_bound.proofs.RunEnds.{run_cores}
-use Rattle.tso_data.specs.Orders.{LoadLeaves, still_there}
+use Rattle.tso_data.specs.Orders.{LoadLeaves}
 use Rattle.tso_data.proofs.Loads.{load_leaves}
 use Rattle.tso_invariant.specs.Holds.{TsoHolds, may_ask}
 use Rattle.tso_invariant.proofs.StartInvariant.{chosen_enabled, holds_run}
@@ -40,7 +40,7 @@ use Rattle.tso_state.specs.declared.pending.Asker.TheVariants.{Nobody, Next, Hea
 use Rattle.tso_state.specs.declared.pending.Pending.{Pending}
 use Rattle.tso_state.specs.declared.pending.Pending.TheVariants.{Load as PendingLoad, Store as PendingStore}
 use Rattle.tso_state.specs.Events.{Event, Nothing, Buffers, Performs, Drains, Logs, event_executing}
-use Rattle.tso_state.specs.Events.{event_granted, event_ordering}
+use Rattle.tso_state.specs.Events.{event_granted, event_ordering, still_there}
 use Rattle.tso_state.specs.Moves.{core_of}
 use Rattle.tso_state.specs.Runs.{LoggedLoad, chosen, event_by, logged_in, logged_loads, plain_event, run, values_at}
 use Rattle.tso_state.specs.Runs.{values_of}

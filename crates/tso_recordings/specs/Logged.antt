@@ -9,7 +9,7 @@ use Rattle.schedule_pick.specs.Choices.{Choices, choice_at}
 use Rattle.msi_memory.specs.Memories.{port_at}
 use Rattle.tso_recordings.specs.Schedules.{tso_recording_of}
 use Rattle.tso_bound.specs.Ends.{end_of}
-use Rattle.tso_data.specs.Orders.{still_there}
+use Rattle.tso_state.specs.Events.{still_there}
 use Rattle.tso_state.specs.declared.moves.Move.TheVariants.{Order as OrderMove}
 use Rattle.tso_state.specs.declared.pending.Pending.{Pending}
 use Rattle.tso_state.specs.declared.pending.Pending.TheVariants.{Load as PendingLoad}

@@ -1,6 +1,6 @@
 -- Rule: what happens with store buffers, and what is told: event_executing, event_ordering, event_receiving, tellings
 -- What a core does in a move, what becomes of it, and what the clerk is told, for every type of riders and carries.
-use Rattle.std.specs.Prelude.{ℕ, ◌+◌, ◌-◌, ◌/◌, ◌==◌, ◌&&◌, List, [], ◌∷◌, ◌++◌, drop, map, if◌then◌else◌}
+use Rattle.std.specs.Prelude.{ℕ, ◌+◌, ◌-◌, ◌/◌, ◌==◌, Bool, ◌&&◌, List, [], ◌∷◌, ◌++◌, drop, map, if◌then◌else◌}
 use Rattle.std.specs.List.{range_with_len}
 use Rattle.access_times.specs.Riding.{Riding, Carrying}
 use Rattle.image_mem.specs.Contents.{Contents}
@@ -46,6 +46,10 @@ pending_store image core word =
     let mask = store_mask image core in PendingStore (core.count + 1) word mask.0 mask.1
 
 module _ {R K : Type 0} where
+  -- the port can read the word, and it has this value still
+  abbrev pub still_there : Riding R → Port R K → (word value : ℕ) → Bool
+  still_there riding p word value = allows riding p (word / BLOCK_WORDS) Loading && (word_at riding p word == value)
+
   -- a core loads a word that its port has: with pending accesses it joins them, with the value that it sees
   abbrev pub event_loading : Contents → Riding R → BufferedCore → Port R K → (word : ℕ) → Event
   event_loading image riding t p word =
@@ -66,8 +70,8 @@ module _ {R K : Type 0} where
       then Performs (access_of image riding t.core p word Exchanging) else Nothing
   event_executing (Done stop) image riding t p = Nothing
 
-  -- the oldest of a core's pending accesses is ordered: a store where the port may write its block. A load is logged
-  -- where the port can't read its block, or where its word differs from the value that the load got.
+  -- the oldest of a core's pending accesses is ordered: a store where the port may write its block, and a load where
+  -- its word is still there with the value that it got. Elsewhere the load is logged with that value.
   abbrev pub event_ordering : List Pending → Riding R → (core : ℕ) → Port R K → Event
   event_ordering [] riding core p = Nothing
   event_ordering (PendingStore count word mask bits ∷ rest) riding core p =
@@ -84,7 +88,7 @@ module _ {R K : Type 0} where
   event_ordering (PendingLoad count word value ∷ rest) riding core p =
       let old = word_at riding p word in
       let at : Instr = record { core = core; count = count } in
-      if allows riding p (word / BLOCK_WORDS) Loading && (old == value)
+      if still_there riding p word value
       then Drains (record { at = at; word = word; kind = Loading; before = old; after = old })
       else Logs at word value
 

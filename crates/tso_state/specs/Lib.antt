@@ -1,3 +1,4 @@
+pub mod Sizes
 pub mod Pending
 pub mod States
 pub mod Moves

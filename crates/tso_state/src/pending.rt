@@ -1,12 +1,21 @@
 //! The accesses that a core has executed and that aren't ordered yet.
 //!
 //! Rule: pending accesses of a core with a store buffer: Pending, Asker
+ghost use Rattle.std.specs.Prelude.{◌≡◌};
+ghost use Rattle.tso_state.specs.Sizes.{pending_max, stores_max};
 
 /// How many accesses of a core may be pending.
 pub const PENDING_MAX: usize = 16;
 
 /// How many of them may be stores.
 pub const STORES_MAX: usize = 4;
+
+/// The sizes of a store buffer as numbers: at most 16 accesses of a core are pending, and at most 4 of them are
+/// stores. Whether another has room is told by these constants.
+pub fn sizes_law()
+    ensures pending { PENDING_MAX ≡ pending_max }
+    ensures stores { STORES_MAX ≡ stores_max }
+{}
 
 /// A pending access of a core. A core's instructions are counted from 1, and a word's index is its address
 /// divided by 4.
