@@ -4,7 +4,6 @@ use Rattle.std.proofs.Common.{replicate}
 use Rattle.std.proofs.Common.{refl, sym, ap, ◌∙◌, subst, arith, length-set, get_or-set_same, get_or-set_other}
 use Rattle.std.specs.Prelude.{slice_index, slice_index_or}
 use Rattle.std.proofs.lemmas.List.{length-replicate}
-use Rattle.std.proofs.lemmas.Bool.{cases_lt}
 use native.Mathlib.Decide.{ℕ_discrete}
 use Rattle.rtr_types.specs.declared.TheConstants.{CORES_MAX}
 use Rattle.rtr_types.specs.declared.instr.Instr.{Instr}
@@ -24,10 +23,12 @@ use Rattle.replay_core.specs.Orders.{bump, nought, Ready}
 use Rattle.replay_core.proofs.Counts.{bump_here, bump_same, bump_else}
 use Rattle.clock_entries.specs.Laws.{IsLog, IsAcyclic}
 use Rattle.replay_core.specs.Sources.{listed}
-use Rattle.replay_audit.specs.Clocks.{Kept, numbers_of, clocks_of, number_of, numbered, clock_at, next_at}
+use Rattle.replay_audit.specs.Clocks.{Kept, clocks_of, number_to, number_of, numbered, clock_at, next_at}
 use Rattle.replay_core.specs.Sources.{AreSources}
-use Rattle.replay_audit.specs.Clocks.{IsKept, IsNoted, Clocked}
+use Rattle.replay_audit.specs.Clocks.{CanNote, IsKept, IsNoted, Clocked}
 use Rattle.replay_audit.proofs.Logs.{recorded_log, sourced_among}
+use Rattle.replay_audit.proofs.Numbering.{all_later, all_more, at_before, at_last, length_more, number_most}
+use Rattle.replay_audit.proofs.Numbering.{number_stays}
 use Rattle.replay_core.proofs.InstructionSources.{listed_are}
 use Rattle.replay_core.proofs.Sources.{edge_within}
 
@@ -59,30 +60,47 @@ clock_none edges y clock log z zero_at x pos = (λ le. let e = zero_at x.core in
     by (inl e) = let f : x.count ≡ y.count = ap (λ (v : Instr). v.count) e in absurd (omega arith)
     by (inr p) = absurd (none_at edges p.0 x y log z p.1)
 
--- ---- lists with one more
-
-at_last : {A : Type 0} (l : List A) (x d : A) (m : ℕ) → m ≡ length l → slice_index_or (l ++ x ∷ []) m d ≡ x
-at_last [] x d m e = rw e refl
-at_last (y ∷ l) x d zero e = absurd (omega arith)
-at_last (y ∷ l) x d (suc m) e = at_last l x d m (omega arith)
-
-at_before : {A : Type 0} (l : List A) (x d : A) (m : ℕ) → m < length l →
-    slice_index_or (l ++ x ∷ []) m d ≡ slice_index_or l m d
-at_before [] x d m lt = absurd (omega arith)
-at_before (y ∷ l) x d zero lt = refl
-at_before (y ∷ l) x d (suc m) lt = at_before l x d m (omega arith)
-
-length_more : {A : Type 0} (l : List A) (x : A) → length (l ++ x ∷ []) ≡ length l + 1
-length_more [] x = refl
-length_more (y ∷ l) x = let e = length_more l x in omega arith
-
-beyond : {A : Type 0} (l : List A) (d : A) (m : ℕ) → length l ≤ m → slice_index_or l m d ≡ d
-beyond [] d m le = refl
-beyond (y ∷ l) d zero le = absurd (omega arith)
-beyond (y ∷ l) d (suc m) le = beyond l d m (omega arith)
-
 either : (n m : ℕ) → n ≤ m + 1 → (n ≤ m) ⊎ (n ≡ m + 1)
 either n m le = grind arith
+
+-- ---- what is kept of an instruction's core once it is noted
+
+-- it has its own count
+pub own_next : (k : Kept) (y : Instr) (sources : List ℕ) (cores : ℕ) → next_at k y sources cores y.core ≡ y.count
+own_next k y sources cores =
+    own_same y (merged_over (clock_at k (previous y)) (clock_at k) (listed sources cores)) y.core refl
+
+-- the core's clocks, with one more or not
+abbrev pub IsListNext : Kept → Instr → Kept → Type 0
+IsListNext k y new = (clocks_of new y.core ≡ clocks_of k y.core)
+    ⊎ ((clock : List ℕ) × (slice_index clock y.core ≡ y.count)
+    × (clocks_of new y.core ≡ clocks_of k y.core ++ clock ∷ []))
+
+module _ (k new : Kept) (y : Instr) (sources : List ℕ) (cores : ℕ) (can : CanNote k y)
+    (noted : IsNoted k y sources cores new) where
+  pub list_next : IsListNext k y new
+  list_next = by noted.kept
+    where
+      by : IsKept k y sources cores new.clocks → IsListNext k y new
+      by (inl h) = inl (ap (λ (l : List (List (List ℕ))). slice_index_or l y.core []) h.1)
+      by (inr h) = inr (
+        h.0,
+        h.1 y.core ∙ own_next k y sources cores,
+        ap (λ (l : List (List (List ℕ))). slice_index_or l y.core []) h.2
+            ∙ get_or-set_same k.clocks y.core _ [] can.clocks,
+      )
+
+  -- all are of instructions up to this one
+  pub noted_all : number_of new y.core y.count ≡ length (clocks_of new y.core)
+  noted_all = by list_next
+    where
+      last : number_to (clocks_of k y.core) y.core y.count ≡ length (clocks_of k y.core)
+      last = all_later (clocks_of k y.core) y.core (y.count - 1) y.count can.last (omega arith)
+
+      by : IsListNext k y new → number_of new y.core y.count ≡ length (clocks_of new y.core)
+      by (inl e) = subst (λ (l : List (List ℕ)). number_to l y.core y.count ≡ length l) (sym e) last
+      by (inr h) = let own = h.1 in subst (λ (l : List (List ℕ)). number_to l y.core y.count ≡ length l) (sym h.2)
+          (all_more (clocks_of k y.core) h.0 y.core y.count last (omega arith))
 
 -- ---- the clock of the next instruction
 
@@ -99,9 +117,13 @@ module _ (which : Which) (r : Recording) (valid : Valid r) (f : ℕ → ℕ) (k 
       at : (i : ℕ) → clock_at k (instr c 0) i ≡ 0
       at i = by (ℕ_discrete i c)
         where
+          found : ℕ → ℕ
+          found j = slice_index (numbered k c (number_of k c 0)) j
+
           by : Dec (i ≡ c) → clock_at k (instr c 0) i ≡ 0
-          by (yes e) = own_same (instr c 0) (λ j. slice_index (numbered k c 0) j) i e
-          by (no ne) = own_other (instr c 0) (λ j. slice_index (numbered k c 0) j) i ne ∙ zero_at CORES_MAX i
+          by (yes e) = own_same (instr c 0) found i e
+          by (no ne) = own_other (instr c 0) found i ne
+              ∙ ap (λ (n : ℕ). slice_index (numbered k c n) i) (clocked.none c) ∙ zero_at CORES_MAX i
   clock_any acyclic c (suc n) lt le = clocked.exact acyclic c (suc n) lt (omega arith) le
 
   pub next_is : (c : ℕ) (sources : List ℕ) → Ready (plan_of which r) f c → IsAcyclic (log_edges which r) →
@@ -143,14 +165,6 @@ module _ (which : Which) (r : Recording) (valid : Valid r) (f : ℕ → ℕ) (k 
     inside_of : c < r.params.cores
     inside_of = let lt = ready.inside in let e = valid.each_core in omega arith
 
-    numbers_here : numbers_of new c ≡ numbers_of k c ++ length (clocks_of new c) ∷ []
-    numbers_here = ap (λ (l : List (List ℕ)). slice_index_or l c []) noted.numbers
-        ∙ get_or-set_same k.numbers c _ [] (let a = clocked.all_numbers in let lt = inside_of in omega arith)
-
-    numbers_else : (i : ℕ) → i ≢ c → numbers_of new i ≡ numbers_of k i
-    numbers_else i ne = ap (λ (l : List (List ℕ)). slice_index_or l i []) noted.numbers
-        ∙ get_or-set_other k.numbers c i _ [] ne
-
     clocks_else : (i : ℕ) → i ≢ c → clocks_of new i ≡ clocks_of k i
     clocks_else i ne = by noted.kept
       where
@@ -159,81 +173,64 @@ module _ (which : Which) (r : Recording) (valid : Valid r) (f : ℕ → ℕ) (k 
         by (inr h) = ap (λ (l : List (List (List ℕ))). slice_index_or l i []) h.2
             ∙ get_or-set_other k.clocks c i _ [] ne
 
-    -- the core's clocks, with one more or not
-    clocks_here : (clocks_of new c ≡ clocks_of k c)
-        ⊎ ((clock : List ℕ) × (clocks_of new c ≡ clocks_of k c ++ clock ∷ []))
-    clocks_here = by noted.kept
-      where
-        by : IsKept k (instr c (f c + 1)) sources r.params.cores new.clocks → (clocks_of new c ≡ clocks_of k c)
-            ⊎ ((clock : List ℕ) × (clocks_of new c ≡ clocks_of k c ++ clock ∷ []))
-        by (inl h) = inl (ap (λ (l : List (List (List ℕ))). slice_index_or l c []) h.1)
-        by (inr h) = inr (
-          h.0,
-          ap (λ (l : List (List (List ℕ))). slice_index_or l c []) h.2
-              ∙ get_or-set_same k.clocks c _ [] (let a = clocked.all_clocks in let lt = inside_of in omega arith),
-        )
+    can_note : CanNote k (instr c (f c + 1))
+    can_note =
+        let lt = inside_of in
+        let m = valid.params.cores in
+        let all = clocked.all_clocks in
+        let e : f c ≡ (f c + 1) - 1 = omega arith in
+        record {
+          core = omega arith;
+          clocks = omega arith;
+          some = omega arith;
+          last = subst (λ (n : ℕ). number_of k c n ≡ length (clocks_of k c)) e (clocked.last c lt);
+        }
 
-    more_clocks : length (clocks_of k c) ≤ length (clocks_of new c)
-    more_clocks = by clocks_here
-      where
-        by : (clocks_of new c ≡ clocks_of k c) ⊎ ((clock : List ℕ) × (clocks_of new c ≡ clocks_of k c ++ clock ∷ [])) →
-            length (clocks_of k c) ≤ length (clocks_of new c)
-        by (inl e) = let q = ap (λ (l : List (List ℕ)). length l) e in omega arith
-        by (inr h) = let q = ap (λ (l : List (List ℕ)). length l) h.1 in let m = length_more (clocks_of k c) h.0 in
-            omega arith
+    clocks_here : IsListNext k (instr c (f c + 1)) new
+    clocks_here = list_next k new (instr c (f c + 1)) sources r.params.cores can_note noted
 
     -- the clocks so far stay
     numbered_stays : (n : ℕ) → n ≤ length (clocks_of k c) → numbered new c n ≡ numbered k c n
     numbered_stays zero le = refl
     numbered_stays (suc n) le = by clocks_here
       where
-        by : (clocks_of new c ≡ clocks_of k c) ⊎ ((clock : List ℕ) × (clocks_of new c ≡ clocks_of k c ++ clock ∷ [])) →
+        by : IsListNext k (instr c (f c + 1)) new →
             slice_index_or (clocks_of new c) n no_counts ≡ slice_index_or (clocks_of k c) n no_counts
         by (inl e) = ap (λ (l : List (List ℕ)). slice_index_or l n no_counts) e
-        by (inr h) = ap (λ (l : List (List ℕ)). slice_index_or l n no_counts) h.1
+        by (inr h) = ap (λ (l : List (List ℕ)). slice_index_or l n no_counts) h.2
             ∙ at_before (clocks_of k c) h.0 no_counts n (omega arith)
 
-    number_stays : (n : ℕ) → n ≤ f c → number_of new c n ≡ number_of k c n
-    number_stays zero le = refl
-    number_stays (suc n) le = ap (λ (l : List ℕ). slice_index l n) numbers_here
-        ∙ at_before (numbers_of k c) (length (clocks_of new c)) 0 n (let e = clocked.counted c inside_of in omega arith)
+    number_as : (n : ℕ) → n ≤ f c → number_of new c n ≡ number_of k c n
+    number_as n le = by clocks_here
+      where
+        by : IsListNext k (instr c (f c + 1)) new →
+            number_of new c n ≡ number_of k c n
+        by (inl e) = ap (λ (l : List (List ℕ)). number_to l c n) e
+        by (inr h) = let own = h.1 in ap (λ (l : List (List ℕ)). number_to l c n) h.2
+            ∙ number_stays (clocks_of k c) h.0 c n (omega arith)
 
     number_next : number_of new c (f c + 1) ≡ length (clocks_of new c)
-    number_next =
-        let e : f c + 1 ≡ suc (f c) = omega arith in
-        ap (number_of new c) e ∙ ap (λ (l : List ℕ). slice_index l (f c)) numbers_here
-        ∙ at_last (numbers_of k c) (length (clocks_of new c)) 0 (f c) (sym (clocked.counted c inside_of))
-
-    number_past : (n : ℕ) → f c + 1 < n → number_of new c n ≡ 0
-    number_past zero lt = absurd (omega arith)
-    number_past (suc n) lt =
-        let all = ap (λ (l : List ℕ). length l) numbers_here in
-        let m = length_more (numbers_of k c) (length (clocks_of new c)) in
-        let e = clocked.counted c inside_of in
-        beyond (numbers_of new c) 0 n (omega arith)
+    number_next = noted_all k new (instr c (f c + 1)) sources r.params.cores can_note noted
 
     kept_stays : (n : ℕ) → n ≤ f c → (i : ℕ) → clock_at k (instr c n) i ≡ clock_at new (instr c n) i
     kept_stays n le i =
         let e : numbered new c (number_of new c n) ≡ numbered k c (number_of k c n) =
-        ap (numbered new c) (number_stays n le)
-        ∙ numbered_stays (number_of k c n) (clocked.numbers c n) in
+        ap (numbered new c) (number_as n le)
+        ∙ numbered_stays (number_of k c n) (number_most (clocks_of k c) c n) in
         own_eq (instr c n) (λ j. slice_index (numbered k c (number_of k c n)) j)
         (λ j. slice_index (numbered new c (number_of new c n)) j)
         (λ j ne. ap (λ (l : List ℕ). slice_index l j) (sym e)) i
 
     kept_else : (d n : ℕ) → d ≢ c → (i : ℕ) → clock_at k (instr d n) i ≡ clock_at new (instr d n) i
     kept_else d n ne i =
-        let number : number_of new d n ≡ number_of k d n = same_number n in
+        let number : number_of new d n ≡ number_of k d n =
+        ap (λ (l : List (List ℕ)). number_to l d n) (clocks_else d ne) in
         let e : numbered new d (number_of new d n) ≡ numbered k d (number_of k d n) =
         ap (numbered new d) number ∙ same_clock (number_of k d n) in
         own_eq (instr d n) (λ j. slice_index (numbered k d (number_of k d n)) j)
         (λ j. slice_index (numbered new d (number_of new d n)) j)
         (λ j other. ap (λ (l : List ℕ). slice_index l j) (sym e)) i
       where
-        same_number : (m : ℕ) → number_of new d m ≡ number_of k d m
-        same_number zero = refl
-        same_number (suc m) = ap (λ (l : List ℕ). slice_index l m) (numbers_else d ne)
-
         same_clock : (m : ℕ) → numbered new d m ≡ numbered k d m
         same_clock zero = refl
         same_clock (suc m) = ap (λ (l : List (List ℕ)). slice_index_or l m no_counts) (clocks_else d ne)
@@ -260,7 +257,8 @@ module _ (which : Which) (r : Recording) (valid : Valid r) (f : ℕ → ℕ) (k 
             number = number_next ∙ ap (λ (l : List (List ℕ)). length l) here ∙ sym (clocked.last c inside_of)
 
             clock : numbered new c (number_of new c (f c + 1)) ≡ numbered k c (number_of k c (f c))
-            clock = ap (numbered new c) number ∙ numbered_stays (number_of k c (f c)) (clocked.numbers c (f c))
+            clock = ap (numbered new c) number
+                ∙ numbered_stays (number_of k c (f c)) (number_most (clocks_of k c) c (f c))
 
             none : (j : ℕ) → j ≢ c → merged_over (clock_at k (previous y)) (clock_at k) (listed sources r.params.cores)
                 j ≡ slice_index (numbered new c
@@ -302,10 +300,8 @@ module _ (which : Which) (r : Recording) (valid : Valid r) (f : ℕ → ℕ) (k 
 
     pub clocked_on : Clocked (log_edges which r) r.params.cores (bump f c) new
     clocked_on = record {
-      all_numbers = ap (λ (l : List (List ℕ)). length l) noted.numbers ∙ length-set k.numbers c _ ∙ clocked.all_numbers;
       all_clocks = wide noted.kept;
-      counted = λ d lt. counted d lt (ℕ_discrete d c);
-      numbers = λ d n. numbers d n (ℕ_discrete d c);
+      none = λ d. none d (ℕ_discrete d c);
       last = λ d lt. last d lt (ℕ_discrete d c);
       exact = λ acyclic d n lt pos le. exact acyclic d n lt pos le (ℕ_discrete d c);
     }
@@ -314,46 +310,17 @@ module _ (which : Which) (r : Recording) (valid : Valid r) (f : ℕ → ℕ) (k 
         wide (inl h) = ap (λ (l : List (List (List ℕ))). length l) h.1 ∙ clocked.all_clocks
         wide (inr h) = ap (λ (l : List (List (List ℕ))). length l) h.2 ∙ length-set k.clocks c _ ∙ clocked.all_clocks
 
-        counted : (d : ℕ) → d < r.params.cores → Dec (d ≡ c) → length (numbers_of new d) ≡ bump f c d
-        counted d lt (yes e) =
-            let all = ap (λ (l : List ℕ). length l) numbers_here in
-            let m = length_more (numbers_of k c) (length (clocks_of new c)) in
-            let was = clocked.counted c inside_of in
-            let b = bump_here f c in
-            subst (λ (x : ℕ). length (numbers_of new x) ≡ bump f c x) (sym e) (omega arith)
-        counted d lt (no ne) = ap (λ (l : List ℕ). length l) (numbers_else d ne) ∙ clocked.counted d lt
-            ∙ sym (bump_else f c d ne)
-
-        own_numbers : (n : ℕ) → (f c < n) ⊎ (n ≤ f c) → number_of new c n ≤ length (clocks_of new c)
-        own_numbers n (inr le) = let e = number_stays n le in let was = clocked.numbers c n in let m = more_clocks in
-            omega arith
-        own_numbers n (inl gt) = by (ℕ_discrete n (f c + 1))
-          where
-            by : Dec (n ≡ f c + 1) → number_of new c n ≤ length (clocks_of new c)
-            by (yes e) = let q : number_of new c n ≡ number_of new c (f c + 1) = ap (number_of new c) e in let m =
-                number_next in omega arith
-            by (no ne) = let z = number_past n (omega arith) in omega arith
-
-        numbers : (d n : ℕ) → Dec (d ≡ c) → number_of new d n ≤ length (clocks_of new d)
-        numbers d n (yes e) = subst (λ (x : ℕ). number_of new x n ≤ length (clocks_of new x)) (sym e)
-            (own_numbers n (cases_lt (f c) n))
-        numbers d n (no ne) = let e = ap (λ (l : List (List ℕ)). length l) (clocks_else d ne) in let was =
-            clocked.numbers d n in let same = same_number n in
-            omega arith
-          where
-            same_number : (m : ℕ) → number_of new d m ≡ number_of k d m
-            same_number zero = refl
-            same_number (suc m) = ap (λ (l : List ℕ). slice_index l m) (numbers_else d ne)
+        none : (d : ℕ) → Dec (d ≡ c) → number_of new d 0 ≡ 0
+        none d (yes e) = subst (λ (x : ℕ). number_of new x 0 ≡ 0) (sym e)
+            (number_as 0 (omega arith) ∙ clocked.none c)
+        none d (no ne) = ap (λ (l : List (List ℕ)). number_to l d 0) (clocks_else d ne) ∙ clocked.none d
 
         last : (d : ℕ) → d < r.params.cores → Dec (d ≡ c) → number_of new d (bump f c d) ≡ length (clocks_of new d)
         last d lt (yes e) = subst (λ (x : ℕ). number_of new x (bump f c x) ≡ length (clocks_of new x)) (sym e)
             (ap (number_of new c) (bump_here f c) ∙ number_next)
-        last d lt (no ne) = ap (number_of new d) (bump_else f c d ne) ∙ same_number (f d) ∙ clocked.last d lt
+        last d lt (no ne) = ap (number_of new d) (bump_else f c d ne)
+            ∙ ap (λ (l : List (List ℕ)). number_to l d (f d)) (clocks_else d ne) ∙ clocked.last d lt
             ∙ sym (ap (λ (l : List (List ℕ)). length l) (clocks_else d ne))
-          where
-            same_number : (m : ℕ) → number_of new d m ≡ number_of k d m
-            same_number zero = refl
-            same_number (suc m) = ap (λ (l : List ℕ). slice_index l m) (numbers_else d ne)
 
         own_exact : IsAcyclic (log_edges which r) → (n : ℕ) → 1 ≤ n → (n ≤ f c) ⊎ (n ≡ f c + 1) →
             IsClock (Among (log_edges which r)) (instr c n) (clock_at new (instr c n))
@@ -379,34 +346,25 @@ module _ (which : Which) (r : Recording) (valid : Valid r) (f : ℕ → ℕ) (k 
 
 -- ---- before the first instruction
 
-abbrev no_list : (A : Type 0) → List A
-no_list A = []
+abbrev no_list : List (List ℕ)
+no_list = []
 
-pub no_numbers : (n i : ℕ) → slice_index_or (replicate n (no_list ℕ)) i (no_list ℕ) ≡ no_list ℕ
-no_numbers zero i = refl
-no_numbers (suc n) zero = refl
-no_numbers (suc n) (suc i) = no_numbers n i
-
-no_clocks : (n i : ℕ) → slice_index_or (replicate n (no_list (List ℕ))) i (no_list (List ℕ)) ≡ no_list (List ℕ)
+no_clocks : (n i : ℕ) → slice_index_or (replicate n no_list) i no_list ≡ no_list
 no_clocks zero i = refl
 no_clocks (suc n) zero = refl
 no_clocks (suc n) (suc i) = no_clocks n i
 
-pub clocked_start : (edges : List Edge) (cores : ℕ) (k : Kept) → k.numbers ≡ replicate cores [] →
-    k.clocks ≡ replicate cores [] → Clocked edges cores nought k
-clocked_start edges cores k numbers clocks = record {
-  all_numbers = ap (λ (l : List (List ℕ)). length l) numbers ∙ length-replicate cores [];
+pub clocked_start : (edges : List Edge) (cores : ℕ) (k : Kept) → k.clocks ≡ replicate cores [] →
+    Clocked edges cores nought k
+clocked_start edges cores k clocks = record {
   all_clocks = ap (λ (l : List (List (List ℕ))). length l) clocks ∙ length-replicate cores [];
-  counted = λ c lt. ap (λ (l : List ℕ). length l) (none c);
-  numbers = λ c n. let e = zero_of c n in omega arith;
-  last = λ c lt. sym (ap (λ (l : List (List ℕ)). length l)
-      (ap (λ (l : List (List (List ℕ))). slice_index_or l c []) clocks ∙ no_clocks cores c));
+  none = zero_of;
+  last = λ c lt. zero_of c ∙ sym (ap (λ (l : List (List ℕ)). length l) (none c));
   exact = λ acyclic c n lt pos le. absurd (omega arith);
 }
   where
-    none : (c : ℕ) → numbers_of k c ≡ no_list ℕ
-    none c = ap (λ (l : List (List ℕ)). slice_index_or l c []) numbers ∙ no_numbers cores c
+    none : (c : ℕ) → clocks_of k c ≡ no_list
+    none c = ap (λ (l : List (List (List ℕ))). slice_index_or l c []) clocks ∙ no_clocks cores c
 
-    zero_of : (c n : ℕ) → number_of k c n ≡ 0
-    zero_of c zero = refl
-    zero_of c (suc n) = ap (λ (l : List ℕ). slice_index l n) (none c)
+    zero_of : (c : ℕ) → number_of k c 0 ≡ 0
+    zero_of c = ap (λ (l : List (List ℕ)). number_to l c 0) (none c)

@@ -1,8 +1,7 @@
 -- An audit along the low order.
 use Rattle.std.proofs.Common.{inl, ◌≡◌, ◌∙◌, ℕ, ◌+◌, ◌<◌, true, List, [], ◌∷◌, ◌++◌, length, refl, sym, ap, subst}
 use Rattle.std.proofs.Common.{arith, append-nil}
-use Rattle.std.specs.Prelude.{slice_index, slice_set, Option, Some, None, IfSome}
-use Rattle.rtr_types.specs.declared.TheConstants.{CORES_MAX}
+use Rattle.std.specs.Prelude.{slice_index, slice_set, Bool, IsTrue, Option, Some, None, IfSome}
 use Rattle.rtr_types.specs.declared.cut.Cut.{Cut}
 use Rattle.rtr_types.specs.declared.instr.Instr.{Instr}
 use Rattle.rtr_types.specs.declared.access.Access.{Access}
@@ -23,10 +22,10 @@ use Rattle.replay_audit.specs.declared.unordered.Unordered.{Unordered}
 use Rattle.replay_core.specs.Sources.{AreSources}
 use Rattle.replay_audit.specs.Clocks.{Kept}
 use Rattle.clock_entries.specs.Laws.{IsAcyclic}
-use Rattle.replay_audit.specs.Determinate.{IsDeterminate, low_order_of, low_accesses}
+use Rattle.replay_audit.specs.Determinate.{IsDeterminate, low_order_of, low_accesses, low_outcome}
 use Rattle.replay_core.specs.Tallies.{Tallied, count_of}
 use Rattle.replay_audit.specs.Trails.{Trailed, Trails, IsFinding}
-use Rattle.replay_audit.specs.Audits.{AreClocksOf, HasPassed, LeavesOpen, low_short}
+use Rattle.replay_audit.specs.Audits.{AreClocksOf, EveryOrderAgrees, HasFollowed, LeavesOpen, low_short}
 use Rattle.replay_audit.proofs.Logs.{acyclic_law}
 use Rattle.replay_audit.proofs.Rise.{accesses_rise}
 use Rattle.replay_audit.proofs.OrdersAgree.{low_ordered, touched_at, every_order_law}
@@ -148,43 +147,52 @@ module _ {which : Which} {r : Recording} (valid : Valid r) {order : List ℕ} {t
       acyclic : IsAcyclic (log_edges which r)
       acyclic = acyclic_law which r (low_order_of which r) valid (low_ordered (plan_of which r)) replays.whole
 
-      finding : IsFinding (log_edges which r) (low_accesses which r) s.found
-      finding = subst (λ (l : List ℕ). IsFinding (log_edges which r) (accesses_of (plan_of which r) l) s.found)
+      finding : IsFinding s.listed (log_edges which r) (low_accesses which r) s.found
+      finding = subst (λ (l : List ℕ). IsFinding s.listed (log_edges which r) (accesses_of (plan_of which r) l) s.found)
           (sym low_is)
           (along.followed.trail.finding acyclic)
 
       pub leaves_open : {pair : Unordered} {found : Option Unordered} → found ≡ s.found → found ≡ Some pair →
-          LeavesOpen which r pair.first pair.second
-      leaves_open {pair} {found} is some_pair = record {
+          IsTrue s.listed → LeavesOpen which r pair.first pair.second
+      leaves_open {pair} {found} is some_pair listed = record {
         plays = replays.plays;
         whole = replays.whole;
-        unordered = subst (λ (o : Option Unordered). IsFinding (log_edges which r) (low_accesses which r) o)
-            (sym is ∙ some_pair) finding;
+        unordered = subst (λ (o : Option Unordered). IsFinding s.listed (log_edges which r) (low_accesses which r) o)
+            (sym is ∙ some_pair) finding listed;
       }
 
       pub passes : {found : Option Unordered} (outcome : Outcome) (list : List Access) (kept : Kept) → found ≡ s.found →
           found ≡ None →
-          outcome ≡ u.state → list ≡ s.accesses → kept ≡ s.kept → HasPassed which r outcome list kept
+          outcome ≡ u.state → list ≡ s.accesses → kept ≡ s.kept → HasFollowed s.listed which r outcome list kept
       passes {found} outcome list kept is no_pair outcome_is list_is kept_is = record {
-        valid = valid;
-        passed = record {
-          determinate = determinate;
-          outcome_is = outcome_is ∙ replays.outcome_is;
-          accesses_is = list_is ∙ along.followed.trail.accesses_is
-              ∙ ap (λ (l : List ℕ). accesses_of (plan_of which r) l) (sym low_is);
-          every_order = λ other ordered. every_order_law which r (low_order_of which r) other valid determinate ordered;
+        replayed = record { determinate = determinate; outcome_is = ends; every_order = agrees };
+        passed = λ listed. record {
+          valid = valid;
+          passed = record {
+            determinate = determinate;
+            outcome_is = ends;
+            accesses_is = list_is ∙ along.followed.trail.accesses_is listed
+                ∙ ap (λ (l : List ℕ). accesses_of (plan_of which r) l) (sym low_is);
+            every_order = agrees;
+          };
+          clocks = subst (λ (k : Kept). AreClocksOf which r k) (sym kept_is) clocks;
         };
-        clocks = subst (λ (k : Kept). AreClocksOf which r k) (sym kept_is) clocks;
       }
         where
+          ends : outcome ≡ low_outcome which r
+          ends = outcome_is ∙ replays.outcome_is
+
           determinate : IsDeterminate which r
           determinate = record {
             ordered = low_ordered (plan_of which r);
             whole = replays.whole;
             plays = (short_law (plan_of which r) (start (plan_of which r)) (low_order_of which r)).1 replays.plays;
-            suffices = subst (λ (o : Option Unordered). IsFinding (log_edges which r) (low_accesses which r) o)
+            suffices = subst (λ (o : Option Unordered). IsFinding s.listed (log_edges which r) (low_accesses which r) o)
                 (sym is ∙ no_pair) finding;
           }
+
+          agrees : EveryOrderAgrees which r
+          agrees other ordered = every_order_law which r (low_order_of which r) other valid determinate ordered
 
           total : (c : ℕ) → c < length r.totals → counts nought order c ≡ slice_index r.totals c
           total c lt = ap (λ (l : List ℕ). counts nought l c) (sym low_is) ∙ replays.whole.each c lt
@@ -195,17 +203,24 @@ module _ {which : Which} {r : Recording} (valid : Valid r) {order : List ℕ} {t
               (let e = total at.core h.core in let le = h.most in omega arith)
 
 -- what is said of each access that is told is said of the one, if there is one
-pub all_told : (access : Option Access) → ((a : Access) → StandsIn (told access) a → a.at.core < CORES_MAX) →
-    IfSome access (λ a. a.at.core < CORES_MAX)
+pub all_told : {at : Instr} (access : Option Access) → ((a : Access) → StandsIn (told access) a → a.at ≡ at) →
+    IfSome access (λ a. a.at ≡ at)
 all_told None h = tt
 all_told (Some a) h = h a (inl refl)
 
+-- where accesses are listed at the end as at the start
+pub followed_by : {listed old : Bool} {which : Which} {r : Recording} {outcome : Outcome} {list : List Access}
+    {kept : Kept} → listed ≡ old → HasFollowed listed which r outcome list kept →
+    HasFollowed old which r outcome list kept
+followed_by {listed} {old} {which} {r} {outcome} {list} {kept} e h =
+    subst (λ (b : Bool). HasFollowed b which r outcome list kept) e h
+
 -- what passed, by other names
-pub passed_same : {which : Which} {r : Recording} {outcome outcome' : Outcome} {list list' : List Access}
-    {kept kept' : Kept} →
-    outcome ≡ outcome' → list ≡ list' → kept ≡ kept' → HasPassed which r outcome' list' kept' →
-    HasPassed which r outcome list kept
-passed_same {which} {r} {outcome} {outcome'} {list} {list'} {kept} {kept'} outcome_is list_is kept_is passed =
-    subst (λ (x : Outcome). HasPassed which r x list kept) (sym outcome_is)
-    (subst (λ (l : List Access). HasPassed which r outcome' l kept) (sym list_is)
-    (subst (λ (k : Kept). HasPassed which r outcome' list' k) (sym kept_is) passed))
+pub followed_same : {listed : Bool} {which : Which} {r : Recording} {outcome outcome' : Outcome}
+    {list list' : List Access} {kept kept' : Kept} →
+    outcome ≡ outcome' → list ≡ list' → kept ≡ kept' → HasFollowed listed which r outcome' list' kept' →
+    HasFollowed listed which r outcome list kept
+followed_same {listed} {which} {r} {outcome} {outcome'} {list} {list'} {kept} {kept'} outcome_is list_is kept_is passed =
+    subst (λ (x : Outcome). HasFollowed listed which r x list kept) (sym outcome_is)
+    (subst (λ (l : List Access). HasFollowed listed which r outcome' l kept) (sym list_is)
+    (subst (λ (k : Kept). HasFollowed listed which r outcome' list' k) (sym kept_is) passed))

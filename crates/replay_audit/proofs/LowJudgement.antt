@@ -1,9 +1,9 @@
 -- A judgement along the low order.
 use Rattle.std.proofs.Common.{inl, inr, ◌≡◌, ◌≢◌, ◌⊎◌, ℕ, ◌+◌, ◌-◌, ◌<◌, ◌≤◌, List, [], ◌∷◌, ◌++◌, length, get_or, take}
-use Rattle.std.proofs.Common.{refl, sym, ap, replicate}
+use Rattle.std.proofs.Common.{refl, sym, ap}
 use Rattle.std.proofs.Common.{◌∙◌, subst, arith}
 use Rattle.std.proofs.Common.{append-nil, get_or-set_same, get_or-set_other}
-use Rattle.std.specs.Prelude.{slice_index, slice_set, Option, Some, None, IfSome}
+use Rattle.std.specs.Prelude.{slice_index, slice_set, Option, Some, None, IfSome, IsTrue}
 use Rattle.std.specs.List.{Contains}
 use Rattle.std.proofs.lemmas.List.{get_or_default, take_more}
 use native.Mathlib.Decide.{ℕ_discrete, dec_lt}
@@ -35,7 +35,6 @@ use Rattle.replay_audit.specs.declared.unordered.Unordered.{Unordered}
 use Rattle.replay_audit.specs.Touches.{IsAccessOf, touches_of, as_touch, as_access, AreRising, ArePlayed, IsAt}
 use Rattle.replay_audit.specs.Touches.{IsPlaceOf}
 use Rattle.replay_audit.specs.Clocks.{Kept}
-use Rattle.replay_audit.specs.Marks.{first_mark, mark_at, IsMark}
 use Rattle.replay_audit.specs.Trails.{Trailed, Watches, IsFinding, IsTrailOf}
 use Rattle.replay_audit.specs.Walks.{Walked, IsWalk}
 use Rattle.replay_audit.proofs.OrdersAgree.{low_ordered, touched_at}
@@ -44,7 +43,6 @@ use Rattle.replay_audit.proofs.Logs.{Closed, closed_none, closed_bump, leads_bac
 use Rattle.replay_audit.proofs.Pairs.{Apart, both_left, both_right, across, pairs_which}
 use Rattle.replay_audit.proofs.RefusedLogs.{unordered_pair}
 use Rattle.replay_audit.proofs.Rise.{accesses_within, rises}
-use Rattle.replay_audit.proofs.MarkLaws.{marked_at}
 use Rattle.replay_audit.proofs.TrailSteps.{trail_along, trail_watched}
 use Rattle.replay_audit.proofs.LowWalk.{counted_at, ready_at}
 
@@ -152,18 +150,21 @@ pub record Laid (which : Which) (r : Recording) (touched : List (List Touch)) (o
 pub record Judged (which : Which) (r : Recording) (touched : List (List Touch)) (order front : List ℕ) (s : Trailed)
     : Type 0 where
   pub list : List Access
+  pub listed : IsTrue s.listed
   pub trail : IsTrailOf (log_edges which r) r.params.cores (counts nought order) list s
   pub rise : CountsRise list
   pub inside : (b : Access) → StandsIn list b → b.at.core < length r.totals
   pub laid : Laid which r touched front list
 
 pub judged_start : (which : Which) (r : Recording) (touched : List (List Touch)) (order : List ℕ) (s : Trailed) →
-    IsWalk which r order s.kept → s.marks ≡ replicate r.params.words first_mark → s.accesses ≡ [] → s.found ≡ None →
+    IsWalk which r order s.kept → IsTrue s.listed → s.accesses ≡ [] →
+    s.found ≡ None →
     Judged which r touched order [] s
-judged_start which r touched order s walk marks accesses found = record {
+judged_start which r touched order s walk listed accesses found = record {
   list = [];
-  trail = trail_along (log_edges which r) r.params.cores r.params.words (counts nought order) s walk.clocked marks
-      accesses found;
+  listed = listed;
+  trail = trail_along (log_edges which r) r.params.cores (counts nought order) s walk.clocked (λ l. accesses)
+      found;
   rise = tt;
   inside = λ b q. absurd q;
   laid = record {
@@ -342,15 +343,12 @@ module _ (which : Which) (r : Recording) (valid : Valid r) (touched : List (List
 module _ {which : Which} {r : Recording} {touched : List (List Touch)} (played : ArePlayed which r touched)
     {order : List ℕ} {kept : Kept} (walk : IsWalk which r order kept) (k : ℕ) {s : Trailed}
     (j : Judged which r touched order (take k order) s) where
-  pub each_core : (b : Access) → StandsIn s.accesses b → b.at.core < CORES_MAX
-  each_core b q =
-      let lt = j.inside b (subst (λ (l : List Access). StandsIn l b) j.trail.accesses_is q) in
+  pub each_core : IsTrue s.listed → (b : Access) → StandsIn s.accesses b → b.at.core < CORES_MAX
+  each_core listed b q =
+      let lt = j.inside b (subst (λ (l : List Access). StandsIn l b) (j.trail.accesses_is listed) q) in
       let a = walk.valid.each_core in
       let m = walk.valid.params.cores in
       omega arith
-
-  pub each_marked : (w : ℕ) → IsMark (mark_at s.marks w)
-  each_marked w = marked_at _ s.marks w j.trail.marked
 
   module _ (lt : k < length order) {c : ℕ} (d : ℕ) (c_is : c ≡ get_or order k d) where
     pub ready_place : Ready (plan_of which r) (counts nought (take k order)) c
@@ -395,6 +393,7 @@ module _ {which : Which} {r : Recording} {touched : List (List Touch)} (played :
         Judged which r touched order (take (k + 1) order) s
     judged_none {n} n_is found = record {
       list = j.list;
+      listed = j.listed;
       trail = j.trail;
       rise = j.rise;
       inside = j.inside;
@@ -417,14 +416,14 @@ module _ {which : Which} {r : Recording} {touched : List (List Touch)} (played :
       pub judged_some : (t : Trailed) → Watches s a t → Judged which r touched order (take (k + 1) order) t
       judged_some t w = record {
         list = j.list ++ a ∷ [];
+        listed = subst IsTrue (sym w.listed) j.listed;
         trail = trail_watched (log_edges which r) r.params.cores (counts nought order) j.list s t a j.trail w
             (let e = core_place in let i = ready_place.inside in let m = walk.valid.each_core in omega arith)
             access_place
             (let e = ap (λ (x : Instr). x.count) at_place in omega arith)
             (let e = ap (λ (x : Instr). x.count) at_place in
             let g = ap (counts nought order) core_place in let m = within_order in omega arith)
-            j.rise (rise_place {access = Some a} n_is found)
-            (λ b q. each_core b (subst (λ (l : List Access). StandsIn l b) (sym j.trail.accesses_is) q));
+            j.rise (rise_place {access = Some a} n_is found);
         rise = rise_place {access = Some a} n_is found;
         inside = λ b q. in_either b (stands_which j.list (a ∷ []) b q);
         laid = laid_place {access = Some a} n_is found;
@@ -530,7 +529,7 @@ module _ {which : Which} {r : Recording} {touched : List (List Touch)} (played :
             },
           )
 
-  finding : IsFinding (log_edges which r) j.list s.found
+  finding : IsFinding s.listed (log_edges which r) j.list s.found
   finding = j.trail.finding (acyclic_law which r order walk.valid
       (subst (λ (l : List ℕ). Ordered (plan_of which r) nought l) (sym walk.order_is) (low_ordered (plan_of which r)))
       walk.whole)
@@ -546,13 +545,13 @@ module _ {which : Which} {r : Recording} {touched : List (List Touch)} (played :
   pub verdict : (found : Option Unordered) → found ≡ s.found → (found ≡ None → IsDeterminate which r) ×
       (IsDeterminate which r → found ≡ None)
   verdict found is = by found
-      (subst (λ (o : Option Unordered). IsFinding (log_edges which r) j.list o) (sym is) finding)
+      (subst (λ (o : Option Unordered). IsFinding s.listed (log_edges which r) j.list o) (sym is) finding)
     where
-      by : (found : Option Unordered) → IsFinding (log_edges which r) j.list found →
+      by : (found : Option Unordered) → IsFinding s.listed (log_edges which r) j.list found →
           (found ≡ None → IsDeterminate which r)
           × (IsDeterminate which r → found ≡ None)
       by None f = (λ e. decides.1 f, λ det. refl)
       by (Some pair) f = (
         λ e. absurd (cc),
-        λ det. absurd (unordered_pair (log_edges which r) j.list pair.first pair.second f (decides.0 det)),
+        λ det. absurd (unordered_pair (log_edges which r) j.list pair.first pair.second (f j.listed) (decides.0 det)),
       )

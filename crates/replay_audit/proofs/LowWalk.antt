@@ -1,5 +1,5 @@
 -- The low order is walked, and the clocks of its instructions are noted.
-use Rattle.std.proofs.Common.{◌≡◌, ◌∙◌, ℕ, ◌+◌, ◌<◌, ◌≤◌, List, [], ◌∷◌, ◌++◌, length, replicate, sym, ap, subst}
+use Rattle.std.proofs.Common.{◌≡◌, ◌∙◌, ℕ, ◌+◌, ◌-◌, ◌<◌, ◌≤◌, List, [], ◌∷◌, ◌++◌, length, replicate, sym, ap, subst}
 use Rattle.std.proofs.Common.{arith, take, get_or, zero, suc}
 use Rattle.std.specs.Prelude.{slice_set, Some, None}
 use Rattle.rtr_types.specs.declared.instr.Instr.{Instr}
@@ -14,7 +14,7 @@ use Rattle.replay_core.proofs.Counts.{bump_here, counts_on, counts_more}
 use Rattle.replay_core.specs.Sources.{AreSources}
 use Rattle.replay_core.specs.Tallies.{Tallied, count_of}
 use Rattle.replay_core.proofs.LowCounts.{Counted, counted_start, counted_on, ready_there, low_is, whole_is}
-use Rattle.replay_audit.specs.Clocks.{CanNote, Kept, IsNoted, Clocked}
+use Rattle.replay_audit.specs.Clocks.{CanNote, Kept, IsNoted, Clocked, clocks_of, number_of}
 use Rattle.replay_audit.specs.Walks.{IsWalk}
 use Rattle.replay_audit.proofs.ClockSteps.{clocked_on, clocked_start}
 
@@ -25,12 +25,12 @@ pub record Walking (which : Which) (r : Recording) (order : List ℕ) (t : Talli
 
 pub walking_start : (which : Which) (r : Recording) (cores : ℕ) (t : Tallied) (k : Kept) → Valid r →
     t.plan ≡ plan_of which r → t.counts ≡ replicate (length r.totals) 0 → cores ≡ length t.plan.totals →
-    k.numbers ≡ replicate cores [] → k.clocks ≡ replicate cores [] → Walking which r [] t k
-walking_start which r cores t k valid plan_is counts_is cores_is numbers clocks = record {
+    k.clocks ≡ replicate cores [] → Walking which r [] t k
+walking_start which r cores t k valid plan_is counts_is cores_is clocks = record {
   counted = counted_start (plan_of which r) t plan_is counts_is;
   clocked = subst (λ (n : ℕ). Clocked (log_edges which r) n nought k)
       (cores_is ∙ ap (λ (q : Plan). length q.totals) plan_is ∙ valid.each_core)
-      (clocked_start (log_edges which r) cores k numbers clocks);
+      (clocked_start (log_edges which r) cores k clocks);
 }
 
 module _ {which : Which} {r : Recording} (valid : Valid r) {order : List ℕ} {t : Tallied} {k : Kept}
@@ -54,9 +54,16 @@ module _ {which : Which} {r : Recording} (valid : Valid r) {order : List ℕ} {t
         let lt = ready.inside in
         let a = valid.each_core in
         let m = valid.params.cores in
-        let numbers = w.clocked.all_numbers in
         let clocks = w.clocked.all_clocks in
-        record { core = omega arith; numbers = omega arith; clocks = omega arith; some = omega arith }
+        let before : (at.count - 1) ≡ counts nought order c =
+        let n = ap (λ (g : ℕ → ℕ). g c) w.counted.tally in omega arith in
+        record {
+          core = omega arith;
+          clocks = omega arith;
+          some = omega arith;
+          last = subst (λ (d : ℕ). number_of k d (at.count - 1) ≡ length (clocks_of k d)) (sym e)
+              (ap (number_of k c) before ∙ w.clocked.last c (omega arith));
+        }
 
     pub sources_next : {sources : List ℕ} → AreSources t.plan.edges (instr c (count_of t.counts c + 1)) sources →
         AreSources (log_edges which r) (instr c (counts nought order c + 1)) sources

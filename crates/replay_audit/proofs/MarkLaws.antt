@@ -1,158 +1,163 @@
 -- Marks, and what they are enough for.
-use Rattle.std.proofs.Common.{inl, inr, ◌≡◌, ◌≢◌, ◌⊎◌, ℕ, zero, suc, ◌+◌, ◌<◌, ◌≤◌, true, false, cond, max, List, []}
-use Rattle.std.proofs.Common.{◌∷◌, length, replicate, refl}
-use Rattle.std.proofs.Common.{sym, ap, ◌∙◌, subst}
-use Rattle.std.proofs.Common.{arith, length-set, get_or-set_same, get_or-set_other}
-use Rattle.std.specs.Prelude.{slice_index, slice_set, Some}
-use Rattle.std.proofs.lemmas.List.{get_or_past}
-use Rattle.std.proofs.lemmas.Bool.{cases_lt}
+use Rattle.std.proofs.Common.{inl, inr, ◌≡◌, ◌≢◌, ◌⊎◌, ℕ, zero, suc, ◌<◌, ◌≤◌, true, false, List, [], ◌∷◌, length}
+use Rattle.std.proofs.Common.{refl, sym, ap, ◌∙◌, subst, arith}
+use Rattle.std.specs.Prelude.{replicate, slice_index, slice_index_or}
+use Rattle.std.proofs.lemmas.Bool.{cases_eq}
+use Rattle.std.proofs.Math.Nat.{eq-zero-or-pos}
 use native.Mathlib.Decide.{ℕ_discrete}
-use Rattle.rtr_types.proofs.Ranges.{zero_at}
 use Rattle.rtr_types.specs.Accesses.{is_write}
 use Rattle.rtr_types.specs.declared.TheConstants.{CORES_MAX}
-use Rattle.rtr_types.specs.declared.instr.Instr.{Instr}
 use Rattle.rtr_types.specs.declared.access.Access.{Access}
-use Rattle.clock_core.specs.Counts.{no_counts}
+use Rattle.rtr_types.specs.declared.instr.Edge.{Edge}
+use Rattle.rtr_types.specs.declared.instr.Instr.{Instr}
+use Rattle.clock_core.specs.Order.{Relation, Before, IsOrLeads, Among}
+use Rattle.clock_core.specs.Reach.{IsClock}
+use Rattle.clock_core.proofs.Paths.{joined}
 use Rattle.conflict_edge.specs.Clocks.{last_write, last_read, Candidate}
 use Rattle.conflict_edge.proofs.Online.{cases_kind, last_write-at, last_write-word, last_write-load, last_read-word}
 use Rattle.conflict_edge.proofs.Online.{last_read-store, last_read-at}
 use Rattle.conflict_edge.proofs.Online.{last_read-core, none_some, some_is}
 use Rattle.replay_audit.specs.declared.marks.Mark.{Mark}
-use Rattle.replay_audit.specs.Marks.{first_mark, mark_at, next_mark, AreMarksCovered, IsMark, IsMarkOf, AreMarked}
+use Rattle.replay_audit.specs.Marks.{AreMarked, AreMarksCovered, IsLastRead, IsMarked, IsMarkOf}
+use Rattle.replay_audit.specs.Marks.{AreSound, IsMark, IsReadNext, IsReader, IsStoodFor, Marked, first_mark, mark_at}
 
 -- each candidate is covered
 abbrev pub AreCandidatesCovered : List Access → Access → List ℕ → Type 0
 AreCandidatesCovered earlier a clock = (z : Instr) → Candidate earlier a z → z.count ≤ slice_index clock z.core
 
-pub covered_marks : (earlier : List Access) (marks : List Mark) (a : Access) (clock : List ℕ) →
-    AreMarked earlier marks →
-    ((b : Access) (w i : ℕ) → last_read earlier w i ≡ Some b → b.at.core < CORES_MAX) → AreMarksCovered marks a clock →
-    AreCandidatesCovered earlier a clock
-covered_marks earlier marks a clock marked cores s z (b, inl w, ne, e) =
-    let m = (marked.each a.word s.inside).write b w ∙ e in
-    subst (λ (x : Instr). x.count ≤ slice_index clock x.core) m s.write
-covered_marks earlier marks a clock marked cores s z (b, inr r, ne, e) =
-    let i = cores b a.word b.at.core r.1 in
-    let q = (marked.each a.word s.inside).reads b.at.core b i r.1 in
-    let le = s.reads r.0 b.at.core i in
-    subst (λ (x : Instr). x.count ≤ slice_index clock x.core) e (omega arith)
+or_joined : (E : Relation) (x y z : Instr) → IsOrLeads E x y → IsOrLeads E y z → IsOrLeads E x z
+or_joined E x y z (inl e) q = subst (λ (w : Instr). IsOrLeads E w z) (sym e) q
+or_joined E x y z (inr p) (inl e) = inr (subst (λ (w : Instr). Before E x w) e p)
+or_joined E x y z (inr p) (inr q) = inr (joined E x y z p q)
+
+module _ (edges : List Edge) (earlier : List Access) (marks : Marked) (a : Access) (clock : List ℕ)
+    (is : IsClock (Among edges) a.at (λ i. slice_index clock i)) where
+  -- a clock that covers what stands for a read covers the read
+  stood_covered : (w : ℕ) (z : Instr) → IsStoodFor edges marks w z →
+      ((x : Instr) → x.core < CORES_MAX → IsReader marks w x → x.count ≤ slice_index clock x.core) →
+      z.count ≤ slice_index clock z.core
+  stood_covered w z s covered = by (eq-zero-or-pos z.count)
+    where
+      by : (z.count ≡ 0) ⊎ (1 ≤ z.count) → z.count ≤ slice_index clock z.core
+      by (inl none) = omega arith
+      by (inr some) = (is z some).1 (or_joined (Among edges) z s.by a.at s.leads
+          ((is s.by s.some).0 (covered s.by s.core s.reader)))
+
+  pub covered_marks : AreMarked edges earlier marks → AreMarksCovered marks a clock →
+      AreCandidatesCovered earlier a clock
+  covered_marks marked s z (b, inl w, ne, e) =
+      let m = (marked.each a.word s.inside).write b w ∙ e in
+      subst (λ (x : Instr). x.count ≤ slice_index clock x.core) m s.write
+  covered_marks marked s z (b, inr r, ne, e) = stood_covered a.word z
+      ((marked.each a.word s.inside).reads z (b.at.core, b, r.1, e)) (s.reads r.0)
 
 -- ---- one access more
 
-mark_else : (h : List Access) (a : Access) (w : ℕ) (m : Mark) → a.word ≢ w → IsMarkOf h w m → IsMarkOf (a ∷ h) w m
-mark_else h a w m ne s = record {
-  is_mark = s.is_mark;
-  wide = s.wide;
-  write = λ b e. s.write b (sym (last_write-word a h w ne) ∙ e);
-  reads = λ i b lt e. s.reads i b lt (sym (last_read-word a h w i ne) ∙ e);
-}
-
-mark_write : (h : List Access) (a : Access) (w : ℕ) (m : Mark) → a.word ≡ w → is_write a.kind ≡ true →
-    a.at.core < CORES_MAX →
-    IsMarkOf (a ∷ h) w (record { write = a.at; reads = no_counts; readers = 0 })
-mark_write h a w m q s lt = record {
-  is_mark = record { core = lt; readers = omega arith; past = λ i le. zero_at CORES_MAX i };
-  wide = refl;
-  write = λ b e. ap (λ (x : Access). x.at) (some_is a b (sym (last_write-at a h w q s) ∙ e));
-  reads = λ i b l e. absurd (none_some b (sym (last_read-store a h w i q s) ∙ e));
-}
-
--- the mark after a read
-abbrev read_mark : Mark → Access → Mark
-read_mark m a = record {
-  write = m.write;
-  reads = slice_set m.reads a.at.core a.at.count;
-  readers =
-      max m.readers (a.at.core + 1);
-}
-
-mark_read : (h : List Access) (a : Access) (w : ℕ) (m : Mark) → a.word ≡ w → is_write a.kind ≡ false →
-    a.at.core < CORES_MAX → IsMarkOf h w m →
-    IsMarkOf (a ∷ h) w (read_mark m a)
-mark_read h a w m q s lt old = record {
-  is_mark = record {
-    core = old.is_mark.core;
-    readers = let r = old.is_mark.readers in grind arith;
-    past = λ i le. get_or-set_other m.reads a.at.core i a.at.count 0
-        (λ e. let u : a.at.core + 1 ≤ max m.readers (a.at.core + 1) = grind arith in omega arith)
-        ∙ old.is_mark.past i (let u : m.readers ≤ max m.readers (a.at.core + 1) = grind arith in omega arith);
-  };
-  wide = length-set m.reads a.at.core a.at.count ∙ old.wide;
-  write = λ b e. old.write b (sym (last_write-load a h w q s) ∙ e);
-  reads = λ i b l e. elim (ℕ_discrete a.at.core i) [
-    | yes c ↦
-        let g : slice_index (slice_set m.reads a.at.core a.at.count) i ≡ a.at.count =
-        subst (λ (x : ℕ). slice_index (slice_set m.reads a.at.core a.at.count) x ≡ a.at.count) c
-        (get_or-set_same m.reads a.at.core a.at.count 0 (let v = old.wide in omega arith)) in
-        g ∙ ap (λ (x : Access). x.at.count) (some_is a b (sym (last_read-at a h w i q s c) ∙ e))
-    | no ne ↦ get_or-set_other m.reads a.at.core i a.at.count 0 (λ z. ne (sym z))
-        ∙ old.reads i b l (sym (last_read-core a h w i q s ne) ∙ e)
-  ];
-}
-
-mark_next : (h : List Access) (a : Access) (m : Mark) → a.at.core < CORES_MAX → IsMarkOf h a.word m →
-    IsMarkOf (a ∷ h) a.word (next_mark m a)
-mark_next h a m lt old = by (cases_kind a.kind)
+-- a last read after a read is it, or was one before
+after_read : (earlier : List Access) (a : Access) (z : Instr) → is_write a.kind ≡ false →
+    IsLastRead (a ∷ earlier) a.word z → (a.at ≡ z) ⊎ IsLastRead earlier a.word z
+after_read earlier a z reads (core, b, is, at) = by (cases_eq a.at.core core)
   where
-    by : (is_write a.kind ≡ false) ⊎ (is_write a.kind ≡ true) → IsMarkOf (a ∷ h) a.word (next_mark m a)
-    by (inl e) = subst (λ b. IsMarkOf (a ∷ h) a.word
-        (cond b (record { write = a.at; reads = no_counts; readers = 0 }) (read_mark m a))) (sym e)
-        (mark_read h a a.word m refl e lt old)
-    by (inr e) = subst (λ b. IsMarkOf (a ∷ h) a.word
-        (cond b (record { write = a.at; reads = no_counts; readers = 0 }) (read_mark m a))) (sym e)
-        (mark_write h a a.word m refl e lt)
+    by : (a.at.core ≡ core) ⊎ (a.at.core ≡ core → ⊥) → (a.at ≡ z) ⊎ IsLastRead earlier a.word z
+    by (inl e) =
+        let same : a ≡ b = some_is a b (sym (last_read-at a earlier a.word core refl reads e) ∙ is) in
+        inl (ap (λ (x : Access). x.at) same ∙ at)
+    by (inr ne) = inr (core, b, sym (last_read-core a earlier a.word core refl reads ne) ∙ is, at)
 
-pub marked_next : (h : List Access) (marks : List Mark) (a : Access) → a.at.core < CORES_MAX → AreMarked h marks →
-    AreMarked (a ∷ h) (slice_set marks a.word (next_mark (mark_at marks a.word) a))
-marked_next h marks a lt m =
-    record {
-      each = λ w in_range. at w
-          (let e = length-set marks a.word (next_mark (mark_at marks a.word) a) in omega arith);
-    }
-  where
-    at : (w : ℕ) → w < length marks →
-        IsMarkOf (a ∷ h) w (mark_at (slice_set marks a.word (next_mark (mark_at marks a.word) a)) w)
-    at w l = elim (ℕ_discrete a.word w) [
-      | yes e ↦
-          let inside : a.word < length marks = omega arith in
-          subst (λ (x : ℕ). IsMarkOf (a ∷ h) x
-          (mark_at (slice_set marks a.word (next_mark (mark_at marks a.word) a)) x)) e
-          (subst (λ (x : Mark). IsMarkOf (a ∷ h) a.word x)
-          (sym (get_or-set_same marks a.word (next_mark (mark_at marks a.word) a) first_mark inside))
-          (mark_next h a (mark_at marks a.word) lt (m.each a.word inside)))
-      | no ne ↦
-          subst (λ (x : Mark). IsMarkOf (a ∷ h) w x)
-          (sym (get_or-set_other marks a.word w (next_mark (mark_at marks a.word) a) first_mark (λ z. ne (sym z))))
-          (mark_else h a w (mark_at marks w) ne (m.each w l))
-    ]
+module _ (edges : List Edge) (h : List Access) (old new : Marked) (a : Access) (clock : List ℕ)
+    (few : a.at.core < CORES_MAX) (some : 1 ≤ a.at.count)
+    (is : IsClock (Among edges) a.at (λ i. slice_index clock i)) (m : IsMarked old a clock new) where
+  mark_else : (w : ℕ) → w ≢ a.word → IsMarkOf edges h old w → IsMarkOf edges (a ∷ h) new w
+  mark_else w ne s = record {
+    write = λ b e. m.elsewhere.write w ne ∙ s.write b (sym (last_write-word a h w (λ q. ne (sym q))) ∙ e);
+    reads = λ z r. stands z (s.reads z (was z r));
+  }
+    where
+      was : (z : Instr) → IsLastRead (a ∷ h) w z → IsLastRead h w z
+      was z (core, b, is_last, at) = (core, b, sym (last_read-word a h w core (λ q. ne (sym q))) ∙ is_last, at)
+
+      stands : (z : Instr) → IsStoodFor edges old w z → IsStoodFor edges new w z
+      stands z o = record {
+        by = o.by;
+        core = o.core;
+        some = o.some;
+        reader = m.elsewhere.reads w o.by ne o.reader;
+        leads = o.leads;
+      }
+
+  mark_write : a.word < length old.marks → is_write a.kind ≡ true → IsMarkOf edges (a ∷ h) new a.word
+  mark_write lt s = record {
+    write = λ b e. m.written lt s ∙ ap (λ (x : Access). x.at) (some_is a b (sym (last_write-at a h a.word refl s) ∙ e));
+    reads = λ z (core, b, is_last, at).
+        absurd (none_some b (sym (last_read-store a h a.word core refl s) ∙ is_last));
+  }
+
+  mark_read : a.word < length old.marks → is_write a.kind ≡ false → IsMarkOf edges h old a.word →
+      IsMarkOf edges (a ∷ h) new a.word
+  mark_read lt s o = record {
+    write = λ b e. next.write ∙ o.write b (sym (last_write-load a h a.word refl s) ∙ e);
+    reads = λ z r. by z (after_read h a z s r);
+  }
+    where
+      next : IsReadNext old a.word a.at clock new
+      next = m.read lt s
+
+      here : (z : Instr) → IsOrLeads (Among edges) z a.at → IsStoodFor edges new a.word z
+      here z leads = record { by = a.at; core = few; some = some; reader = next.now; leads = leads }
+
+      stands : (z : Instr) (t : IsStoodFor edges old a.word z) →
+          IsReader new a.word t.by ⊎ (t.by.count ≤ slice_index clock t.by.core) → IsStoodFor edges new a.word z
+      stands z t (inl still) = record {
+        by = t.by;
+        core = t.core;
+        some = t.some;
+        reader = still;
+        leads = t.leads;
+      }
+      stands z t (inr covered) =
+          here z (or_joined (Among edges) z t.by a.at t.leads ((is t.by t.some).0 covered))
+
+      by : (z : Instr) → (a.at ≡ z) ⊎ IsLastRead h a.word z → IsStoodFor edges new a.word z
+      by z (inl e) = here z (inl (sym e))
+      by z (inr before) = let t = o.reads z before in stands z t (next.before t.by t.reader)
+
+  pub marked_next : AreMarked edges h old → AreMarked edges (a ∷ h) new
+  marked_next marked = record { each = λ w lt. at w (let e = m.elsewhere.all in omega arith) (ℕ_discrete w a.word) }
+    where
+      here : a.word < length old.marks → (is_write a.kind ≡ false) ⊎ (is_write a.kind ≡ true) →
+          IsMarkOf edges (a ∷ h) new a.word
+      here lt (inl s) = mark_read lt s (marked.each a.word lt)
+      here lt (inr s) = mark_write lt s
+
+      at : (w : ℕ) → w < length old.marks → Dec (w ≡ a.word) → IsMarkOf edges (a ∷ h) new w
+      at w lt (yes e) = subst (λ (x : ℕ). IsMarkOf edges (a ∷ h) new x) (sym e)
+          (here (subst (λ (x : ℕ). x < length old.marks) e lt) (cases_kind a.kind))
+      at w lt (no ne) = mark_else w ne (marked.each w lt)
 
 -- ---- the start
 
-first_is : IsMark first_mark
-first_is = record { core = omega arith; readers = omega arith; past = λ i le. zero_at CORES_MAX i }
-
-first_of : (w : ℕ) → IsMarkOf [] w first_mark
+pub marked_start : (edges : List Edge) (marks : Marked) → AreMarked edges [] marks
 unfolding last_write last_read
-first_of w = record {
-  is_mark = first_is;
-  wide = refl;
-  write = λ b e. absurd (none_some b e);
-  reads =
-      λ i b lt e. absurd (none_some b e);
+marked_start edges marks = record {
+  each = λ w lt. record {
+    write = λ b e. absurd (none_some b e);
+    reads = λ z (core, b, is, at). absurd (none_some b is);
+  };
 }
 
-firsts : (n w : ℕ) → mark_at (replicate n first_mark) w ≡ first_mark
+firsts : (n w : ℕ) → slice_index_or (replicate n first_mark) w first_mark ≡ first_mark
 firsts zero w = refl
 firsts (suc n) zero = refl
 firsts (suc n) (suc w) = firsts n w
 
-pub marked_start : (n : ℕ) → AreMarked [] (replicate n first_mark)
-marked_start n = record { each = λ w lt. subst (λ (m : Mark). IsMarkOf [] w m) (sym (firsts n w)) (first_of w) }
-
--- what is marked of a word is a mark, also past the end
-pub marked_at : (h : List Access) (marks : List Mark) (w : ℕ) → AreMarked h marks → IsMark (mark_at marks w)
-marked_at h marks w m = by (cases_lt w (length marks))
+pub sound_start : (n : ℕ) (marks : List Mark) (crowds : List (List ℕ)) → marks ≡ replicate n first_mark →
+    AreSound (record { marks = marks; crowds = crowds })
+sound_start n marks crowds is = record {
+  each = λ w. subst (λ (m : Mark). IsMark crowds m) (sym (at w))
+      (record { core = omega arith; reads = tt; crowd = omega arith });
+  apart = λ v w some e. let none : (mark_at (record { marks = marks; crowds = crowds }) v).crowd ≡ 0 =
+      ap (λ (m : Mark). m.crowd) (at v) in absurd (omega arith);
+}
   where
-    by : (w < length marks) ⊎ (length marks ≤ w) → IsMark (mark_at marks w)
-    by (inl lt) = (m.each w lt).is_mark
-    by (inr le) = subst (λ (x : Mark). IsMark x) (sym (get_or_past marks w first_mark le)) first_is
+    at : (w : ℕ) → slice_index_or marks w first_mark ≡ first_mark
+    at w = ap (λ (l : List Mark). slice_index_or l w first_mark) is ∙ firsts n w

@@ -1,7 +1,7 @@
 -- A tally and a trail go along an order together.
 use Rattle.std.proofs.Common.{inl, inr, ◌≡◌, ◌∙◌, ◌⊎◌, ℕ, ◌+◌, ◌<◌, List, [], ◌∷◌, ◌++◌, length, replicate, sym}
 use Rattle.std.proofs.Common.{ap, subst, arith}
-use Rattle.std.specs.Prelude.{slice_set, Option, Some, None}
+use Rattle.std.specs.Prelude.{slice_set, IsTrue, Option, Some, None}
 use Rattle.rtr_types.specs.declared.TheConstants.{CORES_MAX}
 use Rattle.rtr_types.specs.declared.instr.Instr.{Instr}
 use Rattle.rtr_types.specs.declared.access.Access.{Access}
@@ -18,10 +18,8 @@ use Rattle.replay_core.specs.Answers.{told}
 use Rattle.replay_core.proofs.Counts.{counts_on}
 use Rattle.replay_core.specs.Sources.{AreSources}
 use Rattle.replay_audit.specs.Clocks.{CanNote}
-use Rattle.replay_audit.specs.Marks.{first_mark, mark_at, IsMark}
 use Rattle.replay_core.specs.Tallies.{Tallied, count_of}
 use Rattle.replay_audit.specs.Trails.{Trailed, Trails, IsTrailOf}
-use Rattle.replay_audit.proofs.MarkLaws.{marked_at}
 use Rattle.replay_core.proofs.LowCounts.{Counted, counted_start, counted_on}
 use Rattle.replay_audit.proofs.LowWalk.{Walking, at_next, can_note, ready, sources_next}
 use Rattle.replay_audit.proofs.TrailSteps.{trail_start, trail_on}
@@ -39,9 +37,7 @@ pub record IsFresh (r : Recording) (p : Plan) (cores : ℕ) (t : Tallied) (s : T
   pub plan_is : t.plan ≡ p
   pub counts_is : t.counts ≡ replicate (length r.totals) 0
   pub cores_is : cores ≡ length t.plan.totals
-  pub numbers : s.kept.numbers ≡ replicate cores []
   pub clocks : s.kept.clocks ≡ replicate cores []
-  pub marks : s.marks ≡ replicate r.params.words first_mark
   pub accesses : s.accesses ≡ []
   pub found : s.found ≡ None
 
@@ -51,8 +47,7 @@ followed_start which r cores t s valid fresh = record {
   counted = counted_start (plan_of which r) t fresh.plan_is fresh.counts_is;
   trail = subst (λ (n : ℕ). IsTrailOf (log_edges which r) n nought [] s)
       (fresh.cores_is ∙ ap (λ (q : Plan). length q.totals) fresh.plan_is ∙ valid.each_core)
-      (trail_start (log_edges which r) cores r.params.words s fresh.numbers fresh.clocks fresh.marks fresh.accesses
-      fresh.found);
+      (trail_start (log_edges which r) cores s fresh.clocks (λ l. fresh.accesses) fresh.found);
   rise = tt;
   inside = λ b q. absurd q;
 }
@@ -63,15 +58,12 @@ module _ {which : Which} {r : Recording} (valid : Valid r) {order : List ℕ} {l
   walks : Walking which r order t s.kept
   walks = record { counted = f.counted; clocked = f.trail.clocked }
 
-  pub each_core : (b : Access) → StandsIn s.accesses b → b.at.core < CORES_MAX
-  each_core b q =
-      let lt = f.inside b (subst (λ (l : List Access). StandsIn l b) f.trail.accesses_is q) in
+  pub each_core : IsTrue s.listed → (b : Access) → StandsIn s.accesses b → b.at.core < CORES_MAX
+  each_core listed b q =
+      let lt = f.inside b (subst (λ (l : List Access). StandsIn l b) (f.trail.accesses_is listed) q) in
       let a = valid.each_core in
       let m = valid.params.cores in
       omega arith
-
-  pub each_marked : (w : ℕ) → IsMark (mark_at s.marks w)
-  each_marked w = marked_at _ s.marks w f.trail.marked
 
   -- the next instruction, of the lowest core that is ready
   module _ {c : ℕ} (some : lowest_ready t.plan (count_of t.counts) ≡ Some c) {at : Instr}
@@ -103,7 +95,7 @@ module _ {which : Which} {r : Recording} (valid : Valid r) {order : List ℕ} {l
             (trail_on which r valid (counts nought order) c ready_next list s f.trail sources
             (sources_next valid walks some at_is are) access v
             trails_there
-            (λ a q. told_at a q ∙ at_here) f.rise rise each few_there);
+            (λ a q. told_at a q ∙ at_here) f.rise rise few_there);
         rise = rise;
         inside = λ a q. in_either a (stands_which list (told access) a q);
       }
@@ -117,9 +109,6 @@ module _ {which : Which} {r : Recording} (valid : Valid r) {order : List ℕ} {l
 
           few_there : c < CORES_MAX
           few_there = let e = ap (λ (x : Instr). x.core) at_is in let lt = noted_next.core in omega arith
-
-          each : (b : Access) → StandsIn list b → b.at.core < CORES_MAX
-          each b q = each_core b (subst (λ (l : List Access). StandsIn l b) (sym f.trail.accesses_is) q)
 
           in_either : (a : Access) → StandsIn list a ⊎ StandsIn (told access) a → a.at.core < length r.totals
           in_either a (inl q) = f.inside a q

@@ -2,7 +2,7 @@
 use Rattle.std.proofs.Common.{inl, inr, ◌≡◌, ◌≢◌, ◌⊎◌, ℕ, ◌+◌, ◌<◌, ◌≤◌, true, false, Bool, not, ◌&&◌, List, [], ◌∷◌}
 use Rattle.std.proofs.Common.{◌++◌, replicate, reverse, refl, sym, ap}
 use Rattle.std.proofs.Common.{◌∙◌, subst, arith, append-nil}
-use Rattle.std.specs.Prelude.{slice_index, nat_le, Option, Some, None}
+use Rattle.std.specs.Prelude.{slice_index, nat_le, IsTrue, Option, Some, None}
 use Rattle.std.proofs.lemmas.Bool.Decides.{nat_tests}
 use Rattle.std.proofs.lemmas.Bool.{not-true, and_parts}
 use Rattle.rtr_types.specs.declared.TheConstants.{CORES_MAX}
@@ -18,7 +18,7 @@ use Rattle.conflict_edge.specs.Conflicts.{Conflicts, ConflictPair, CountsRise, S
 use Rattle.conflict_edge.specs.Least.{Suffices}
 use Rattle.conflict_edge.proofs.Candidates.{candidates_law}
 use Rattle.conflict_edge.proofs.History.{do_conflict-true, do_conflict-yes}
-use Rattle.conflict_edge.proofs.Online.{candidate_source, last_read-is}
+use Rattle.conflict_edge.proofs.Online.{candidate_source}
 use Rattle.conflict_edge.proofs.NewestFirst.{stands_back, reverse-next}
 use Rattle.conflict_edge.proofs.AccessPlaces.{positive}
 use Rattle.race_log.specs.declared.recording.Recording.{Recording}
@@ -29,13 +29,13 @@ use Rattle.replay_core.specs.Play.{instr}
 use Rattle.replay_core.specs.Orders.{bump, nought, Ready}
 use Rattle.replay_core.specs.Answers.{told}
 use Rattle.clock_entries.specs.Laws.{IsAcyclic}
-use Rattle.replay_audit.specs.declared.marks.Mark.{Mark}
 use Rattle.replay_audit.specs.declared.unordered.Unordered.{Unordered}
 use Rattle.replay_core.specs.Sources.{AreSources}
 use Rattle.replay_audit.specs.Clocks.{Kept, clock_at, Clocked}
-use Rattle.replay_audit.specs.Marks.{first_mark, AreMarksCovered, AreMarked}
+use Rattle.replay_audit.specs.Marks.{AreMarksCovered, AreMarked, Marked}
 use Rattle.replay_audit.specs.Unordered.{IsLatestBefore, IsUnordered, is_open, AreCovered, IsLatestAt}
-use Rattle.replay_audit.specs.Trails.{Trailed, FoundNext, Watches, with_kept, Trails, IsFinding, IsTrailOf}
+use Rattle.replay_audit.specs.Trails.{Trailed, FoundNext, Watches, WatchesAny, with_kept, Trails, IsFinding}
+use Rattle.replay_audit.specs.Trails.{IsTrailOf}
 use Rattle.replay_audit.proofs.Pairs.{Apart, both_left, both_right, across, pairs_which}
 use Rattle.replay_audit.proofs.ClockSteps.{clocked_on, clock_found, clocked_start}
 use Rattle.replay_audit.proofs.Scan.{split_more}
@@ -166,55 +166,65 @@ checked_suffice edges list a k h now rise suf ch = candidates_law list a edges n
         (covered edges a.at z (λ i. slice_index k i) h pos ne).0 (ch z c)
 
 -- what is known of the accesses before
-pub record Earlier (list : List Access) (marks : List Mark) : Type 0 where
+pub record Earlier (edges : List Edge) (list : List Access) (marks : Marked) : Type 0 where
   pub rise : CountsRise list
-  pub marked : AreMarked (reverse list) marks
-  pub cores : (b : Access) → StandsIn list b → b.at.core < CORES_MAX
+  pub marked : AreMarked edges (reverse list) marks
 
-none_next : (edges : List Edge) (marks : List Mark) (list : List Access) (a : Access) (k : List ℕ) →
+none_next : (edges : List Edge) (marks : Marked) (list : List Access) (a : Access) (k : List ℕ) →
     IsClockOf edges a k → CountsRise (list ++ a ∷ []) →
-    Earlier list marks → Suffices list (Among edges) →
+    Earlier edges list marks → Suffices list (Among edges) →
     AreMarksCovered marks a k ⊎ AreCovered list a k → Suffices (list ++ a ∷ []) (Among edges)
 none_next edges marks list a k h now was f (inr all) = covered_suffice edges list a k h was.rise f all
 none_next edges marks list a k h now was f (inl s) = checked_suffice edges list a k h now was.rise f
-    (covered_marks (reverse list) marks a k was.marked
-    (λ b w i e. was.cores b (stands_back list b (last_read-is (reverse list) w i b e).stands)) s)
+    (covered_marks edges (reverse list) marks a k h was.marked s)
 
-pub finding_next : (edges : List Edge) (marks : List Mark) (list : List Access) (a : Access) (k : List ℕ)
-    (o p : Option Unordered) → IsClockOf edges a k →
-    CountsRise (list ++ a ∷ []) → Earlier list marks → IsFinding edges list o → FoundNext o marks list a k p →
-    IsFinding edges (list ++ a ∷ []) p
-finding_next edges marks list a k (Some o) p h now was f n =
-    subst (λ (z : Option Unordered). IsFinding edges (list ++ a ∷ []) z) (sym n)
-    (finding_more edges list a o.first o.second f)
-finding_next edges marks list a k None None h now was f n = none_next edges marks list a k h now was f n
-finding_next edges marks list a k None (Some o) h now was f n = record {
+pub finding_next : (edges : List Edge) (marks : Marked) (list : List Access) (a : Access) (k : List ℕ)
+    (listed : Bool) (o p : Option Unordered) → IsClockOf edges a k →
+    CountsRise (list ++ a ∷ []) → Earlier edges list marks → IsFinding listed edges list o →
+    FoundNext listed o marks list a k p → IsFinding listed edges (list ++ a ∷ []) p
+finding_next edges marks list a k listed (Some o) p h now was f n =
+    subst (λ (z : Option Unordered). IsFinding listed edges (list ++ a ∷ []) z) (sym n)
+    (λ t. finding_more edges list a o.first o.second (f t))
+finding_next edges marks list a k listed None None h now was f (inl s) =
+    none_next edges marks list a k h now was f (inl s)
+finding_next edges marks list a k listed None None h now was f (inr all) =
+    none_next edges marks list a k h now was f (inr all.1)
+finding_next edges marks list a k listed None (Some o) h now was f n = λ t. let found = n t in record {
   front = list;
   later = a;
   rest = [];
   split = refl;
-  at = sym n.1;
+  at = sym found.1;
   ordered = f;
-  partner = latest_before edges list a k o.first h was.rise n.0;
+  partner = latest_before edges list a k o.first h was.rise found.0;
 }
+
+-- what is found goes by the list only where the accesses are listed
+found_of : (listed : Bool) (o : Option Unordered) (marks : Marked) (kept list : List Access) (a : Access) (k : List ℕ)
+    (p : Option Unordered) → (IsTrue listed → kept ≡ list) → FoundNext listed o marks kept a k p →
+    FoundNext listed o marks list a k p
+found_of listed (Some o) marks kept list a k p is n = n
+found_of listed None marks kept list a k None is (inl s) = inl s
+found_of listed None marks kept list a k None is (inr all) =
+    inr (all.0, subst (λ (l : List Access). AreCovered l a k) (is all.0) all.1)
+found_of listed None marks kept list a k (Some o) is n =
+    λ t. (subst (λ (l : List Access). IsLatestAt l a k o.first) (is t) (n t).0, (n t).1)
 
 -- ---- a trail
 
 -- no access yet, with the clocks of instructions that were noted
-pub trail_along : (edges : List Edge) (cores words : ℕ) (f : ℕ → ℕ) (t : Trailed) → Clocked edges cores f t.kept →
-    t.marks ≡ replicate words first_mark → t.accesses ≡ [] → t.found ≡ None → IsTrailOf edges cores f [] t
-trail_along edges cores words f t clocked marks accesses found = record {
+pub trail_along : (edges : List Edge) (cores : ℕ) (f : ℕ → ℕ) (t : Trailed) → Clocked edges cores f t.kept →
+    (IsTrue t.listed → t.accesses ≡ []) → t.found ≡ None → IsTrailOf edges cores f [] t
+trail_along edges cores f t clocked accesses found = record {
   clocked = clocked;
   accesses_is = accesses;
-  marked = subst (λ (l : List Mark). AreMarked [] l) (sym marks) (marked_start words);
-  finding = λ acyclic. subst (λ (o : Option Unordered). IsFinding edges [] o) (sym found) (λ x y p. absurd p);
+  marked = λ acyclic. marked_start edges t.marks;
+  finding = λ acyclic. subst (λ (o : Option Unordered). IsFinding t.listed edges [] o) (sym found) (λ x y p. absurd p);
 }
 
-pub trail_start : (edges : List Edge) (cores words : ℕ) (t : Trailed) → t.kept.numbers ≡ replicate cores [] →
-    t.kept.clocks ≡ replicate cores [] →
-    t.marks ≡ replicate words first_mark → t.accesses ≡ [] → t.found ≡ None → IsTrailOf edges cores nought [] t
-trail_start edges cores words t numbers clocks = trail_along edges cores words nought t
-    (clocked_start edges cores t.kept numbers clocks)
+pub trail_start : (edges : List Edge) (cores : ℕ) (t : Trailed) → t.kept.clocks ≡ replicate cores [] →
+    (IsTrue t.listed → t.accesses ≡ []) → t.found ≡ None → IsTrailOf edges cores nought [] t
+trail_start edges cores t clocks = trail_along edges cores nought t (clocked_start edges cores t.kept clocks)
 
 module _ (which : Which) (r : Recording) (valid : Valid r) (f : ℕ → ℕ) (c : ℕ) (ready : Ready (plan_of which r) f c)
     (list : List Access) (s : Trailed)
@@ -223,10 +233,9 @@ module _ (which : Which) (r : Recording) (valid : Valid r) (f : ℕ → ℕ) (c 
   -- with the next instruction of a ready core, and its access
   pub trail_on : (access : Option Access) (t : Trailed) → Trails s (instr c (f c + 1)) sources r.params.cores access t →
       ((a : Access) → StandsIn (told access) a → a.at ≡ instr c (f c + 1)) →
-      CountsRise list → CountsRise (list ++ told access) → ((b : Access) → StandsIn list b → b.at.core < CORES_MAX) →
-      c < CORES_MAX →
+      CountsRise list → CountsRise (list ++ told access) → c < CORES_MAX →
       IsTrailOf (log_edges which r) r.params.cores (bump f c) (list ++ told access) t
-  trail_on None t h at rise now cores few =
+  trail_on None t h at rise now few =
       subst (λ (x : Trailed). IsTrailOf (log_edges which r) r.params.cores (bump f c) (list ++ []) x) (sym h.watched)
       (subst (λ (l : List Access). IsTrailOf (log_edges which r) r.params.cores (bump f c) l (with_kept s h.kept))
       (sym (append-nil list)) (record {
@@ -235,18 +244,23 @@ module _ (which : Which) (r : Recording) (valid : Valid r) (f : ℕ → ℕ) (c 
         marked = trail.marked;
         finding = trail.finding;
       }))
-  trail_on (Some a) t h at rise now cores few = record {
+  trail_on (Some a) t h at rise now few = record {
     clocked = subst (λ (k : Kept). Clocked (log_edges which r) r.params.cores (bump f c) k) (sym h.watched.kept)
         (clocked_on which r valid f s.kept trail.clocked c sources h.kept ready are h.noted);
-    accesses_is = h.watched.accesses ∙ ap (λ (l : List Access). l ++ a ∷ []) trail.accesses_is;
-    marked = subst (λ (l : List Access). AreMarked l t.marks) (sym (reverse-next list a))
-        (subst (λ (m : List Mark). AreMarked (a ∷ reverse list) m) (sym h.watched.marks)
-        (marked_next (reverse list) s.marks a core trail.marked));
-    finding = λ acyclic. finding_next (log_edges which r) s.marks list a h.watched.clock s.found t.found
+    accesses_is = λ listed. let was : IsTrue s.listed = subst IsTrue h.watched.listed listed in
+        h.watched.accesses was ∙ ap (λ (l : List Access). l ++ a ∷ []) (trail.accesses_is was);
+    marked = λ acyclic. subst (λ (l : List Access). AreMarked (log_edges which r) l t.marks)
+        (sym (reverse-next list a))
+        (marked_next (log_edges which r) (reverse list) s.marks t.marks a h.watched.clock core
+        (let e = ap (λ (x : Instr). x.count) here in omega arith) (clock_of acyclic) h.watched.marks
+        (trail.marked acyclic));
+    finding = λ acyclic. subst (λ (b : Bool). IsFinding b (log_edges which r) (list ++ a ∷ []) t.found)
+        (sym h.watched.listed)
+        (finding_next (log_edges which r) s.marks list a h.watched.clock s.listed s.found t.found
         (clock_of acyclic) now
-        (record { rise = rise; marked = trail.marked; cores = cores }) (trail.finding acyclic)
-        (subst (λ (l : List Access). FoundNext s.found s.marks l a h.watched.clock t.found) trail.accesses_is
-        h.watched.found);
+        (record { rise = rise; marked = trail.marked acyclic }) (trail.finding acyclic)
+        (found_of s.listed s.found s.marks s.accesses list a h.watched.clock t.found trail.accesses_is
+        h.watched.found));
   }
     where
       here : a.at ≡ instr c (f c + 1)
@@ -263,20 +277,34 @@ module _ (which : Which) (r : Recording) (valid : Valid r) (f : ℕ → ℕ) (c 
           (λ i. sym (h.watched.clock_is i ∙ ap (λ (x : Instr). clock_at h.kept x i) here))
           (clock_found which r valid f s.kept trail.clocked c sources h.kept ready are h.noted acyclic))
 
+-- whether accesses are listed stays
+pub trails_listed : {s t : Trailed} {y : Instr} {sources : List ℕ} {cores : ℕ} {access : Option Access} →
+    Trails s y sources cores access t → t.listed ≡ s.listed
+trails_listed {s} {t} {y} {sources} {cores} {access} h = by access h.watched
+  where
+    by : (access : Option Access) → WatchesAny (with_kept s h.kept) access t → t.listed ≡ s.listed
+    by None w = ap (λ (x : Trailed). x.listed) w
+    by (Some a) w = w.listed
+
 -- an access of an instruction that was noted before
 pub trail_watched : (edges : List Edge) (cores : ℕ) (f : ℕ → ℕ) (list : List Access) (s t : Trailed) (a : Access) →
     IsTrailOf edges cores f list s → Watches s a t → a.at.core < cores → a.at.core < CORES_MAX → 1 ≤ a.at.count →
     a.at.count ≤ f a.at.core → CountsRise list → CountsRise (list ++ a ∷ []) →
-    ((b : Access) → StandsIn list b → b.at.core < CORES_MAX) → IsTrailOf edges cores f (list ++ a ∷ []) t
-trail_watched edges cores f list s t a trail w inside few pos le rise now each = record {
+    IsTrailOf edges cores f (list ++ a ∷ []) t
+trail_watched edges cores f list s t a trail w inside few pos le rise now = record {
   clocked = subst (λ (k : Kept). Clocked edges cores f k) (sym w.kept) trail.clocked;
-  accesses_is = w.accesses ∙ ap (λ (l : List Access). l ++ a ∷ []) trail.accesses_is;
-  marked = subst (λ (l : List Access). AreMarked l t.marks) (sym (reverse-next list a))
-      (subst (λ (m : List Mark). AreMarked (a ∷ reverse list) m) (sym w.marks)
-      (marked_next (reverse list) s.marks a few trail.marked));
-  finding = λ acyclic. finding_next edges s.marks list a w.clock s.found t.found
-      (clock_same (Among edges) a.at (clock_at s.kept a.at) (λ i. slice_index w.clock i) (λ i. sym (w.clock_is i))
-      (trail.clocked.exact acyclic a.at.core a.at.count inside pos le)) now
-      (record { rise = rise; marked = trail.marked; cores = each }) (trail.finding acyclic)
-      (subst (λ (l : List Access). FoundNext s.found s.marks l a w.clock t.found) trail.accesses_is w.found);
+  accesses_is = λ listed. let was : IsTrue s.listed = subst IsTrue w.listed listed in
+      w.accesses was ∙ ap (λ (l : List Access). l ++ a ∷ []) (trail.accesses_is was);
+  marked = λ acyclic. subst (λ (l : List Access). AreMarked edges l t.marks) (sym (reverse-next list a))
+      (marked_next edges (reverse list) s.marks t.marks a w.clock few pos (clock_of acyclic) w.marks
+      (trail.marked acyclic));
+  finding = λ acyclic. subst (λ (b : Bool). IsFinding b edges (list ++ a ∷ []) t.found) (sym w.listed)
+      (finding_next edges s.marks list a w.clock s.listed s.found t.found (clock_of acyclic) now
+      (record { rise = rise; marked = trail.marked acyclic }) (trail.finding acyclic)
+      (found_of s.listed s.found s.marks s.accesses list a w.clock t.found trail.accesses_is w.found));
 }
+  where
+    clock_of : IsAcyclic edges → IsClockOf edges a w.clock
+    clock_of acyclic =
+        clock_same (Among edges) a.at (clock_at s.kept a.at) (λ i. slice_index w.clock i) (λ i. sym (w.clock_is i))
+        (trail.clocked.exact acyclic a.at.core a.at.count inside pos le)

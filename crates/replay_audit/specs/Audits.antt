@@ -1,7 +1,6 @@
 -- What an audit answers.
-use Rattle.std.specs.Prelude.{◌≡◌, ℕ, List, [], length, replicate, Option, Some, None}
+use Rattle.std.specs.Prelude.{◌≡◌, ℕ, Bool, IsTrue, List, [], length, replicate, Option, Some, None}
 use Rattle.replay_core.specs.Answers.{UnderWay}
-use Rattle.replay_audit.specs.Marks.{first_mark}
 use Rattle.replay_core.specs.Tallies.{Tallied}
 use Rattle.replay_audit.specs.Trails.{Trailed}
 use Rattle.rtr_types.specs.declared.instr.Instr.{Instr}
@@ -72,15 +71,25 @@ pub record HasPassed (which : Which) (r : Recording) (outcome : Outcome) (list :
   pub passed : Passed which r outcome list
   pub clocks : AreClocksOf which r kept
 
+-- the recording is determinate by the log, this is how the low order ends, and every order agrees with it
+pub record IsReplayed (which : Which) (r : Recording) (outcome : Outcome) : Type 0 where
+  pub determinate : IsDeterminate which r
+  pub outcome_is : outcome ≡ low_outcome which r
+  pub every_order : EveryOrderAgrees which r
+
+-- what a pass comes to: the replay, and where the accesses are listed all that is kept
+pub record HasFollowed (listed : Bool) (which : Which) (r : Recording) (outcome : Outcome) (list : List Access)
+    (kept : Kept) : Type 0 where
+  pub replayed : IsReplayed which r outcome
+  pub passed : IsTrue listed → HasPassed which r outcome list kept
+
 -- a tally, a replay and a trail at the start of the low order
 pub record Begins (which : Which) (r : Recording) (t : Tallied) (u : UnderWay) (s : Trailed) : Type 0 where
   pub tally_plan : t.plan ≡ plan_of which r
   pub counts : t.counts ≡ replicate (length r.totals) 0
   pub replay_plan : u.plan ≡ plan_of which r
   pub state : u.state ≡ start (plan_of which r)
-  pub numbers : s.kept.numbers ≡ replicate (length t.plan.totals) []
   pub clocks : s.kept.clocks ≡ replicate (length t.plan.totals) []
-  pub marks : s.marks ≡ replicate r.params.words first_mark
   pub accesses : s.accesses ≡ []
   pub found : s.found ≡ None
 
@@ -102,6 +111,14 @@ AuditRefuses which r (faults.Stuck cut) = EndsAt (plan_of which r) cut
 AuditRefuses which r (faults.Short core count) = low_short which r ≡ Some (core, count)
 AuditRefuses which r (faults.Undetermined first second) = LeavesOpen which r first second
 AuditRefuses which r faults.OutOfMemory = Unit {0}
+
+-- why a pass stops: where the accesses aren't listed, an unordered pair says nothing
+abbrev pub FollowRefuses : (listed : Bool) → Which → Recording → AuditFault → Type 0
+FollowRefuses listed which r (faults.Stuck cut) = AuditRefuses which r (faults.Stuck cut)
+FollowRefuses listed which r (faults.Short core count) = AuditRefuses which r (faults.Short core count)
+FollowRefuses listed which r (faults.Undetermined first second) =
+    IsTrue listed → AuditRefuses which r (faults.Undetermined first second)
+FollowRefuses listed which r faults.OutOfMemory = Unit {0}
 
 -- what is made of a fault by what it says of the recording. Want of memory says nothing
 abbrev pub fault_by : {E : Type 0} → (says : AuditFault → E) → (nothing : E) → AuditFault → E

@@ -1,48 +1,61 @@
 -- What is kept of the accesses so far.
-use Rattle.std.specs.Prelude.{◌≡◌, ℕ, ◌⊎◌, List, [], ◌∷◌, ◌++◌, reverse, slice_index, slice_set, Option, Some, None}
+use Rattle.std.specs.Prelude.{◌≡◌, ℕ, ◌⊎◌, Bool, IsTrue, List, [], ◌∷◌, ◌++◌, reverse, slice_index, Option, Some}
+use Rattle.std.specs.Prelude.{None}
 use Rattle.rtr_types.specs.declared.instr.Instr.{Instr}
 use Rattle.rtr_types.specs.declared.instr.Edge.{Edge}
 use Rattle.rtr_types.specs.declared.access.Access.{Access}
 use Rattle.clock_core.specs.Order.{Among}
 use Rattle.conflict_edge.specs.Least.{Suffices}
 use Rattle.clock_entries.specs.Laws.{IsAcyclic}
-use Rattle.replay_audit.specs.declared.marks.Mark.{Mark}
 use Rattle.replay_audit.specs.declared.unordered.Unordered.{Unordered}
 use Rattle.replay_audit.specs.Clocks.{Kept, clock_at, IsNoted, Clocked}
-use Rattle.replay_audit.specs.Marks.{mark_at, next_mark, AreMarksCovered, AreMarked}
+use Rattle.replay_audit.specs.Marks.{Marked, IsMarked, AreMarksCovered, AreMarked}
 use Rattle.replay_audit.specs.Unordered.{AreCovered, IsLatestAt, IsUnordered}
 
--- what contracts see of a trail: the clocks and the marks that are kept, the accesses, and the first two that are
--- unordered
+-- what contracts see of a trail: the clocks and the marks that are kept, the accesses where they are listed, and the
+-- first two that are unordered, which are named where the accesses are listed
 pub record Trailed : Type 0 where
+  pub listed : Bool
   pub kept : Kept
-  pub marks : List Mark
+  pub marks : Marked
   pub accesses : List Access
   pub found : Option Unordered
 
--- the first two that were found stay. Without any, the marks are covered, or all accesses are, or the latest open one
--- is found
-abbrev pub FoundNext : Option Unordered → List Mark → List Access → Access → (clock : List ℕ) → Option Unordered
-    → Type 0
-FoundNext (Some o) marks list a clock result = result ≡ Some o
-FoundNext None marks list a clock None = AreMarksCovered marks a clock ⊎ AreCovered list a clock
-FoundNext None marks list a clock (Some o) = IsLatestAt list a clock o.first × (o.second ≡ a.at)
+-- the access that the marks leave open, by those that are listed
+abbrev pub IsFirstOpen : (listed : Bool) → List Access → Access → (clock : List ℕ) → Option Unordered → Type 0
+IsFirstOpen listed list a clock None = IsTrue listed × AreCovered list a clock
+IsFirstOpen listed list a clock (Some o) = IsTrue listed → IsLatestAt list a clock o.first × (o.second ≡ a.at)
 
--- an access is looked at by its clock, marked and kept
+-- the first two that were found stay. Without any, the marks are covered, or all accesses that are listed are, or the
+-- latest open one is found
+abbrev pub FoundNext : (listed : Bool) → Option Unordered → Marked → List Access → Access → (clock : List ℕ)
+    → Option Unordered → Type 0
+FoundNext listed (Some o) marks list a clock result = result ≡ Some o
+FoundNext listed None marks list a clock None = AreMarksCovered marks a clock ⊎ IsFirstOpen listed list a clock None
+FoundNext listed None marks list a clock (Some o) = IsFirstOpen listed list a clock (Some o)
+
+-- an access is looked at by its clock, marked, and listed if such are
 pub record Watches (s : Trailed) (a : Access) (t : Trailed) : Type 0 where
+  pub listed : t.listed ≡ s.listed
   pub kept : t.kept ≡ s.kept
-  pub accesses : t.accesses ≡ s.accesses ++ a ∷ []
-  pub marks : t.marks ≡ slice_set s.marks a.word (next_mark (mark_at s.marks a.word) a)
+  pub accesses : IsTrue s.listed → t.accesses ≡ s.accesses ++ a ∷ []
   pub clock : List ℕ
   pub clock_is : (i : ℕ) → slice_index clock i ≡ clock_at s.kept a.at i
-  pub found : FoundNext s.found s.marks s.accesses a clock t.found
+  pub marks : IsMarked s.marks a clock t.marks
+  pub found : FoundNext s.listed s.found s.marks s.accesses a clock t.found
 
 abbrev pub WatchesAny : Trailed → Option Access → Trailed → Type 0
 WatchesAny s None t = t ≡ s
 WatchesAny s (Some a) t = Watches s a t
 
 abbrev pub with_kept : Trailed → Kept → Trailed
-with_kept s kept = record { kept = kept; marks = s.marks; accesses = s.accesses; found = s.found }
+with_kept s kept = record {
+  listed = s.listed;
+  kept = kept;
+  marks = s.marks;
+  accesses = s.accesses;
+  found = s.found;
+}
 
 -- an instruction with its sources is noted, and its access if it makes one
 pub record Trails (s : Trailed) (y : Instr) (sources : List ℕ) (cores : ℕ) (access : Option Access) (t : Trailed)
@@ -53,14 +66,15 @@ pub record Trails (s : Trailed) (y : Instr) (sources : List ℕ) (cores : ℕ) (
 
 -- ---- what a trail stands for
 
--- none are found exactly where the log orders each two that conflict
-abbrev pub IsFinding : List Edge → List Access → Option Unordered → Type 0
-IsFinding edges list None = Suffices list (Among edges)
-IsFinding edges list (Some o) = IsUnordered edges list o.first o.second
+-- none are found where the log orders each two that conflict, and two of those that are listed are the first that it
+-- doesn't
+abbrev pub IsFinding : (listed : Bool) → List Edge → List Access → Option Unordered → Type 0
+IsFinding listed edges list None = Suffices list (Among edges)
+IsFinding listed edges list (Some o) = IsTrue listed → IsUnordered edges list o.first o.second
 
 -- it is the trail of these accesses, along an order that has come as far as the counts say
 pub record IsTrailOf (edges : List Edge) (cores : ℕ) (f : ℕ → ℕ) (list : List Access) (t : Trailed) : Type 0 where
   pub clocked : Clocked edges cores f t.kept
-  pub accesses_is : t.accesses ≡ list
-  pub marked : AreMarked (reverse list) t.marks
-  pub finding : IsAcyclic edges → IsFinding edges list t.found
+  pub accesses_is : IsTrue t.listed → t.accesses ≡ list
+  pub marked : IsAcyclic edges → AreMarked edges (reverse list) t.marks
+  pub finding : IsAcyclic edges → IsFinding t.listed edges list t.found

@@ -1,12 +1,11 @@
 //! The audit of a recording by one of its logs.
-ghost use Rattle.std.specs.Prelude.{◌≡◌, ℕ, MatchResult, length, replicate, slice_index};
+ghost use Rattle.std.specs.Prelude.{◌≡◌, ℕ, MatchResult, slice_index};
 ghost use Rattle.clock_core.specs.Order.{Among};
 ghost use Rattle.clock_core.specs.Reach.{IsClock};
 ghost use Rattle.race_log.specs.Sources.{log_edges};
 ghost use Rattle.race_log.specs.Validity.{Valid};
-ghost use Rattle.replay_core.specs.Plans.{plan_of};
-ghost use Rattle.replay_core.specs.Play.{start};
-ghost use Rattle.replay_audit.specs.Audits.{AuditRefuses, Begins, HasPassed, IsAuditOf, IsInstrOf, PassesOf};
+ghost use Rattle.replay_audit.specs.Audits.{AuditRefuses, Begins, FollowRefuses, HasFollowed, IsAuditOf, IsInstrOf};
+ghost use Rattle.replay_audit.specs.Audits.{IsReplayed, PassesOf};
 
 use crate::audit_fault::AuditFault;
 use crate::log_clocks::LogClocks;
@@ -119,12 +118,35 @@ pub fn audit(alloc: Global, recording: Recording, which: Which) -> Result<Audite
     requires { Valid recording }
     ensures { MatchResult result (IsAuditOf which recording) (AuditRefuses which recording) }
 {
-    let pass = Pass::over(alloc, &recording, which)?;
+    let pass = Pass::over(alloc, &recording, which, true)?;
     Ok(Audited {
         recording,
         which,
         pass,
     })
+}
+
+/// The recording and the outcome of the log's low order, where the recording is determinate by the log, and
+/// else what `audit` refuses it for. It lists no accesses, unless there seem to be two that are unordered: then
+/// it goes over the low order again, to name them.
+pub fn replayed(
+    alloc: Global,
+    recording: Recording,
+    which: Which,
+) -> Result<(Recording, Outcome), AuditFault>
+    requires { Valid recording }
+    ensures { MatchResult result
+        (λ parts. (parts.0 ≡ recording) × IsReplayed which recording parts.1)
+        (AuditRefuses which recording) }
+{
+    let outcome = match Pass::over(alloc, &recording, which, false) {
+        Ok(pass) => pass.into_outcome(),
+        Err(AuditFault::Undetermined { .. }) => {
+            Pass::over(alloc, &recording, which, true)?.into_outcome()
+        }
+        Err(fault) => return Err(fault),
+    };
+    Ok((recording, outcome))
 }
 
 /// What one pass over the low order found.
@@ -145,38 +167,43 @@ impl Drop for Pass {
 }
 
 impl Pass {
-    /// The pass over the low order of the recording's log.
-    fn over(alloc: Global, recording: &Recording, which: Which) -> Result<Pass, AuditFault>
+    /// The pass over the low order of the recording's log, in which the accesses are listed or not.
+    fn over(
+        alloc: Global,
+        recording: &Recording,
+        which: Which,
+        listed: bool,
+    ) -> Result<Pass, AuditFault>
         requires { Valid recording.now }
         ensures { MatchResult result
-            (λ pass. HasPassed which recording.now pass.outcome pass.accesses pass.clocks)
-            (AuditRefuses which recording.now) }
+            (λ pass. HasFollowed listed which recording.now pass.outcome pass.accesses pass.clocks)
+            (FollowRefuses listed which recording.now) }
     {
         let mut tally = LowOrder::new(alloc, recording, which)?;
         let replay = Replay::new(alloc, recording, which)?;
-        Pass::along(alloc, recording, which, &mut tally, replay)
+        let totals = recording.totals.as_slice();
+        let words = recording.params.words;
+        let trail = Trail::new(alloc, tally.cores(), words, totals, listed)?;
+        Pass::along(alloc, recording, which, &mut tally, replay, trail)
     }
 
-    /// The pass, by a count of the cores and a replay at the start.
+    /// The pass, by a count of the cores, a replay and a trail at the start.
     fn along(
         alloc: Global,
         recording: &Recording,
         which: Which,
         tally: &mut LowOrder,
         replay: Replay,
+        trail: Trail,
     ) -> Result<Pass, AuditFault>
         requires valid { Valid recording.now }
-        requires tally_plan { tally.old.plan ≡ plan_of which recording.now }
-        requires counts { tally.old.counts ≡ replicate (length recording.now.totals) 0 }
-        requires replay_plan { replay.plan ≡ plan_of which recording.now }
-        requires state { replay.state ≡ start (plan_of which recording.now) }
+        requires begins { Begins which recording.now tally.old replay trail }
         ensures { MatchResult result
-            (λ pass. HasPassed which recording.now pass.outcome pass.accesses pass.clocks)
-            (AuditRefuses which recording.now) }
+            (λ pass. HasFollowed trail.listed which recording.now pass.outcome pass.accesses pass.clocks)
+            (FollowRefuses trail.listed which recording.now) }
     {
         let mut replay = replay;
-        let totals = recording.totals.as_slice();
-        let mut trail = Trail::new(alloc, tally.cores(), recording.params.words, totals)?;
+        let mut trail = trail;
         follow(recording, which, tally, &mut replay, &mut trail)?;
         let (accesses, clocks) = trail.into_parts();
         Ok(Pass {
@@ -210,8 +237,8 @@ fn follow(
     requires valid { Valid recording.now }
     requires begins { Begins which recording.now tally.old replay.old trail.old }
     ensures { MatchResult result
-        (λ _. HasPassed which recording.now replay.new.state trail.new.accesses trail.new.kept)
-        (AuditRefuses which recording.now) }
+        (λ _. HasFollowed trail.old.listed which recording.now replay.new.state trail.new.accesses trail.new.kept)
+        (FollowRefuses trail.old.listed which recording.now) }
 {
     while let Some(core) = tally.lowest() {
         replay.make_room()?;

@@ -27,7 +27,7 @@ mod unordered;
 mod whole_order;
 
 pub use audit_fault::AuditFault;
-pub use audited::{Audited, audit};
+pub use audited::{Audited, audit, replayed};
 pub use judgement::judge;
 pub use touch::Touch;
 pub use whole_order::{WholeOrder, ordered};

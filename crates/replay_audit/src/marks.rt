@@ -1,7 +1,10 @@
-//! The last write of each word, and the last reads since.
-ghost use Rattle.std.specs.Prelude.{◌≡◌, ◌<◌, ◌≤◌, ℕ, IsTrue, IfOk, replicate, slice_index, slice_set};
+//! The last write of each word, and the reads since that matter.
+ghost use Rattle.std.specs.Prelude.{◌≡◌, ◌<◌, ◌≤◌, ℕ, IfOk, IsTrue, OnOk, [], length, replicate, slice_index};
 ghost use Rattle.rtr_types.specs.declared.TheConstants.{CORES_MAX};
-ghost use Rattle.replay_audit.specs.Marks.{AreMarksCovered, IsMark, first_mark, mark_at, next_mark};
+ghost use Rattle.rtr_types.specs.declared.instr.Instr.{Instr as SomeInstr};
+ghost use Rattle.replay_audit.specs.declared.marks.Reads.TheVariants.{Crowd};
+ghost use Rattle.replay_audit.specs.Marks.{AreMarksCovered, IsElsewhere, IsMark, IsMarked, IsReadNext, IsReader};
+ghost use Rattle.replay_audit.specs.Marks.{crowd_of, first_mark, HasRead, mark_at};
 
 use crate::clock_of::ClockOf;
 use clock_core::Clock;
@@ -9,19 +12,223 @@ use rtr_types::{Access, CORES_MAX, Instr};
 use std::alloc::{AllocError, Global};
 use std::marker::Model;
 
-/// The last write of a word, and for each core the count of its last read since then. A count of 0
-/// means that there is none; so it is for each core from `readers` on.
+/// The reads of a word since its last write that matter.
+#[derive(Clone, Copy)]
+enum Reads {
+    /// There are none.
+    Unread,
+    /// One, and each other read is ordered before it.
+    One { at: Instr },
+    /// Several, whose counts stand in the word's crowd.
+    Crowd,
+}
+
+/// The last write of a word, the reads since that matter, and the number of the word's crowd, counted from
+/// 1. It is 0 where the word never had one.
 #[derive(Clone, Copy)]
 struct Mark {
     write: Instr,
-    reads: Clock,
-    readers: u8,
+    reads: Reads,
+    crowd: usize,
 }
 
-/// A mark for each word.
+/// A mark for each word, and the crowds: for each core the count of a read, or 0. Each word has its own.
 #[derive(Drop)]
 pub struct Marks {
     marks: Vec<Mark>,
+    crowds: Vec<Clock>,
+}
+
+impl Model for Marks {
+    ghost use Rattle.replay_audit.specs.Marks.{AreSound, Marked};
+
+    ghost Value = { Marked };
+
+    ghost view = { λ a. record { marks = a.marks.items; crowds = a.crowds.items } };
+
+    ghost invariant = { λ a. AreSound (record { marks = a.marks.items; crowds = a.crowds.items }) };
+}
+
+impl Marks {
+    /// No access yet, to any of so many words.
+    pub fn new(alloc: Global, words: u32) -> Result<Marks, AllocError>
+        ensures marks { IfOk result (λ marks. marks.marks ≡ replicate words first_mark) }
+        ensures crowds { IfOk result (λ marks. marks.crowds ≡ []) }
+    {
+        let mut marks = Vec::with_capacity(alloc, words as usize)?;
+        for word in 0..words {
+            marks.push(Mark::first())?;
+        }
+        Ok(Marks {
+            marks,
+            crowds: Vec::new(alloc),
+        })
+    }
+
+    /// Whether the clock covers the last write of the access's word and, where the access writes, the reads
+    /// since.
+    #[inline(always)]
+    pub fn are_covered(&self, access: &Access, clock: &ClockOf) -> bool
+        ensures { IsTrue result → AreMarksCovered self.now access.now clock.now }
+    {
+        match self.marks.get(access.word as usize) {
+            Some(mark) => {
+                clock.covers(mark.write)
+                    && (!access.kind.is_write() || self.are_reads_covered(mark, clock))
+            }
+            None => false,
+        }
+    }
+
+    /// Marks an access, whose clock this is.
+    #[inline(always)]
+    pub fn note(&mut self, access: &Access, clock: &ClockOf) -> Result<(), AllocError>
+        requires { access.now.at.core < CORES_MAX }
+        ensures { OnOk result (IsMarked self.old access.now clock.now self.new) }
+    {
+        let word = access.word as usize;
+        if word >= self.marks.len() {
+            return Ok(());
+        }
+        if access.kind.is_write() {
+            self.write(word, access.at);
+            return Ok(());
+        }
+        self.read(word, access.at, clock)
+    }
+
+    /// Whether the clock covers the reads of a mark.
+    #[inline(always)]
+    fn are_reads_covered(&self, mark: &Mark, clock: &ClockOf) -> bool
+        requires { IsMark self.now.crowds mark.now }
+        ensures { IsTrue result → (x : SomeInstr) → x.core < CORES_MAX → HasRead self.now.crowds mark.now x →
+            x.count ≤ slice_index clock.now x.core }
+    {
+        match mark.reads {
+            Reads::Unread => true,
+            Reads::One { at } => clock.covers(at),
+            Reads::Crowd => is_crowd_covered(&self.crowds[mark.crowd - 1], clock),
+        }
+    }
+
+    /// Marks a write: it forgets the reads before it.
+    #[inline(always)]
+    fn write(&mut self, word: usize, at: Instr)
+        requires word { word < length self.old.marks }
+        requires core { at.core < CORES_MAX }
+        ensures elsewhere { IsElsewhere self.old word self.new }
+        ensures write { (mark_at self.new word).write ≡ at }
+    {
+        let crowd = self.marks[word].crowd;
+        self.marks[word] = Mark {
+            write: at,
+            reads: Reads::Unread,
+            crowd,
+        };
+    }
+
+    /// Marks a read, whose clock this is. It takes the place of one that its clock covers.
+    #[inline(always)]
+    fn read(&mut self, word: usize, at: Instr, clock: &ClockOf) -> Result<(), AllocError>
+        requires word { word < length self.old.marks }
+        requires core { at.core < CORES_MAX }
+        ensures elsewhere { OnOk result (IsElsewhere self.old word self.new) }
+        ensures read { OnOk result (IsReadNext self.old word at clock.now self.new) }
+    {
+        match self.marks[word].reads {
+            Reads::Unread => self.replace(word, at),
+            Reads::One { at: one } => {
+                if !clock.covers(one) {
+                    return self.gather(word, one, at);
+                }
+                self.replace(word, at);
+            }
+            Reads::Crowd => self.join(word, at),
+        }
+        Ok(())
+    }
+
+    /// Has this as the one read.
+    #[inline(always)]
+    fn replace(&mut self, word: usize, at: Instr)
+        requires word { word < length self.old.marks }
+        requires core { at.core < CORES_MAX }
+        ensures elsewhere { IsElsewhere self.old word self.new }
+        ensures write { (mark_at self.new word).write ≡ (mark_at self.old word).write }
+        ensures read { IsReader self.new word at }
+    {
+        let Mark {
+            write,
+            reads: _reads,
+            crowd,
+        } = self.marks[word];
+        self.marks[word] = Mark {
+            write,
+            reads: Reads::One { at },
+            crowd,
+        };
+    }
+
+    /// Has two reads in the word's crowd.
+    #[inline(never)]
+    fn gather(&mut self, word: usize, one: Instr, at: Instr) -> Result<(), AllocError>
+        requires word { word < length self.old.marks }
+        requires core { (one.core < CORES_MAX) × (at.core < CORES_MAX) }
+        ensures elsewhere { OnOk result (IsElsewhere self.old word self.new) }
+        ensures write { OnOk result ((mark_at self.new word).write ≡ (mark_at self.old word).write) }
+        ensures reads { OnOk result (IsReader self.new word one × IsReader self.new word at) }
+    {
+        let mut reads = Clock::zero();
+        raise(&mut reads, one);
+        raise(&mut reads, at);
+        self.set_crowd(word, reads)
+    }
+
+    /// Has these counts as the word's crowd.
+    fn set_crowd(&mut self, word: usize, reads: Clock) -> Result<(), AllocError>
+        requires { word < length self.old.marks }
+        ensures elsewhere { OnOk result (IsElsewhere self.old word self.new) }
+        ensures write { OnOk result ((mark_at self.new word).write ≡ (mark_at self.old word).write) }
+        ensures crowd { OnOk result ((mark_at self.new word).reads ≡ Crowd) }
+        ensures reads { OnOk result (crowd_of self.new.crowds (mark_at self.new word) ≡ reads) }
+    {
+        let Mark {
+            write,
+            reads: _reads,
+            crowd,
+        } = self.marks[word];
+        if crowd > 0 {
+            self.crowds[crowd - 1] = reads;
+            self.marks[word] = Mark {
+                write,
+                reads: Reads::Crowd,
+                crowd,
+            };
+            return Ok(());
+        }
+        self.crowds.push(reads)?;
+        self.marks[word] = Mark {
+            write,
+            reads: Reads::Crowd,
+            crowd: self.crowds.len(),
+        };
+        Ok(())
+    }
+
+    /// Has one read more in the word's crowd.
+    #[inline(never)]
+    fn join(&mut self, word: usize, at: Instr)
+        requires word { word < length self.old.marks }
+        requires core { at.core < CORES_MAX }
+        requires crowd { (mark_at self.old word).reads ≡ Crowd }
+        ensures elsewhere { IsElsewhere self.old word self.new }
+        ensures write { (mark_at self.new word).write ≡ (mark_at self.old word).write }
+        ensures read { IsReader self.new word at }
+        ensures reads { (x : SomeInstr) → IsReader self.old word x → IsReader self.new word x }
+    {
+        let crowd = self.marks[word].crowd - 1;
+        raise(&mut self.crowds[crowd], at);
+    }
 }
 
 impl Mark {
@@ -31,86 +238,31 @@ impl Mark {
     {
         Mark {
             write: Instr { core: 0, count: 0 },
-            reads: Clock::zero(),
-            readers: 0,
-        }
-    }
-
-    /// Whether the clock covers the last read of each core.
-    fn are_reads_covered(&self, clock: &ClockOf) -> bool
-        requires readers { self.now.readers ≤ CORES_MAX }
-        requires past { (i : ℕ) → self.now.readers ≤ i → slice_index self.now.reads i ≡ 0 }
-        ensures { IsTrue result → (i : ℕ) → i < CORES_MAX → slice_index self.now.reads i ≤ slice_index clock.now i }
-    {
-        for core in 0..self.readers {
-            if self.reads.get(core) > clock.get(core) {
-                return false;
-            }
-        }
-        true
-    }
-
-    /// Notes an access more.
-    fn note(&mut self, access: &Access)
-        requires { access.now.at.core < CORES_MAX }
-        ensures { self.new ≡ next_mark self.old access.now }
-    {
-        if access.kind.is_write() {
-            self.write = access.at;
-            self.reads = Clock::zero();
-            self.readers = 0;
-        } else {
-            self.reads.set(access.at.core, access.at.count);
-            self.readers = self.readers.max(access.at.core + 1);
+            reads: Reads::Unread,
+            crowd: 0,
         }
     }
 }
 
-impl Model for Marks {
-    ghost use Rattle.std.specs.Prelude.{List};
-    ghost use Rattle.replay_audit.specs.declared.marks.Mark.{Mark};
-
-    ghost Value = { List Mark };
-
-    ghost view = { λ a. a.marks.items };
+/// Whether the clock covers each count of a crowd.
+#[inline(never)]
+fn is_crowd_covered(crowd: &Clock, clock: &ClockOf) -> bool
+    ensures { IsTrue result → (i : ℕ) → i < CORES_MAX → slice_index crowd.now i ≤ slice_index clock.now i }
+{
+    for core in 0..CORES_MAX {
+        if crowd.get(core) > clock.get(core) {
+            return false;
+        }
+    }
+    true
 }
 
-impl Marks {
-    /// No access yet, to any of so many words.
-    pub fn new(alloc: Global, words: u32) -> Result<Marks, AllocError>
-        ensures { IfOk result (λ marks. marks ≡ replicate words first_mark) }
-    {
-        let mut marks = Vec::with_capacity(alloc, words as usize)?;
-        for word in 0..words {
-            marks.push(Mark::first())?;
-        }
-        Ok(Marks { marks })
-    }
-
-    /// Whether the clock covers the last write of the access's word and, where the access writes, the last
-    /// reads since.
-    pub fn are_covered(&self, access: &Access, clock: &ClockOf) -> bool
-        requires { IsMark (mark_at self.now access.now.word) }
-        ensures { IsTrue result → AreMarksCovered self.now access.now clock.now }
-    {
-        match self.marks.get(access.word as usize) {
-            Some(mark) => {
-                clock.covers(mark.write)
-                    && (!access.kind.is_write() || mark.are_reads_covered(clock))
-            }
-            None => false,
-        }
-    }
-
-    /// Marks an access.
-    pub fn note(&mut self, access: &Access)
-        requires { access.now.at.core < CORES_MAX }
-        ensures { self.new
-            ≡ slice_set self.old access.now.word (next_mark (mark_at self.old access.now.word) access.now) }
-    {
-        let word = access.word as usize;
-        if word < self.marks.len() {
-            self.marks[word].note(access);
-        }
-    }
+/// Raises the count at the instruction's core to its own, where that is greater.
+fn raise(crowd: &mut Clock, at: Instr)
+    requires { at.core < CORES_MAX }
+    ensures has { at.count ≤ slice_index crowd.new at.core }
+    ensures keeps { (i : ℕ) → slice_index crowd.old i ≤ slice_index crowd.new i }
+{
+    let count = crowd.get(at.core).max(at.count);
+    crowd.set(at.core, count);
 }

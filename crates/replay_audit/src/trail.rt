@@ -1,13 +1,12 @@
 //! What is kept of the accesses along an order: the clocks by the log, the last accesses of each word, and
 //! the first two accesses that the log leaves unordered.
-ghost use Rattle.std.specs.Prelude.{◌≡◌, ◌<◌, ◌≤◌, ℕ, IfOk, OnOk, IfSome, [], replicate, None as NoneFound};
+ghost use Rattle.std.specs.Prelude.{◌≡◌, ◌<◌, ◌≤◌, IfOk, IsTrue, OnOk, IfSome, [], replicate, None as NoneFound};
 ghost use Rattle.rtr_types.specs.declared.TheConstants.{CORES_MAX};
 ghost use Rattle.rtr_types.specs.declared.access.Access.{Access as SomeAccess};
 ghost use Rattle.conflict_edge.specs.Conflicts.{StandsIn};
 ghost use Rattle.replay_core.specs.Sources.{sources_in};
-ghost use Rattle.replay_audit.specs.Clocks.{CanNote};
-ghost use Rattle.replay_audit.specs.Marks.{IsMark, mark_at, first_mark};
-ghost use Rattle.replay_audit.specs.Trails.{FoundNext, Watches, Trails};
+ghost use Rattle.replay_audit.specs.Clocks.{CanNote, number_of};
+ghost use Rattle.replay_audit.specs.Trails.{FoundNext, IsFirstOpen, Watches, Trails};
 
 use crate::clock_of::ClockOf;
 use crate::log_clocks::LogClocks;
@@ -21,8 +20,10 @@ use std::marker::Model;
 /// How many accesses there is room for beforehand, at most: totals may say anything.
 const ROOM: usize = 1 << 16;
 
-/// What is kept of the instructions and accesses so far.
+/// What is kept of the instructions and accesses so far. Where the accesses aren't listed, two that are
+/// unordered are noticed, but not named.
 pub struct Trail {
+    listed: bool,
     clocks: LogClocks,
     marks: Marks,
     accesses: Items<Access>,
@@ -32,6 +33,7 @@ pub struct Trail {
 impl Drop for Trail {
     fn drop(self) {
         let Trail {
+            listed: _listed,
             clocks: _clocks,
             marks: _marks,
             accesses: _accesses,
@@ -45,39 +47,54 @@ impl Model for Trail {
 
     ghost Value = { Trailed };
 
-    ghost view = { λ a. record { kept = a.clocks; marks = a.marks; accesses = a.accesses; found = a.found } };
+    ghost view = { λ a. record {
+      listed = a.listed;
+      kept = a.clocks;
+      marks = a.marks;
+      accesses = a.accesses;
+      found = a.found;
+    } };
 }
 
 impl Trail {
-    /// No instruction yet, with room for as many as the cores' totals say.
-    pub fn new(alloc: Global, cores: u8, words: u32, totals: &[u32]) -> Result<Trail, AllocError>
-        ensures numbers { IfOk result (λ trail. trail.kept.numbers ≡ replicate cores []) }
+    /// No instruction yet. Where accesses are listed, there is room for as many as the cores' totals say.
+    pub fn new(
+        alloc: Global,
+        cores: u8,
+        words: u32,
+        totals: &[u32],
+        listed: bool,
+    ) -> Result<Trail, AllocError>
+        ensures listed { IfOk result (λ trail. trail.listed ≡ listed) }
         ensures clocks { IfOk result (λ trail. trail.kept.clocks ≡ replicate cores []) }
-        ensures marks { IfOk result (λ trail. trail.marks ≡ replicate words first_mark) }
         ensures accesses { IfOk result (λ trail. trail.accesses ≡ []) }
         ensures found { IfOk result (λ trail. trail.found ≡ NoneFound) }
     {
+        let room = if listed { room_for(totals) } else { 0 };
         Ok(Trail {
+            listed,
             clocks: LogClocks::new(alloc, cores, totals)?,
             marks: Marks::new(alloc, words)?,
-            accesses: Items::from_vec(Vec::with_capacity(alloc, room_for(totals))?),
+            accesses: Items::from_vec(Vec::with_capacity(alloc, room)?),
             found: None,
         })
     }
 
-    /// No access yet, with the clocks of instructions that were noted before, and room as above.
+    /// No access yet, with the clocks of instructions that were noted before, and room for accesses as above:
+    /// they are listed.
     pub fn along(
         alloc: Global,
         words: u32,
         totals: &[u32],
         clocks: LogClocks,
     ) -> Result<Trail, AllocError>
+        ensures listed { IfOk result (λ trail. IsTrue trail.listed) }
         ensures kept { IfOk result (λ trail. trail.kept ≡ clocks) }
-        ensures marks { IfOk result (λ trail. trail.marks ≡ replicate words first_mark) }
         ensures accesses { IfOk result (λ trail. trail.accesses ≡ []) }
         ensures found { IfOk result (λ trail. trail.found ≡ NoneFound) }
     {
         Ok(Trail {
+            listed: true,
             clocks,
             marks: Marks::new(alloc, words)?,
             accesses: Items::from_vec(Vec::with_capacity(alloc, room_for(totals))?),
@@ -95,14 +112,17 @@ impl Trail {
     ) -> Result<(), AllocError>
         requires next { CanNote self.old.kept next.now.at }
         requires few { cores ≤ CORES_MAX }
-        requires access { IfSome access (λ a. a.at.core < CORES_MAX) }
-        requires each { (b : SomeAccess) → StandsIn self.old.accesses b → b.at.core < CORES_MAX }
-        requires marked { (w : ℕ) → IsMark (mark_at self.old.marks w) }
+        requires access { IfSome access (λ a. a.at ≡ next.now.at) }
+        requires each { IsTrue self.old.listed → (b : SomeAccess) → StandsIn self.old.accesses b →
+            b.at.core < CORES_MAX }
         ensures { OnOk result (Trails self.old next.now.at (sources_in next.now.sources.now) cores access self.new) }
     {
         self.clocks.note(next, cores)?;
         match access {
-            Some(access) => self.watch(access),
+            Some(access) => {
+                let number = self.clocks.all(access.at.core);
+                self.watch_by(access, number)
+            }
             None => Ok(()),
         }
     }
@@ -120,6 +140,7 @@ impl Trail {
         ensures clocks { result.1 ≡ self.kept }
     {
         let Trail {
+            listed: _listed,
             clocks,
             marks: _marks,
             accesses,
@@ -128,40 +149,58 @@ impl Trail {
         (accesses, clocks)
     }
 
-    /// Looks at an access, whose instruction was noted, and keeps it.
+    /// Looks at an access, whose instruction was noted, and keeps it. How many clocks are kept of its core up
+    /// to it is looked for from a guess on, which becomes what was found.
     #[inline(always)]
-    pub fn watch(&mut self, access: Access) -> Result<(), AllocError>
+    pub fn watch(&mut self, access: Access, guess: &mut usize) -> Result<(), AllocError>
         requires core { access.at.core < CORES_MAX }
-        requires each { (b : SomeAccess) → StandsIn self.old.accesses b → b.at.core < CORES_MAX }
-        requires marked { IsMark (mark_at self.old.marks access.word) }
+        requires each { IsTrue self.old.listed → (b : SomeAccess) → StandsIn self.old.accesses b →
+            b.at.core < CORES_MAX }
         ensures { OnOk result (Watches self.old access self.new) }
     {
-        let clock = self.clocks.of(access.at);
+        let number = self.clocks.number(access.at, *guess);
+        *guess = number;
+        self.watch_by(access, number)
+    }
+
+    /// Looks at an access, up to whose instruction so many clocks of its core are kept, and keeps it.
+    #[inline(always)]
+    fn watch_by(&mut self, access: Access, number: usize) -> Result<(), AllocError>
+        requires core { access.at.core < CORES_MAX }
+        requires number { number ≡ number_of self.old.kept access.at.core access.at.count }
+        requires each { IsTrue self.old.listed → (b : SomeAccess) → StandsIn self.old.accesses b →
+            b.at.core < CORES_MAX }
+        ensures { OnOk result (Watches self.old access self.new) }
+    {
+        let clock = self.clocks.by_number(access.at, number);
         self.found = find(
             self.found,
             &self.marks,
+            self.listed,
             self.accesses.as_slice(),
             &access,
             &clock,
         );
-        self.marks.note(&access);
-        self.accesses.push(access)?;
+        self.marks.note(&access, &clock)?;
+        if self.listed {
+            self.accesses.push(access)?;
+        }
         Ok(())
     }
 }
 
-/// The first two accesses that are unordered, with one access more: the first that were found stay. All
-/// accesses are gone over only where the marks leave one of them open, and so once along an order.
+/// The first two accesses that are unordered, with one access more: the first that were found stay.
+#[inline(always)]
 fn find(
     found: Option<Unordered>,
     marks: &Marks,
+    listed: bool,
     accesses: &[Access],
     access: &Access,
     clock: &ClockOf,
 ) -> Option<Unordered>
-    requires each { (b : SomeAccess) → StandsIn accesses.now b → b.at.core < CORES_MAX }
-    requires marked { IsMark (mark_at marks.now access.now.word) }
-    ensures { FoundNext found marks.now accesses.now access.now clock.now result }
+    requires { IsTrue listed → (b : SomeAccess) → StandsIn accesses.now b → b.at.core < CORES_MAX }
+    ensures { FoundNext listed found marks.now accesses.now access.now clock.now result }
 {
     match found {
         Some(pair) => Some(pair),
@@ -169,16 +208,35 @@ fn find(
             if marks.are_covered(access, clock) {
                 return None;
             }
-            match latest_open(accesses, access, &clock.to_clock()) {
-                Some(first) => {
-                    Some(Unordered {
-                        first,
-                        second: access.at,
-                    })
-                }
-                None => None,
-            }
+            first_open(listed, accesses, access, clock)
         }
+    }
+}
+
+/// The access, which the marks leave open, with the latest of those before it that is open, if one is. Where
+/// the accesses aren't listed, the access itself stands in its place. The list is gone over once along an
+/// order.
+#[cold]
+#[inline(never)]
+fn first_open(
+    listed: bool,
+    accesses: &[Access],
+    access: &Access,
+    clock: &ClockOf,
+) -> Option<Unordered>
+    requires { IsTrue listed → (b : SomeAccess) → StandsIn accesses.now b → b.at.core < CORES_MAX }
+    ensures { IsFirstOpen listed accesses.now access.now clock.now result }
+{
+    let second = access.at;
+    if !listed {
+        return Some(Unordered {
+            first: second,
+            second,
+        });
+    }
+    match latest_open(accesses, access, &clock.to_clock()) {
+        Some(first) => Some(Unordered { first, second }),
+        None => None,
     }
 }
 

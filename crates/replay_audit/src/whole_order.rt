@@ -8,17 +8,14 @@ ghost use Rattle.replay_audit.specs.Touches.{ArePlayed};
 ghost use Rattle.replay_audit.specs.Walks.{IsLowWalk};
 
 use crate::judgement::access_at;
-use crate::log_clocks::LogClocks;
+use crate::log_clocks::{LogClocks, PLACES};
 use crate::touch::Touch;
 use crate::trail::Trail;
 use race_log::Recording;
 use replay_core::LowOrder;
-use rtr_types::{CORES_MAX, Instr, Items, Which};
+use rtr_types::{Instr, Items, Which};
 use std::alloc::{AllocError, Global};
 use std::marker::Model;
-
-/// A place for each core, as the length of an array.
-const PLACES: usize = CORES_MAX as usize;
 
 /// The low order of a recording's log, which is whole, and the clocks of its instructions by the log. It is
 /// walked once; then the accesses of a play can be judged along it.
@@ -86,12 +83,13 @@ impl<'a> WholeOrder<'a> {
         let mut trail = Trail::along(alloc, words, recording.totals.as_slice(), clocks)?;
         let mut counts = [0; PLACES];
         let mut places = [0; PLACES];
+        let mut guesses = [0; PLACES];
         for &core in order.as_slice() {
             let count = counts[core as usize] + 1;
             counts[core as usize] = count;
             let at = Instr { core, count };
             if let Some(access) = access_at(touched, at, &mut places[core as usize]) {
-                trail.watch(access)?;
+                trail.watch(access, &mut guesses[core as usize])?;
             }
         }
         match trail.unordered() {

@@ -108,6 +108,7 @@ impl<'a> Replay<'a> {
 
     /// One place of the play: the core, which is ready, retires its next instruction, unless its program
     /// is done.
+    #[inline(always)]
     pub fn advance(&mut self, core: u8) -> Advanced
         requires ready { is_ready self.old.plan (counts_in self.old.state) core ≡ true }
         requires room { IsTrue self.old.roomy }

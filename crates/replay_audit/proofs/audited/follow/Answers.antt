@@ -1,10 +1,13 @@
 -- Place by place: the trail so far is that of the low order's front, and a core that is ready goes on; where none is,
 -- the front is all that there is.
-use Rattle.std.proofs.Common.{◌++◌, ◌∷◌, [], ◌∙◌, ap, length, refl, sym}
+use Rattle.std.proofs.Common.{◌++◌, ◌∷◌, [], ◌∙◌, ap, length, refl, subst, sym}
+use Rattle.std.specs.Prelude.{IsTrue}
 use Rattle.replay_core.specs.Plans.{Plan}
-use Rattle.replay_audit.proofs.LowAudit.{along_start, all_told, along_on, in_plan, leaves_open, passes, ready_here}
+use Rattle.replay_audit.proofs.LowAudit.{along_start, all_told, along_on, followed_by, in_plan}
+use Rattle.replay_audit.proofs.LowAudit.{leaves_open, passes, ready_here}
 use Rattle.replay_audit.proofs.LowAudit.{short_here, stuck, told_at}
-use Rattle.replay_audit.proofs.TallyAndTrail.{access_core, each_core, each_marked, noted_next}
+use Rattle.replay_audit.proofs.TallyAndTrail.{each_core, noted_next}
+use Rattle.replay_audit.proofs.TrailSteps.{trails_listed}
 use Rattle.replay_core.proofs.LowCounts.{below_plan, inside_plan, less_to_go}
 use Rattle.replay_audit.proofs.audited.follow.Goals as goal
 
@@ -15,13 +18,12 @@ loop-core-init c =
       along_start _ _ _ _ _ _ c.requires.valid (record {
         plan_is = b.tally_plan;
         counts_is = b.counts;
-        numbers = b.numbers;
         clocks = b.clocks;
-        marks = b.marks;
         accesses = b.accesses;
         found = b.found;
         cores_is = refl;
       }) b.replay_plan b.state,
+      refl,
     )
 
 -- ---- a place more
@@ -70,15 +72,10 @@ note-requires-clause-access c =
     let told = told_at c.requires.valid c.loop-core.invariant.1 some c.make_room.new.self c.make_room.ensures.plan
     c.make_room.ensures.state
     c.advance.new.self c.advance.ensures.plan c.in-Retired.ensures.place c.next-next.ensures.at in
-    all_told c.in-Retired.access
-    (access_core c.requires.valid c.loop-core.invariant.1.followed some c.next-next.ensures.at c.in-Retired.access
-    told)
+    all_told c.in-Retired.access told
 
 pub note-requires-clause-each : goal.note-requires-clause-each
 note-requires-clause-each c = each_core c.requires.valid c.loop-core.invariant.1.followed
-
-pub note-requires-clause-marked : goal.note-requires-clause-marked
-note-requires-clause-marked c = each_marked c.requires.valid c.loop-core.invariant.1.followed
 
 pub loop-core-smaller : goal.loop-core-smaller
 loop-core-smaller c =
@@ -96,6 +93,7 @@ loop-core-preserved c =
           c.advance.ensures.plan
           c.in-Retired.ensures.place next.at _ _ _ _ more.plan more.counts next.sources
           (c.cores.ensures.all ∙ ap (λ (q : Plan). length q.totals) (sym more.plan)) c.in_ok-note-in-Retired.ensures,
+      trails_listed c.in_ok-note-in-Retired.ensures ∙ i.2,
     )
 
 -- ---- the end
@@ -106,13 +104,14 @@ returns-then-not-whole c =
     (λ full. let is_whole = c.whole.ensures.1 full in let is_not = c.if-not-whole.true in cc) c.cut.ensures
 
 pub returns-in-Some-unordered : goal.returns-in-Some-unordered
-returns-in-Some-unordered c =
+returns-in-Some-unordered c listed =
     leaves_open c.requires.valid c.loop-core.invariant.1 (sym c.lowest.ensures ∙ c.in_default.is)
     (c.whole.ensures.0 c.if-not-whole.false)
-    c.unordered.ensures c.in-Some-unordered.is
+    c.unordered.ensures c.in-Some-unordered.is (subst IsTrue (sym c.loop-core.invariant.2) listed)
 
 pub returns : goal.returns
 returns c =
-    passes c.requires.valid c.loop-core.invariant.1 (sym c.lowest.ensures ∙ c.in_default.is)
+    followed_by c.loop-core.invariant.2
+    (passes c.requires.valid c.loop-core.invariant.1 (sym c.lowest.ensures ∙ c.in_default.is)
     (c.whole.ensures.0 c.if-not-whole.false)
-    _ _ _ c.unordered.ensures c.in_default-unordered.is refl refl refl
+    _ _ _ c.unordered.ensures c.in_default-unordered.is refl refl refl)

@@ -1,6 +1,6 @@
 -- Along the whole order: the trail so far is that of the order's front. Where no access met one that the log leaves
 -- apart, each two that conflict are ordered by the log.
-use Rattle.std.proofs.Common.{◌≡◌, ◌+◌, ◌<◌, ◌∙◌, ℕ, List, Some, arith, replicate, take, length-set}
+use Rattle.std.proofs.Common.{◌≡◌, ◌+◌, ◌<◌, ◌∙◌, ℕ, List, Some, arith, length, replicate, take, length-set}
 use Rattle.std.proofs.Common.{get_or, refl, sym, ap, subst}
 use Rattle.std.specs.Prelude.{slice_index}
 use Rattle.std.proofs.lemmas.List.{take_all}
@@ -8,10 +8,9 @@ use Rattle.rtr_types.specs.declared.TheConstants.{CORES_MAX}
 use Rattle.rtr_types.proofs.Ranges.{zero_at}
 use Rattle.replay_core.specs.Orders.{counts, nought}
 use Rattle.replay_audit.specs.Clocks.{Kept}
-use Rattle.replay_audit.specs.Marks.{first_mark}
 use Rattle.replay_audit.specs.Trails.{Trailed}
 use Rattle.replay_audit.specs.Walks.{Walked, IsWalk}
-use Rattle.replay_audit.proofs.LowJudgement.{IsFoundAt, Judged, access_place, counted_next, each_marked, few_place}
+use Rattle.replay_audit.proofs.LowJudgement.{IsFoundAt, Judged, access_place, counted_next, few_place}
 use Rattle.replay_audit.proofs.LowJudgement.{judged_none, judged_some, judged_start, placed_next, places_start}
 use Rattle.replay_audit.proofs.LowJudgement.{ready_place, touched_place, verdict, walk_there}
 use Rattle.replay_audit.proofs.whole_order.WholeOrder.judge.Goals as goal
@@ -33,12 +32,12 @@ loop-core-init c =
     record {
       judged = judged_start w.which w.recording c.args.touched.now order c.in_ok-trail.trail
           (subst (λ (k : Kept). IsWalk w.which w.recording order k) (sym e.kept) walk)
-          (e.marks ∙ ap (λ (x : Walked). replicate x.recording.params.words first_mark) c.self.view_is)
-          e.accesses e.found;
+          e.listed e.accesses e.found;
       counted = λ i. zero_at 16 i;
       placed = places_start w.which w.recording c.args.touched.now (replicate 16 0) c.requires (λ i. zero_at 16 i);
       all_counts = refl;
       all_places = refl;
+      all_guesses = refl;
     }
 
 pub bounds-counts-core : goal.bounds-counts-core
@@ -86,11 +85,6 @@ watch-requires-clause-core c =
     record { found = c.in-Some.ensures.found; only = c.in-Some.ensures.only } in
     access_place c.requires walk k c.loop-core.invariant.judged c.loop-core-test.true 0 refl n_is found
 
-pub watch-requires-clause-marked : goal.watch-requires-clause-marked
-watch-requires-clause-marked c =
-    let walk = is_walk (goal.at.watch-requires-clause-marked c).After-as_slice-core-items in
-    each_marked c.requires walk c.loop-core.core-index c.loop-core.invariant.judged c.in-Some.access.word
-
 pub loop-core-preserved : goal.loop-core-preserved
 loop-core-preserved c =
     let order : List ℕ = c.as_slice-core-items.result.now in
@@ -120,6 +114,11 @@ loop-core-preserved c =
           i.all_places i.placed c.access_at.ensures.place;
       all_counts = length-set c.loop-core.counts core n ∙ i.all_counts;
       all_places = length-set c.loop-core.places core _ ∙ i.all_places;
+      all_guesses = elim c.match-access_at.branch [
+        | in-Some+in_ok-watch b ↦ ap (λ (l : List ℕ). length l) b.guesses-is ∙ length-set c.loop-core.guesses core _
+            ∙ i.all_guesses
+        | in_default b ↦ ap (λ (l : List ℕ). length l) b.guesses-is ∙ i.all_guesses
+      ];
     }
 
 pub returns-in-Some-unordered : goal.returns-in-Some-unordered

@@ -16,4 +16,5 @@ invariant-loop-core l = record {
       (slice_index l.places c);
   all_counts : length l.counts ≡ CORES_MAX;
   all_places : length l.places ≡ CORES_MAX;
+  all_guesses : length l.guesses ≡ CORES_MAX;
 }

@@ -9,7 +9,7 @@ pub loop-core-init : goal.loop-core-init
 loop-core-init c = subst (λ (l : List ℕ). Walking c.args.which c.args.recording.now l c.in_ok-tally.tally
     c.in_ok-clocks.clocks) (sym c.new-order.ensures.items)
     (walking_start _ _ _ _ _ c.requires c.in_ok-tally.ensures.plan c.in_ok-tally.ensures.counts c.cores.ensures.all
-    c.in_ok-clocks.ensures.numbers c.in_ok-clocks.ensures.clocks)
+    c.in_ok-clocks.ensures)
 
 pub next-next-requires-clause-inside : goal.next-next-requires-clause-inside
 next-next-requires-clause-inside c =
