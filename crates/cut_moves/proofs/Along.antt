@@ -101,16 +101,16 @@ on_one low high at now c b w out i = elim (ℕ_discrete i c) [
 abbrev IsOn : (low high at : ℕ) → Bool
 IsOn low high at = nat_le low at && nat_lt at high
 
-on_is : (low high at : ℕ) → low ≤ at → at < high → IsOn low high at ≡ true
+pub on_is : (low high at : ℕ) → low ≤ at → at < high → IsOn low high at ≡ true
 on_is low high at le lt =
     let a : nat_le low at ≡ true = grind (arith, nat_tests) in
     let b : nat_lt at high ≡ true = grind (arith, nat_tests) in
     rw (a, b) refl
 
-off_low : (low high at : ℕ) → at < low → IsOn low high at ≡ false
+pub off_low : (low high at : ℕ) → at < low → IsOn low high at ≡ false
 off_low low high at lt = let a : nat_le low at ≡ false = grind (arith, nat_tests) in rw a refl
 
-off_high : (low high at : ℕ) → high ≤ at → IsOn low high at ≡ false
+pub off_high : (low high at : ℕ) → high ≤ at → IsOn low high at ≡ false
 off_high low high at le = let a : nat_lt at high ≡ false = grind (arith, nat_tests) in rw a (and-false (nat_le low at))
 
 abbrev OrderedOn : Plan → (low high at : ℕ → ℕ) → ℕ → List ℕ → Type 0

@@ -6,3 +6,7 @@ pub mod Rounds
 pub mod Along
 pub mod TakenRounds
 pub mod TakenWay
+mod Short
+mod Seating
+mod Seeing
+mod Windowing

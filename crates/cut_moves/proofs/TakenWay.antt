@@ -122,7 +122,7 @@ module _ (which : Which) (r : Recording) (valid : Valid r) (determinate : IsDete
       (way_ordered (plan_of which r) (count_in low) (count_in high) (rounds_of which r)
       (rounds_ordered (plan_of which r)) (λ e has le. closed.sources e.from e.to has le) within)
 
-  in_totals : Within (count_in high) (counts nought (rounds_of which r))
+  pub in_totals : Within (count_in high) (counts nought (rounds_of which r))
   in_totals i = by (cases_lt i r.params.cores)
     where
       by : (i < r.params.cores) ⊎ (r.params.cores ≤ i) → count_in high i ≤ counts nought (rounds_of which r) i

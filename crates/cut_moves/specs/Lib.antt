@@ -2,3 +2,4 @@ pub mod Unions
 pub mod Steps
 pub mod Rounds
 pub mod Ways
+pub mod Seats

@@ -7,18 +7,19 @@ ghost use Rattle.cut_moves.specs.Rounds.{rounds_of};
 ghost use Rattle.cut_moves.specs.Ways.{LeadsTo, way_of};
 
 use crate::by_rounds::places_in;
-use crate::lattice::PLACES;
+use crate::seats::{Timeline, end_of, is_seen, start_of};
 use replay_audit::Audited;
 use rtr_types::{Cut, Items};
 use std::alloc::{AllocError, Global};
 
 /// The way from a cut to a closed cut that contains it: what the higher cut has beyond the lower one, in the
 /// order of the timeline by rounds, one core a place. From the lower cut on the core of each place is ready, so a
-/// replay that stands at the lower cut can play the way, and comes to the higher one.
+/// replay that stands at the lower cut can play the way, and comes to the higher one. Only what stands in the timeline
+/// from the way's first place to its last is looked at.
 pub fn way(
     alloc: Global,
     audited: &Audited,
-    timeline: &[u8],
+    timeline: &Timeline,
     low: &Cut,
     high: &Cut,
 ) -> Result<Items<u8>, AllocError>
@@ -33,14 +34,15 @@ pub fn way(
     // The audit passed, so the timeline is whole.
     let _ = audited.outcome();
     let _ = audited.recording();
-    let mut at = [0; PLACES];
+    let windows = timeline.windows(low, high);
+    let places = timeline.as_slice();
+    let end = end_of(&windows).min(places.len());
     let mut list = Vec::with_capacity(alloc, places_in(high).saturating_sub(places_in(low)))?;
-    for &core in timeline {
-        let place = core as usize;
-        if low.counts[place] <= at[place] && at[place] < high.counts[place] {
+    for number in start_of(&windows).min(end)..end {
+        let core = places[number];
+        if is_seen(&windows, core, number) {
             list.push(core)?;
         }
-        at[place] += 1;
     }
     Ok(Items::from_vec(list))
 }

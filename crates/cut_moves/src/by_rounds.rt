@@ -12,10 +12,8 @@ use replay_core::Tally;
 use rtr_types::{CoreSet, Cut, Items};
 use std::alloc::{AllocError, Global};
 
-/// The timeline by rounds: in each round every core that is ready when the round begins retires one
-/// instruction, lower cores first. Each place of it is a core, one byte a place. It is a whole replay order, and
-/// goes by the log alone.
-pub fn timeline(alloc: Global, audited: &Audited) -> Result<Items<u8>, AllocError>
+/// The places of the timeline by rounds: each of them is a core, one byte a place.
+pub(crate) fn rounds_in(alloc: Global, audited: &Audited) -> Result<Items<u8>, AllocError>
     ensures rounds { IfOk result (λ list. list ≡ rounds_of audited.now.which audited.now.recording) }
     ensures ordered { IfOk result (λ list.
         IsReplayOrder (plan_of audited.now.which audited.now.recording) list) }

@@ -22,8 +22,9 @@ mod by_rounds;
 mod lattice;
 pub mod laws;
 mod moves;
+mod seats;
 
 pub use between::way;
-pub use by_rounds::timeline;
 pub use lattice::{intersection, union};
 pub use moves::{earliest, hull, latest, step, step_back, whole};
+pub use seats::Timeline;

@@ -4,7 +4,7 @@ ghost use Rattle.replay_core.specs.Plans.{plan_of};
 ghost use Rattle.cut_replay.specs.ClosedCuts.{IsClosed};
 
 use crate::recordings::{cut_of, three};
-use cut_moves::{hull, step, timeline, way};
+use cut_moves::{Timeline, hull, step, way};
 use replay_audit::Audited;
 use replay_core::{Advanced, Replay};
 use row_texts::Counts;
@@ -18,7 +18,7 @@ fn rounds(rt: HostRuntime) -> Result<(), Fail> {
     let rounds = [0, 1, 2, 0, 0, 1, 2, 1, 1, 2, 0, 2, 0];
     for which in [Which::Reduced, Which::Regulated] {
         let audited = three(rt.alloc(), which)?;
-        let list = timeline(rt.alloc(), &audited)?;
+        let list = Timeline::by_rounds(rt.alloc(), &audited)?;
         assert!(rt; list.as_slice() == rounds.as_slice());
     }
     Ok(())
@@ -58,8 +58,8 @@ fn walk(
         return Ok(None);
     }
     let to = step(audited, cut, core)?;
-    let places = timeline(alloc, audited)?;
-    let places = way(alloc, audited, places.as_slice(), cut, &to)?;
+    let places = Timeline::by_rounds(alloc, audited)?;
+    let places = way(alloc, audited, &places, cut, &to)?;
     if !retire(replay, places.as_slice())? || replay.cut() != to {
         return Ok(None);
     }

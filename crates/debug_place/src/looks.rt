@@ -8,7 +8,7 @@ ghost use Rattle.debug_place.specs.Walks.{IsWalking};
 use crate::backs::Seen;
 use crate::stops::Stops;
 use crate::walks::{replay_at, take_place};
-use cut_moves::way;
+use cut_moves::{Timeline, way};
 use replay_audit::Audited;
 use replay_core::Replay;
 use rtr_types::Cut;
@@ -18,7 +18,7 @@ use std::alloc::{AllocError, Global};
 pub(crate) fn last_stop<S: Stops>(
     alloc: Global,
     audited: &Audited,
-    timeline: &[u8],
+    timeline: &Timeline,
     stops: &S,
     from: &Cut,
     to: &Cut,

@@ -13,20 +13,21 @@ ghost use Rattle.debug_place.specs.Stops.{GoesOn};
 use crate::looks::last_stop;
 use crate::stops::Stops;
 use crate::walks::{Stopped, go_on, go_until, replay_at};
-use cut_moves::{step, step_back, timeline};
+use cut_moves::{Timeline, step, step_back};
 use replay_audit::Audited;
 use replay_core::Replay;
-use rtr_types::{Cut, Items, Kind};
+use rtr_types::{Cut, Kind};
 use rv_core::Core;
 use std::alloc::{AllocError, Global};
 use std::marker::Model;
 
 /// A place in a recorded run: a cut that is closed under the audit's log, with the state that every replay order has
-/// that comes there. It holds one live replay, and the timeline by rounds.
+/// that comes there. It holds one live replay, and the timeline by rounds, with where each core's instructions stand in
+/// it.
 #[derive(Drop)]
 pub struct Place<'a> {
     audited: &'a Audited,
-    timeline: Items<u8>,
+    timeline: Timeline,
     replay: Replay<'a>,
 }
 
@@ -53,7 +54,7 @@ impl<'a> Place<'a> {
     {
         // The audit passed, so the recording is determinate.
         let _ = audited.outcome();
-        let timeline = timeline(alloc, audited)?;
+        let timeline = Timeline::by_rounds(alloc, audited)?;
         let replay = Replay::new(alloc, audited.recording(), audited.which())?;
         Ok(Place {
             audited,
@@ -119,7 +120,7 @@ impl<'a> Place<'a> {
         ensures ok { OnOk result (cut_at self.new ≡ to.now) }
         ensures err { OnErr result (self.new ≡ self.old) }
     {
-        let replay = replay_at(alloc, self.audited, self.timeline.as_slice(), to)?;
+        let replay = replay_at(alloc, self.audited, &self.timeline, to)?;
         self.replay = replay;
         Ok(())
     }
@@ -136,7 +137,7 @@ impl<'a> Place<'a> {
         go_on(
             alloc,
             self.audited,
-            self.timeline.as_slice(),
+            &self.timeline,
             &mut self.replay,
             &low,
             to,
@@ -172,7 +173,7 @@ impl<'a> Place<'a> {
         go_until(
             alloc,
             self.audited,
-            self.timeline.as_slice(),
+            &self.timeline,
             stops,
             &mut self.replay,
             &low,
@@ -192,7 +193,7 @@ impl<'a> Place<'a> {
         ensures err { OnErr result (self.new ≡ self.old) }
     {
         let here = self.replay.cut();
-        let timeline = self.timeline.as_slice();
+        let timeline = &self.timeline;
         match last_stop(alloc, self.audited, timeline, stops, to, &here)? {
             Some(seen) => {
                 self.seek(alloc, &seen.cut)?;

@@ -11,7 +11,7 @@ ghost use Rattle.debug_place.specs.Places.{IsReplayAt};
 ghost use Rattle.debug_place.specs.Walks.{EndsWalk, HasTaken, IsWalking};
 
 use crate::stops::Stops;
-use cut_moves::way;
+use cut_moves::{Timeline, way};
 use replay_audit::Audited;
 use replay_core::{Advanced, Replay};
 use rtr_types::{CORES_MAX, Cut};
@@ -28,7 +28,7 @@ pub type Stopped = Result<Option<u8>, AllocError>;
 pub(crate) fn replay_at<'a>(
     alloc: Global,
     audited: &'a Audited,
-    timeline: &[u8],
+    timeline: &Timeline,
     to: &Cut,
 ) -> Result<Replay<'a>, AllocError>
     requires timeline { timeline.now ≡ rounds_of audited.now.which audited.now.recording }
@@ -51,7 +51,7 @@ pub(crate) fn replay_at<'a>(
 pub(crate) fn go_on(
     alloc: Global,
     audited: &Audited,
-    timeline: &[u8],
+    timeline: &Timeline,
     replay: &mut Replay,
     low: &Cut,
     high: &Cut,
@@ -113,7 +113,7 @@ pub(crate) fn take_place(
 pub(crate) fn go_until<S: Stops>(
     alloc: Global,
     audited: &Audited,
-    timeline: &[u8],
+    timeline: &Timeline,
     stops: &S,
     replay: &mut Replay,
     low: &Cut,

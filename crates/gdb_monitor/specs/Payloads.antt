@@ -7,6 +7,10 @@ use Rattle.gdb_packets.specs.Replies.{spelled}
 use Rattle.gdb_packets.specs.declared.replies.Reply.TheVariants.{Bytes, Done, Output}
 use Rattle.gdb_monitor.specs.declared.TheConstants.{FRAME_MAX}
 
+-- the most bytes of a text in one payload; `sizes_law` ties the code's constant, which the definitions cite, to it
+abbrev pub frame_max : ℕ
+frame_max = 1000
+
 -- the part of a text with this number: as many bytes as a frame has at most, or what is left
 abbrev pub part_of : List ℕ → ℕ → List ℕ
 part_of text k = take FRAME_MAX (drop (FRAME_MAX * k) text)

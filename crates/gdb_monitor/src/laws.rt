@@ -1,7 +1,19 @@
-//! What is told is determined.
+//! What is told is determined, and in pieces of a size.
+ghost use Rattle.std.specs.Prelude.{◌≡◌, ◌+◌, ◌*◌, ◌≤◌};
+ghost use Rattle.gdb_packets.specs.declared.TheConstants.{PAYLOAD_MAX};
+ghost use Rattle.gdb_monitor.specs.Payloads.{frame_max};
 ghost use Rattle.gdb_monitor.specs.Pcs.{OnePcLaw};
+
+use crate::FRAME_MAX;
 
 /// An instruction of a recording that is determinate by the log has one pc, whichever closed cut is looked at.
 pub fn one_pc()
     ensures { OnePcLaw }
+{}
+
+/// How many bytes of a text one payload has at most, as a number. Two digits for each, behind one letter, are within the
+/// longest payload.
+pub fn sizes_law()
+    ensures frame { FRAME_MAX ≡ frame_max }
+    ensures fits { 1 + 2 * FRAME_MAX ≤ PAYLOAD_MAX }
 {}

@@ -3,7 +3,7 @@ ghost use Rattle.std.specs.Prelude.{◌≡◌, IfOk, OnOk};
 ghost use Rattle.roomy_lists.specs.Lists.{items_in};
 ghost use Rattle.gdb_monitor.specs.Pcs.{ArePcs, IsNoting, pc_in};
 
-use cut_moves::timeline;
+use cut_moves::Timeline;
 use replay_audit::Audited;
 use replay_core::{Advanced, Replay};
 use roomy_lists::RoomyLists;
@@ -37,7 +37,7 @@ fn pcs_of(alloc: Global, audited: &Audited) -> Result<RoomyLists<u32>, AllocErro
 {
     // The audit passed, so the timeline is a whole replay order.
     let _ = audited.outcome();
-    let places = timeline(alloc, audited)?;
+    let places = Timeline::by_rounds(alloc, audited)?;
     let mut replay = Replay::new(alloc, audited.recording(), audited.which())?;
     let mut pcs = RoomyLists::new(alloc, audited.recording().params.cores as usize)?;
     note(audited, &mut replay, &mut pcs, places.as_slice())?;

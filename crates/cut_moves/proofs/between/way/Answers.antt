@@ -1,80 +1,84 @@
--- Along the timeline: the list so far is the way through the places passed, each in its core's order; at the timeline's
--- end it is the whole way.
-use Rattle.std.proofs.Common.{Global, Vec, ℕ, List, [], drop, ◌≡◌, ◌+◌, ◌≤◌, ◌∷◌, ◌∙◌, ap, sym, subst, refl, arith}
-use Rattle.std.proofs.Common.{length}
-use Rattle.std.proofs.lemmas.List.{drop_all}
-use Rattle.std.specs.Prelude.{slice_index_or, slice_set}
-use Rattle.rtr_types.specs.declared.TheConstants.{CORES_MAX}
-use Rattle.replay_core.specs.Orders.{nought, Ordered}
-use Rattle.replay_core.specs.Plans.{Plan, plan_of}
+-- Along the timeline: the list so far, with what the windows have of the places to come, is the way.
+use Rattle.std.proofs.Common.{Global, Vec, length, ◌++◌, ◌+◌, drop, ℕ, List, ◌≡◌}
+use Rattle.std.proofs.Common.{◌∙◌, ◌<◌, ◌≤◌, ap, sym, subst, refl, arith}
 use Rattle.cut_replay.specs.ClosedCuts.{count_in}
 use Rattle.cut_moves.specs.Rounds.{rounds_of}
 use Rattle.cut_moves.specs.Ways.{way_of}
-use Rattle.cut_moves.proofs.TakenWay.{IsGoing, going_above, going_below, going_end, going_on, going_split, going_start}
-use Rattle.cut_moves.proofs.TakenWay.{leading_way, ordered_way, total_small}
-use Rattle.cut_moves.proofs.Rounds.{rounds_ordered}
+use Rattle.rtr_types.specs.declared.TheConstants.{CORES_MAX}
+use Rattle.replay_core.specs.Orders.{counts, nought}
+use Rattle.cut_moves.specs.Seats.{AreWindows}
+use Rattle.cut_moves.specs.declared.seats.Window.{Window}
+use Rattle.cut_moves.proofs.TakenWay.{in_totals, leading_way, ordered_way}
+use Rattle.cut_moves.proofs.Seeing.{past_one, seen_from, seeing_by, seeing_end, seeing_on, seeing_start}
+use Rattle.cut_moves.proofs.between.way.Goals.{then-is_seen+in_ok-push, else-is_seen}
 use Rattle.cut_moves.proofs.between.way.Goals as goal
-use Rattle.cut_moves.proofs.between.way.Goals.{else-low-place, else-low-place-via-then-low-place+else-at-place}
-use Rattle.cut_moves.proofs.between.way.Goals.{else-low-place-via-else-low-place}
-use Rattle.cut_moves.proofs.between.way.Goals.{then-low-place+then-at-place+in_ok-push}
 
-pub loop-core-init : goal.loop-core-init
-loop-core-init c =
+pub windows-windows-requires : goal.windows-windows-requires
+windows-windows-requires c =
     let a = c.args.audited.now in
-    let p : Plan = plan_of a.which a.recording in
-    let timeline = c.args.timeline.now in
-    subst (λ (l : List ℕ). IsGoing p (count_in c.args.low.now) (count_in c.args.high.now) timeline
-    (0 ∷ 0 ∷ 0 ∷ 0 ∷ 0 ∷ 0 ∷ 0 ∷ 0 ∷ 0 ∷ 0 ∷ 0 ∷ 0 ∷ 0 ∷ 0 ∷ 0 ∷ 0 ∷ []) timeline l)
-    (sym c.in_ok-list.ensures.items)
-    (going_start p (count_in c.args.low.now) (count_in c.args.high.now) timeline
-    (subst (λ (l : List ℕ). Ordered p nought l) (sym c.requires.timeline) (rounds_ordered p)))
+    let low = c.args.low.now in
+    let high = c.args.high.now in
+    subst (λ (l : List ℕ). (core : ℕ) → core < CORES_MAX → count_in high core ≤ counts nought l core)
+    (sym c.requires.timeline)
+    (λ core few. in_totals a.which a.recording c.recording.ensures.valid c.outcome.ensures.passed.determinate low high
+    c.requires.within c.requires.closed (way_of (count_in low) (count_in high) (rounds_of a.which a.recording)) refl core)
 
-pub overflow_add-at : goal.overflow_add-at
-overflow_add-at c =
-    let a = c.args.audited.now in
-    let k = c.loop-core.core-index in
-    let core = slice_index_or c.args.timeline.now k 0 in
-    let h = going_split (plan_of a.which a.recording) (count_in c.args.low.now) (count_in c.args.high.now)
-    c.args.timeline.now c.loop-core.at c.loop-core.list.items k c.loop-core-test.true c.loop-core.invariant in
-    let small = total_small a.recording c.recording.ensures.valid core (slice_index_or c.loop-core.at core 0)
-    h.ordered.0.inside h.ordered.0.below in
-    omega arith
+-- windows of the timeline are those of its places
+turned : (low high : ℕ → ℕ) (windows : List Window) (places timeline : List ℕ) → places ≡ timeline →
+    AreWindows timeline low high windows → AreWindows places low high windows
+turned low high windows places timeline is h = subst (λ (l : List ℕ). AreWindows l low high windows) (sym is) h
 
-pub loop-core-preserved : goal.loop-core-preserved
-loop-core-preserved c =
-    let a = c.args.audited.now in
-    let p : Plan = plan_of a.which a.recording in
+pub loop-number-init : goal.loop-number-init
+loop-number-init c =
     let low : ℕ → ℕ = count_in c.args.low.now in
     let high : ℕ → ℕ = count_in c.args.high.now in
-    let timeline = c.args.timeline.now in
-    let at = c.loop-core.at in
-    let list = c.loop-core.list.items in
-    let k = c.loop-core.core-index in
-    let core = slice_index_or timeline k 0 in
-    let rest = drop (k + 1) timeline in
-    let h = going_split p low high timeline at list k c.loop-core-test.true c.loop-core.invariant in
-    let valid = c.recording.ensures.valid in
-    let few : length a.recording.totals ≤ CORES_MAX = let e = valid.each_core in let m = valid.params.cores in
-    omega arith in
-    let new = slice_set at core (slice_index_or at core 0 + 1) in
-    elim c.if-low-place.branch [
-      | then-low-place+then-at-place+in_ok-push w ↦
-          subst (λ (l : List ℕ). IsGoing p low high timeline new rest l)
+    let places = c.as_slice-places.result.now in
+    let first = c.min-number.result in
+    subst (λ (l : List ℕ). l ++ seen_from c.windows-windows.result first (drop first places) ≡ way_of low high places)
+    (sym c.in_ok-list.ensures.items)
+    (seeing_start places low high c.windows-windows.result (turned low high c.windows-windows.result places c.args.timeline.now c.as_slice-places.ensures
+    c.windows-windows.ensures) c.start_of.result c.end_of.result
+    c.start_of.ensures c.end_of.ensures first (let m = c.min-number.ensures in omega arith))
+
+pub loop-number-preserved : goal.loop-number-preserved
+loop-number-preserved c =
+    let low : ℕ → ℕ = count_in c.args.low.now in
+    let high : ℕ → ℕ = count_in c.args.high.now in
+    let places = c.as_slice-places.result.now in
+    let n = c.loop-number.number in
+    let rest = drop (n + 1) places in
+    let seen = c.windows-windows.result in
+    let inside : n < length places =
+    let m = c.min-end.ensures in let lt = c.loop-number-test.true in omega arith in
+    elim c.if-is_seen.branch [
+      | then-is_seen+in_ok-push w ↦
+          subst (λ (l : List ℕ). l ++ seen_from seen (n + 1) rest ≡ way_of low high places)
           (sym (ap (λ (v : Vec ℕ Global). v.items) w.list-is ∙ w.in_ok-push.ensures.items))
-          (going_on p low high timeline at core rest list h few new refl (let t = w.if-low-place.true in omega arith)
-          (let t = w.if-at-place.true in omega arith))
-      | else-low-place w ↦
-          subst (λ (l : List ℕ). IsGoing p low high timeline new rest l)
+          (seeing_on places low high seen (turned low high c.windows-windows.result places c.args.timeline.now c.as_slice-places.ensures
+          c.windows-windows.ensures) n c.loop-number.list.items inside
+          (sym c.is_seen.ensures ∙ w.if-is_seen.true) c.loop-number.invariant)
+      | else-is_seen w ↦
+          subst (λ (l : List ℕ). l ++ seen_from seen (n + 1) rest ≡ way_of low high places)
           (sym (ap (λ (v : Vec ℕ Global). v.items) w.list-is))
-          (elim w.else-low-place.branch [
-            | else-low-place-via-then-low-place+else-at-place v ↦
-                going_above p low high timeline at core rest list h few new refl
-                (let t = v.if-at-place.false in omega arith)
-            | else-low-place-via-else-low-place v ↦
-                going_below p low high timeline at core rest list h few new refl
-                (let t = v.if-low-place.false in omega arith)
-          ])
+          (seeing_by places low high seen (turned low high c.windows-windows.result places c.args.timeline.now c.as_slice-places.ensures
+          c.windows-windows.ensures) n c.loop-number.list.items inside
+          (sym c.is_seen.ensures ∙ w.if-is_seen.false) c.loop-number.invariant)
     ]
+
+-- the list that was taken is the way
+all : (c : goal.After-from_vec) → c.loop-number.list.items
+    ≡ way_of (count_in c.args.low.now) (count_in c.args.high.now) c.args.timeline.now
+all c =
+    let low : ℕ → ℕ = count_in c.args.low.now in
+    let high : ℕ → ℕ = count_in c.args.high.now in
+    let places = c.as_slice-places.result.now in
+    let past = c.loop-number-test.false in
+    seeing_end places low high c.windows-windows.result (turned low high c.windows-windows.result places c.args.timeline.now c.as_slice-places.ensures
+    c.windows-windows.ensures) c.start_of.result c.end_of.result
+    c.start_of.ensures c.end_of.ensures c.loop-number.number c.loop-number.list.items
+    (past_one c.end_of.result (length places) c.loop-number.number (let m = c.min-end.ensures in omega arith))
+    c.loop-number.invariant
+    ∙ ap (λ (l : List ℕ). way_of low high l) c.as_slice-places.ensures
 
 -- the list is the way
 made : (c : goal.After-from_vec) → c.from_vec.result ≡
@@ -82,16 +86,13 @@ made : (c : goal.After-from_vec) → c.from_vec.result ≡
     (rounds_of c.args.audited.now.which c.args.audited.now.recording)
 made c =
     let a = c.args.audited.now in
-    let p : Plan = plan_of a.which a.recording in
     let low : ℕ → ℕ = count_in c.args.low.now in
     let high : ℕ → ℕ = count_in c.args.high.now in
     let timeline = c.args.timeline.now in
-    let end = c.loop-core-test.false in
-    c.from_vec.ensures
-    ∙ going_end p low high timeline c.loop-core.at c.loop-core.list.items
-    (subst (λ (l : List ℕ). IsGoing p low high timeline c.loop-core.at l c.loop-core.list.items)
-    (drop_all c.loop-core.core-index timeline (omega arith)) c.loop-core.invariant)
-    ∙ ap (λ (l : List ℕ). way_of low high l) c.requires.timeline
+    c.from_vec.ensures ∙ all c ∙ ap (λ (l : List ℕ). way_of low high l) c.requires.timeline
+
+pub returns-clause-way : goal.returns-clause-way
+returns-clause-way c = c.from_vec.ensures ∙ all c
 
 pub returns-clause-ordered : goal.returns-clause-ordered
 returns-clause-ordered c =

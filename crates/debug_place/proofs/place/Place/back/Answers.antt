@@ -1,4 +1,4 @@
-use Rattle.std.proofs.Common.{length, sym, ap, subst, ◌∙◌}
+use Rattle.std.proofs.Common.{refl, length, sym, ap, subst, ◌∙◌}
 use Rattle.std.specs.Prelude.{Some, None}
 use Rattle.rtr_types.specs.declared.cut.Cut.{Cut}
 use Rattle.race_log.specs.Validity.{Valid}
@@ -26,9 +26,9 @@ returns-in_ok-seek-in-Some-clause-ok g c =
     let test = g.S.Stops.stops c.args.stops.now in
     let old = c.args.self.now in
     let to = c.args.to.now in
-    let here = notes_here test a.which a.recording old to c.cut-here.result c.as_slice-timeline.result.now
+    let here = notes_here test a.which a.recording old to c.cut-here.result c.self.inside.timeline
     c.self.inside.timeline c.self.inside.replay c.self.invariant c.self.view_is c.cut-here.ensures
-    c.as_slice-timeline.ensures (Some c.in-Some.seen) _ c.in-Some.is c.in_ok-seen.ensures in
+    refl (Some c.in-Some.seen) _ c.in-Some.is c.in_ok-seen.ensures in
     record {
       there = here.there;
       state = here.state;
@@ -43,6 +43,6 @@ pub returns-in_ok-seek-in-None-clause-ok : goal.returns-in_ok-seek-in-None-claus
 returns-in_ok-seek-in-None-clause-ok g c =
     let a = c.self.inside.audited.now in
     let here = notes_here (g.S.Stops.stops c.args.stops.now) a.which a.recording c.args.self.now c.args.to.now
-    c.cut-here.result c.as_slice-timeline.result.now c.self.inside.timeline c.self.inside.replay c.self.invariant
-    c.self.view_is c.cut-here.ensures c.as_slice-timeline.ensures None _ c.in-None.is c.in_ok-seen.ensures in
+    c.cut-here.result c.self.inside.timeline c.self.inside.timeline c.self.inside.replay c.self.invariant
+    c.self.view_is c.cut-here.ensures refl None _ c.in-None.is c.in_ok-seen.ensures in
     record { there = here.there; state = here.state; ends = (here.notes, c.in_ok-seek-in-None.ensures.ok) }

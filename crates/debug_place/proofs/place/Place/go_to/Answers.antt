@@ -46,10 +46,10 @@ returns-clause-ok g c =
     let cut : Cut = cut_of (plan_of a.which a.recording) (counts_in old.state) in
     let places : List ℕ = way_of (count_in cut) (count_in to) (rounds_of a.which a.recording) in
     let low_is : c.cut-low.result ≡ cut = told_own c.self.invariant.at c.cut-low.ensures in
-    let way_is : way_of (count_in c.cut-low.result) (count_in to) c.as_slice.result.now ≡ places =
-    ap (λ (k : Cut). way_of (count_in k) (count_in to) c.as_slice.result.now) low_is
+    let way_is : way_of (count_in c.cut-low.result) (count_in to) c.self.inside.timeline ≡ places =
+    ap (λ (k : Cut). way_of (count_in k) (count_in to) c.self.inside.timeline) low_is
     ∙ ap (λ (line : List ℕ). way_of (count_in cut) (count_in to) line)
-    (c.as_slice.ensures ∙ c.self.invariant.timeline_is) in
+    c.self.invariant.timeline_is in
     let after : Placed = record { recording = a.recording; which = a.which; state = new.state } in
     subst (λ (place : Placed). IfOk c.go_until.result (GoesOn test place to after)) c.self.view_is
     (walk_wanted test a.which a.recording to old new places c.self.invariant.valid c.go_until.result

@@ -5,7 +5,7 @@ use Rattle.replay_core.specs.Orders.{IsReplayOrder, IsWhole}
 use Rattle.replay_core.specs.Plans.{plan_of}
 use Rattle.cut_moves.proofs.Rounds.{rounds_ordered, rounds_whole}
 use Rattle.cut_moves.proofs.TakenRounds.{IsSoFar, fewer_left, so_far_end, so_far_on, so_far_start}
-use Rattle.cut_moves.proofs.by_rounds.timeline.Goals as goal
+use Rattle.cut_moves.proofs.by_rounds.rounds_in.Goals as goal
 
 pub loop-ready-init : goal.loop-ready-init
 loop-ready-init c =

@@ -2,7 +2,7 @@ use Rattle.replay_core.specs.Plans.{plan_of}
 use Rattle.replay_core.specs.Tallies.{count_of}
 use Rattle.replay_core.proofs.Low.{left}
 use Rattle.cut_moves.proofs.TakenRounds.{IsSoFar}
-use Rattle.cut_moves.proofs.by_rounds.timeline.Given as goal
+use Rattle.cut_moves.proofs.by_rounds.rounds_in.Given as goal
 
 abbrev pub invariant-loop-ready : goal.invariant-loop-ready
 invariant-loop-ready l = IsSoFar (plan_of l.audited.which l.audited.recording) l.tally l.list.items
