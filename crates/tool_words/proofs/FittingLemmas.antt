@@ -33,44 +33,44 @@ use Rattle.tool_words.specs.Commands.{verb_named}
 use Rattle.tool_words.specs.Reading.{Set, settings, settled, settled_by, few_together, FittingLaw}
 
 -- a number of cores that is set is in range, and so are a limit and a number of words
-abbrev CoresFit : Option ℕ → Type 0
+abbrev pub CoresFit : Option ℕ → Type 0
 CoresFit None = Unit {0}
 CoresFit (Some n) = (1 ≤ n) × (n ≤ CORES_MAX)
 
-abbrev LimitFits : Option ℕ → Type 0
+abbrev pub LimitFits : Option ℕ → Type 0
 LimitFits None = Unit {0}
 LimitFits (Some n) = (1 ≤ n) × (n ≤ LIMIT_MAX)
 
-abbrev WordsFit : Option ℕ → Type 0
+abbrev pub WordsFit : Option ℕ → Type 0
 WordsFit None = Unit {0}
 WordsFit (Some n) = (WORDS_MIN ≤ n) × (n ≤ WORDS_MAX) × (n % 4 ≡ 0)
 
 -- a core's number
-abbrev CoreFits : Option ℕ → Type 0
+abbrev pub CoreFits : Option ℕ → Type 0
 CoreFits None = Unit {0}
 CoreFits (Some n) = n < CORES_MAX
 
 -- the settings that have ranges
-record Ranged : Type 0 where
-  cores : Option ℕ
-  limit : Option ℕ
-  words : Option ℕ
-  core : Option ℕ
-  count : Option ℕ
-  threads : Option ℕ
+pub record Ranged : Type 0 where
+  pub cores : Option ℕ
+  pub limit : Option ℕ
+  pub words : Option ℕ
+  pub core : Option ℕ
+  pub count : Option ℕ
+  pub threads : Option ℕ
 
-abbrev ranged : Settings → Ranged
+abbrev pub ranged : Settings → Ranged
 ranged s =
     record { cores = s.cores; limit = s.limit; words = s.words; core = s.core; count = s.count; threads = s.threads }
 
 -- a count's range is that of a limit
-record AreFitting (r : Ranged) : Type 0 where
-  cores : CoresFit r.cores
-  limit : LimitFits r.limit
-  words : WordsFit r.words
-  core : CoreFits r.core
-  count : LimitFits r.count
-  threads : AreFewThreads r.threads
+pub record AreFitting (r : Ranged) : Type 0 where
+  pub cores : CoresFit r.cores
+  pub limit : LimitFits r.limit
+  pub words : WordsFit r.words
+  pub core : CoreFits r.core
+  pub count : LimitFits r.count
+  pub threads : AreFewThreads r.threads
 
 number_between-range : (least most n : ℕ) (text : List ℕ) → number_between least most text ≡ Some n → (least ≤ n)
     × (n ≤ most)
@@ -163,7 +163,7 @@ put_new-fits s t Elf text h fit = put-one (record s { elf = true }) t h fit
 put_new-fits s t Latest text h fit = put-one (record s { latest = true }) t h fit
 put_new-fits s t Certified text h fit = put-one (record s { certify = true }) t h fit
 
-put-fits : (s t : Settings) (name : Name) (text : List ℕ) → put s name text ≡ Some t → AreFitting (ranged s)
+pub put-fits : (s t : Settings) (name : Name) (text : List ℕ) → put s name text ≡ Some t → AreFitting (ranged s)
     → AreFitting (ranged t)
 put-fits s t name text h fit = put_new-fits s t name text (if-none (is_set s name) (put_new s name text) t h) fit
 
@@ -174,7 +174,7 @@ settled-fits (set ∷ rest) s t h fit =
     let parts = and_then-some (λ u. settled u rest) (put s set.name set.text) t h in
     settled-fits rest parts.0 t parts.2 (put-fits s parts.0 set.name set.text parts.1 fit)
 
-settled_by-fits : (verb : Verb) (words : List (List ℕ)) (t : Settings) → settled_by verb no_settings words ≡ Some t
+pub settled_by-fits : (verb : Verb) (words : List (List ℕ)) (t : Settings) → settled_by verb no_settings words ≡ Some t
     → AreFitting (ranged t)
 unfolding settled_by
 settled_by-fits verb words t h =
@@ -183,11 +183,11 @@ settled_by-fits verb words t h =
     (record { cores = tt; limit = tt; words = tt; core = tt; count = tt; threads = tt })
 
 -- with a default for what isn't set
-cores-in : (o : Option ℕ) → CoresFit o → (1 ≤ unwrap_or o cores_default) × (unwrap_or o cores_default ≤ CORES_MAX)
+pub cores-in : (o : Option ℕ) → CoresFit o → (1 ≤ unwrap_or o cores_default) × (unwrap_or o cores_default ≤ CORES_MAX)
 cores-in None fit = (omega arith, omega arith)
 cores-in (Some n) fit = fit
 
-limit-in : (o : Option ℕ) → LimitFits o → (1 ≤ unwrap_or o limit_default) × (unwrap_or o limit_default ≤ LIMIT_MAX)
+pub limit-in : (o : Option ℕ) → LimitFits o → (1 ≤ unwrap_or o limit_default) × (unwrap_or o limit_default ≤ LIMIT_MAX)
 limit-in None fit = (omega arith, omega arith)
 limit-in (Some n) fit = fit
 

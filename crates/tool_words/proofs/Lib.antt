@@ -1,4 +1,11 @@
+pub mod Chains
+pub mod Plain
 pub mod ReadingLemmas
 pub mod NumeralLemmas
 pub mod FittingLemmas
 pub mod LaidSettings
+pub mod Cutting
+pub mod Completing
+pub mod Closed
+pub mod Stopping
+pub mod FaultLemmas

@@ -1,6 +1,7 @@
 -- The setting that words begin with is put in, and then the rest.
 use Rattle.std.proofs.Common.{◌≡◌, ℕ, List, [], ◌∷◌, Option, Some, None, refl, ap, sym, ◌∙◌, arith, ◌<◌, length, map}
-use Rattle.std.proofs.Common.{drop, get_or}
+use Rattle.std.proofs.Common.{drop, get_or, take, ◌-◌}
+use Rattle.std.proofs.Math.Seq.{take-length}
 use Rattle.std.specs.Option.{option_and_then}
 use Rattle.tool_words.specs.declared.command.Verb.{Verb}
 use Rattle.tool_words.specs.Settings.{Settings}
@@ -22,7 +23,7 @@ prepended s set None = none (put s set.name set.text)
     none None = refl
 
 -- a word that makes a setting by itself
-settings-alone : (verb : Verb) (word : List ℕ) (rest : List (List ℕ)) (set : Set) → alone verb word ≡ Some set →
+pub settings-alone : (verb : Verb) (word : List ℕ) (rest : List (List ℕ)) (set : Set) → alone verb word ≡ Some set →
     settings verb (word ∷ rest) ≡ prepend (Some set) (settings verb rest)
 unfolding settings
 settings-alone verb word [] set h = rw h
@@ -55,35 +56,6 @@ pub settled_by-unknown : (verb : Verb) (s : Settings) (word next : List ℕ) (re
 unfolding settled_by settings
 settled_by-unknown verb s word next rest h k = rw (h, k)
 
--- the same of words that are known to begin so, with the settings that the first one leads to
-pub by-alone : (verb : Verb) (s : Settings) (words : List (List ℕ)) (text word : List ℕ) (rest : List (List ℕ))
-    (set : Set) (after : Option Settings) →
-    words ≡ text ∷ rest → word ≡ text → Some set ≡ alone verb word → after ≡ put s set.name set.text →
-    settled_by verb s words ≡ option_and_then (λ t. settled_by verb t rest) after
-by-alone verb s words text word rest set after is same made put =
-    rw (is, ← same, put) (settled_by-alone verb s word rest set (sym made))
-
-pub by-pair : (verb : Verb) (s : Settings) (words : List (List ℕ)) (text word value next : List ℕ)
-    (rest : List (List ℕ)) (set : Set)
-    (after : Option Settings) →
-    words ≡ text ∷ value ∷ rest → word ≡ text → next ≡ value → None ≡ alone verb word → Some set ≡ valued verb word
-    next → after ≡ put s set.name set.text →
-    settled_by verb s words ≡ option_and_then (λ t. settled_by verb t rest) after
-by-pair verb s words text word value next rest set after is same also none made put =
-    rw (is, ← same, ← also, put) (settled_by-pair verb s word next rest set (sym none) (sym made))
-
-pub by-last : (verb : Verb) (s : Settings) (words : List (List ℕ)) (text word : List ℕ) → words ≡ text ∷ []
-    → word ≡ text → None ≡ alone verb word →
-    settled_by verb s words ≡ None
-by-last verb s words text word is same none = rw (is, ← same) (settled_by-last verb s word (sym none))
-
-pub by-unknown : (verb : Verb) (s : Settings) (words : List (List ℕ)) (text word value next : List ℕ)
-    (rest : List (List ℕ)) →
-    words ≡ text ∷ value ∷ rest → word ≡ text → next ≡ value → None ≡ alone verb word → None ≡ valued verb word next
-    → settled_by verb s words ≡ None
-by-unknown verb s words text word value next rest is same also none made =
-    rw (is, ← same, ← also) (settled_by-unknown verb s word next rest (sym none) (sym made))
-
 -- no words are left
 pub settled_by-none : (verb : Verb) (s : Settings) (words : List (List ℕ)) → words ≡ [] → settled_by verb s words ≡
     Some s
@@ -96,15 +68,11 @@ pub map-first : {S T : Type 0} (f : S → T) (xs : List S) (x : S) → 0 < lengt
 map-first f [] x some is = absurd (omega arith)
 map-first f (y ∷ ys) x some is = ap (λ v. f v ∷ map f ys) (sym is)
 
-pub map-two : {S T : Type 0} (f : S → T) (xs : List S) (x y : S) → 1 < length xs → x ≡ get_or xs 0 x
-    → y ≡ get_or xs 1 y →
-    map f xs ≡ f x ∷ f y ∷ map f (drop 2 xs)
-map-two f [] x y two is also = absurd (omega arith)
-map-two f (z ∷ []) x y two is also = absurd (omega arith)
-map-two f (z ∷ w ∷ ws) x y two is also = ap (λ v. f v ∷ f w ∷ map f ws) (sym is) ∙ ap (λ v. f x ∷ f v ∷ map f ws)
-    (sym also)
+-- the same, with the rest as a slice up to the end
+all-but-one : {S : Type 0} (xs : List S) → drop 1 xs ≡ take (length xs - 1) (drop 1 xs)
+all-but-one [] = refl
+all-but-one (y ∷ ys) = let n : length (y ∷ ys) - 1 ≡ length ys = omega arith in rw n (sym (take-length ys))
 
-pub map-one : {S T : Type 0} (f : S → T) (xs : List S) (x : S) → length xs ≡ 1 → x ≡ get_or xs 0 x → map f xs ≡ f x ∷ []
-map-one f [] x one is = absurd (omega arith)
-map-one f (y ∷ []) x one is = ap (λ v. f v ∷ []) (sym is)
-map-one f (y ∷ z ∷ zs) x one is = absurd (omega arith)
+pub map-rest : {S T : Type 0} (f : S → T) (xs : List S) (x : S) → 0 < length xs → x ≡ get_or xs 0 x →
+    map f xs ≡ f x ∷ map f (take (length xs - 1) (drop 1 xs))
+map-rest f xs x some is = map-first f xs x some is ∙ ap (λ l. f x ∷ map f l) (all-but-one xs)

@@ -2,6 +2,8 @@ pub mod Commands
 pub mod Numerals
 pub mod Options
 pub mod Reading
+pub mod Faults
+pub mod Stops
 pub mod Choices
 pub mod Settings
 pub mod Names

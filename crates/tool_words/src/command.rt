@@ -2,9 +2,10 @@
 ghost use Rattle.std.specs.Prelude.{◌≡◌, ◌≢◌, IfOk, None, OnErr};
 ghost use Rattle.tool_words.specs.Settings.{seen};
 ghost use Rattle.tool_words.specs.Commands.{command_of, flat_run_of, run_of, verb_named};
+ghost use Rattle.tool_words.specs.Faults.{lacks};
 
 use crate::choices::bytes_of;
-use crate::options::Settings;
+use crate::options::{Name, Settings};
 use rtr_types::{Instr, Items, Params, Which};
 use std::alloc::{AllocError, Global};
 use trace_gen::Shape;
@@ -93,21 +94,36 @@ pub enum Command {
 
 /// The first word: a command without its options.
 #[derive(Clone, Copy)]
-pub(crate) enum Verb {
+pub enum Verb {
+    /// `record`
     Record,
+    /// `run`
     Run,
+    /// `print`
     Print,
+    /// `replay`
     Replay,
+    /// `migrate`
     Migrate,
+    /// `certify`
     Certify,
+    /// `check`
     Check,
+    /// `gen`
     Gen,
+    /// `soak`
     Soak,
+    /// `at`
     At,
+    /// `thin`
     Thin,
+    /// `checkthin`
     CheckThin,
+    /// `tsorecord`
     TsoRecord,
+    /// `tsorun`
     TsoRun,
+    /// `tsoreplay`
     TsoReplay,
 }
 
@@ -133,6 +149,24 @@ impl Verb {
             "tsorun" => Some(Verb::TsoRun),
             "tsoreplay" => Some(Verb::TsoReplay),
             _ => None,
+        }
+    }
+
+    /// The first option that the command must have and that isn't set.
+    pub(crate) fn lacks(self, settings: &Settings) -> Option<Name>
+        ensures { result ≡ lacks self (seen settings.now) }
+    {
+        let (first, second) = match self {
+            Verb::Gen | Verb::Soak => (Name::Shape, Name::Number),
+            Verb::At => (Name::Core, Name::Count),
+            _ => return None,
+        };
+        if !settings.is_set(first) {
+            Some(first)
+        } else if !settings.is_set(second) {
+            Some(second)
+        } else {
+            None
         }
     }
 

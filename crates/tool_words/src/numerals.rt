@@ -6,7 +6,7 @@ ghost use Rattle.tool_words.specs.Numerals.{is_numeral, is_padded, number_betwee
 
 /// Whether the text is a number: decimal digits without a sign, and without a leading zero but for `0`
 /// itself.
-fn is_numeral(digits: &[u8]) -> bool
+pub(crate) fn is_numeral(digits: &[u8]) -> bool
     ensures { result ≡ is_numeral digits.now }
 {
     !digits.is_empty() && !is_padded(digits) && are_digits(digits)

@@ -1,15 +1,17 @@
 //! The options, and what their settings come to.
-ghost use Rattle.std.specs.Prelude.{◌≡◌, [], ◌∷◌};
+ghost use Rattle.std.specs.Prelude.{◌≡◌, [], ◌∷◌, IfErr, IfOk, Some};
 ghost use Rattle.std.specs.Option.{option_map};
 ghost use Rattle.tool_words.specs.Settings.{seen};
 ghost use Rattle.tool_words.specs.Commands.{named_instr, shaped};
 ghost use Rattle.tool_words.specs.Names.{named_by};
 ghost use Rattle.tool_words.specs.Options.{are_together_few, is_set, no_settings, option_named, option_of};
-ghost use Rattle.tool_words.specs.Options.{params_of, put, put_new, takes, takes_value, which_of, whole_blocks};
+ghost use Rattle.tool_words.specs.Options.{params_of, put_new, takes, takes_value, which_of, whole_blocks};
+ghost use Rattle.tool_words.specs.Faults.{IsOpen, Refuses, may_have_image, range, refusal};
 
 use crate::choices::are_choices;
 use crate::command::Verb;
-use crate::numerals::number_between;
+use crate::faults::Why;
+use crate::numerals::{is_numeral, number_between};
 use rtr_types::{
     BLOCK_WORDS, CORES_MAX, INSTRUCTIONS_MAX, Instr, LIMIT_MAX, Params, WORDS_MAX, WORDS_MIN, Which,
 };
@@ -29,21 +31,36 @@ pub const THREADS_MAX: u32 = 8;
 
 /// An option by its name.
 #[derive(Clone, Copy)]
-pub(crate) enum Name {
+pub enum Name {
+    /// `--cores`
     Cores,
+    /// `--limit`
     Limit,
+    /// `--words`
     Words,
+    /// `--choices`
     Choices,
+    /// `--seed`
     Seed,
+    /// `--log`
     Log,
+    /// `--shape`
     Shape,
+    /// `--number`
     Number,
+    /// `--core`
     Core,
+    /// `--count`
     Count,
+    /// `--threads`
     Threads,
+    /// `--loads`, a flag
     Loads,
+    /// `--elf`, a flag
     Elf,
+    /// `--latest`, a flag
     Latest,
+    /// `--certify`, a flag
     Certified,
 }
 
@@ -125,6 +142,38 @@ impl Name {
             Name::Loads | Name::Elf | Name::Latest | Name::Certified
         )
     }
+
+    /// The least and the greatest value, where the value is a number.
+    fn range(self) -> Option<(u64, u64)>
+        ensures { result ≡ range self }
+    {
+        match self {
+            Name::Cores => Some((1, CORES_MAX as u64)),
+            Name::Limit | Name::Count => Some((1, LIMIT_MAX as u64)),
+            Name::Words => Some((WORDS_MIN as u64, WORDS_MAX as u64)),
+            Name::Seed | Name::Number => Some((0, u64::MAX)),
+            Name::Core => Some((0, CORES_MAX as u64 - 1)),
+            Name::Threads => Some((1, THREADS_MAX as u64)),
+            _ => None,
+        }
+    }
+
+    /// Why the text is no value of the option.
+    fn refusal(self, text: &str) -> Why
+        ensures { result ≡ refusal self text.now }
+    {
+        match self.range() {
+            Some((least, most)) if is_numeral(text.as_bytes()) => {
+                Why::OutOfRange {
+                    option: self,
+                    least,
+                    most,
+                }
+            }
+            Some(_) => Why::NoNumber(self),
+            None => Why::NoSuchValue(self),
+        }
+    }
 }
 
 /// What the options have been set to; `None` and `false` where one hasn't. The choices are kept as the
@@ -172,19 +221,26 @@ impl<'a> Settings<'a> {
         }
     }
 
-    /// With this option set too; `None` where it was set before or has no such value.
-    pub(crate) fn put(self, name: Name, text: &'a str) -> Option<Settings<'a>>
-        ensures { option_map (λ s. seen s) result ≡ put (seen self.entry) name text.now }
+    /// With this option set too, which isn't set; or why words that set it so can't go on to a command.
+    pub(crate) fn with(self, name: Name, text: &'a str) -> Result<Settings<'a>, Why>
+        ensures ok { IfOk result (λ s. (put_new (seen self.entry) name text.now ≡ Some (seen s)) × IsOpen (seen s)) }
+        ensures err { IfErr result (λ why. Refuses (seen self.entry) name text.now why) }
     {
-        if self.is_set(name) {
-            None
+        let next = match self.put_new(name, text) {
+            Some(next) => next,
+            None => return Err(name.refusal(text)),
+        };
+        if !next.are_together_few() {
+            Err(Why::TooMany)
+        } else if !next.may_have_image() {
+            Err(Why::NoImage)
         } else {
-            self.put_new(name, text)
+            Ok(next)
         }
     }
 
     /// Whether the option is set.
-    fn is_set(&self, name: Name) -> bool
+    pub(crate) fn is_set(&self, name: Name) -> bool
         ensures { result ≡ is_set (seen self.now) name }
     {
         match name {
@@ -261,11 +317,21 @@ impl<'a> Settings<'a> {
     }
 
     /// Whether the cores together are given no more instructions than a run may have.
-    pub(crate) fn are_together_few(&self) -> bool
+    fn are_together_few(&self) -> bool
         ensures { result ≡ are_together_few (seen self.now) }
     {
         let params = self.params();
         params.cores as u64 * params.limit as u64 <= INSTRUCTIONS_MAX as u64
+    }
+
+    /// Whether the shape has an image of the number, as far as both are set.
+    fn may_have_image(&self) -> bool
+        ensures { result ≡ may_have_image (seen self.now) }
+    {
+        match (self.shape, self.number) {
+            (Some(shape), Some(number)) => shape.takes(number),
+            _ => true,
+        }
     }
 
     /// The shape and the number of an image, where both are set and the shape has an image of this number.

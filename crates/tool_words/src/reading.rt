@@ -1,13 +1,17 @@
 //! From words to settings, one after the other.
-ghost use Rattle.std.specs.Prelude.{◌≡◌, ◌≢◌, ◌<◌, ◌≤◌, IfNone, IfOk, IfSome, None, OnErr, Some, drop, length, map};
+ghost use Rattle.std.specs.Prelude.{◌≡◌, ◌≢◌, ℕ, ◌+◌, ◌<◌, drop, IfErr, IfNone, IfOk, IfSome, None, OnErr, Some, length, map};
 ghost use Rattle.std.specs.Prelude.{string_bytes};
+ghost use Rattle.std.specs.List.{before_first};
+ghost use Rattle.std.specs.Option.{option_map};
 ghost use Rattle.tool_words.specs.Commands.{command_of};
-ghost use Rattle.tool_words.specs.Reading.{FittingLaw, alone, meaning, settled_by, valued};
+ghost use Rattle.tool_words.specs.Faults.{IsFaultAt, IsOpen, Tells, place_of};
+ghost use Rattle.tool_words.specs.Stops.{IsWhole, Sets, Stops, StopsAfter, joined_value, unset, value_of};
 ghost use Rattle.tool_words.specs.Options.{no_settings};
-ghost use Rattle.std.specs.Option.{option_and_then, option_map};
+ghost use Rattle.tool_words.specs.Reading.{FittingLaw, is_equals, meaning, settled_by};
 ghost use Rattle.tool_words.specs.Settings.{seen};
 
 use crate::command::{Command, Verb};
+use crate::faults::{Fault, Why};
 use crate::options::{Name, Settings};
 use std::alloc::{AllocError, Global};
 
@@ -22,9 +26,19 @@ pub fn meaning(alloc: Global, words: &[String]) -> Result<Option<Command>, Alloc
     ensures meaningful { OnErr result (meaning (map string_bytes words.now) ≢ None) }
 {
     match read(words) {
-        Some((verb, settings)) => verb.command(alloc, &settings),
-        None => Ok(None),
+        Ok((verb, settings)) => verb.command(alloc, &settings),
+        Err(_) => Ok(None),
     }
+}
+
+/// What is wrong with words that mean nothing: the first word that no list of words which means a command has there, or
+/// the end, where each word may stand where it stands; and why. `None` where the words mean a command.
+pub fn fault(words: &[String]) -> Option<Fault>
+    ensures first { IfSome result (λ f. IsFaultAt (map string_bytes words.now) (place_of f)) }
+    ensures why { IfSome result (λ f. Tells (map string_bytes words.now) f) }
+    ensures none { IfNone result (meaning (map string_bytes words.now) ≢ None) }
+{
+    read(words).err()
 }
 
 /// The parameters of every command that words mean lie in their ranges, the shape that it names has an image of its
@@ -34,86 +48,168 @@ pub fn what_words_mean_fits()
     ensures { FittingLaw }
 {}
 
-/// The command's name and what its options are set to.
-fn read(words: &[String]) -> Option<(Verb, Settings<'_>)>
-    ensures { meaning (map string_bytes words.now) ≡ option_and_then (λ r. command_of r.0 (seen r.1)) result }
+/// The command's name and what its options are set to; or what is wrong with the words.
+fn read(words: &[String]) -> Result<(Verb, Settings<'_>), Fault>
+    ensures ok { IfOk result (λ r. (meaning (map string_bytes words.now) ≡ command_of r.0 (seen r.1))
+        × (command_of r.0 (seen r.1) ≢ None)) }
+    ensures err { IfErr result (λ f. IsFaultAt (map string_bytes words.now) (place_of f)
+        × Tells (map string_bytes words.now) f) }
 {
-    let (first, rest) = words.split_first()?;
-    let verb = Verb::named(first.as_str())?;
-    let settings = read_settings(verb, rest)?;
-    if settings.are_together_few() {
-        Some((verb, settings))
-    } else {
-        None
+    let (first, rest) = match words.split_first() {
+        Some(parts) => parts,
+        None => return Err(Fault::NoCommand),
+    };
+    let command = match Verb::named(first.as_str()) {
+        Some(command) => command,
+        None => return Err(Fault::NotACommand),
+    };
+    match read_options(command, rest) {
+        Ok(settings) => Ok((command, settings)),
+        Err(stop) => Err(Fault::InOptions {
+            command,
+            place: stop.place + 1,
+            why: stop.why,
+        }),
     }
 }
 
-/// What the words after the command set.
-fn read_settings(verb: Verb, words: &[String]) -> Option<Settings<'_>>
-    ensures { option_map (λ s. seen s) result ≡ settled_by verb no_settings (map string_bytes words.now) }
+/// Where the words after a command stop, from 0, and why.
+#[derive(Clone, Copy)]
+struct Stop {
+    place: usize,
+    why: Why,
+}
+
+/// What the words after the command set; or where they stop.
+fn read_options(verb: Verb, words: &[String]) -> Result<Settings<'_>, Stop>
+    ensures ok { IfOk result (λ s. IsWhole verb (map string_bytes words.now) (seen s)) }
+    ensures err { IfErr result (λ stop. StopsAfter verb (map string_bytes words.now) stop.place stop.why) }
+{
+    let settings = read_settings(verb, words)?;
+    match verb.lacks(&settings) {
+        Some(name) => Err(Stop {
+            place: words.len(),
+            why: Why::Lacks(name),
+        }),
+        None => Ok(settings),
+    }
+}
+
+/// What the words after the command set, one setting after the other; or where they stop.
+fn read_settings(verb: Verb, words: &[String]) -> Result<Settings<'_>, Stop>
+    ensures ok { IfOk result (λ s. (settled_by verb no_settings (map string_bytes words.now) ≡ Some (seen s))
+        × IsOpen (seen s)) }
+    ensures err { IfErr result (λ stop. StopsAfter verb (map string_bytes words.now) stop.place stop.why) }
 {
     let mut settings = Settings::none();
     let mut next = 0;
     while next < words.len() {
-        let (more, used) = put_next(verb, settings, &words[next..])?;
+        let (more, after) = put_at(verb, settings, words, next)?;
         settings = more;
-        next += used;
+        next = after;
     }
-    Some(settings)
+    Ok(settings)
 }
 
-/// The settings with the one that the words begin with, and how many words it took: one, or a name and
-/// its value.
+/// The settings with the one that begins at this word, and the word after it; or where they stop.
+fn put_at<'a>(
+    verb: Verb,
+    settings: Settings<'a>,
+    words: &'a [String],
+    next: usize,
+) -> Result<(Settings<'a>, usize), Stop>
+    requires { next < length words.now }
+    ensures ok { IfOk result (λ r. (used : ℕ) × (r.1 ≡ next + used)
+        × Sets verb (seen settings.entry) (map string_bytes (drop next words.now)) (seen r.0) used) }
+    ensures err { IfErr result (λ stop. (offset : ℕ) × (stop.place ≡ next + offset)
+        × Stops verb (seen settings.entry) (map string_bytes (drop next words.now)) offset stop.why) }
+{
+    match put_next(verb, settings, &words[next..]) {
+        Ok((more, used)) => Ok((more, next + used)),
+        Err(stop) => Err(Stop {
+            place: next + stop.place,
+            why: stop.why,
+        }),
+    }
+}
+
+/// The settings with the one that the words begin with, and how many words it took: one, or a name and its value; or
+/// where among these words they stop.
 fn put_next<'a>(
     verb: Verb,
     settings: Settings<'a>,
     words: &'a [String],
-) -> Option<(Settings<'a>, usize)>
+) -> Result<(Settings<'a>, usize), Stop>
     requires { 0 < length words.now }
-    ensures some { IfSome result (λ r. settled_by verb (seen settings.entry) (map string_bytes words.now)
-        ≡ settled_by verb (seen r.0) (map string_bytes (drop r.1 words.now))) }
-    ensures used { IfSome result (λ r. (1 ≤ r.1) × (r.1 ≤ length words.now)) }
-    ensures none { IfNone result (settled_by verb (seen settings.entry) (map string_bytes words.now) ≡ None) }
+    ensures ok { IfOk result (λ r. Sets verb (seen settings.entry) (map string_bytes words.now) (seen r.0) r.1) }
+    ensures err { IfErr result (λ stop. Stops verb (seen settings.entry) (map string_bytes words.now) stop.place
+        stop.why) }
 {
-    let word = words[0].as_str();
-    if let Some(setting) = alone(verb, word) {
-        return Some((settings.put(setting.name, setting.text)?, 1));
+    let (option, joined) = split(words[0].as_str());
+    let name = match unset(verb, &settings, option) {
+        Ok(name) => name,
+        Err(why) => return Err(Stop { place: 0, why }),
+    };
+    let (text, used) = match value_of(name, joined, &words[1..]) {
+        Ok(value) => value,
+        Err(stop) => return Err(stop),
+    };
+    match settings.with(name, text) {
+        Ok(more) => Ok((more, used)),
+        Err(why) => Err(Stop {
+            place: used - 1,
+            why,
+        }),
     }
-    if words.len() == 1 {
-        return None;
-    }
-    let setting = valued(verb, word, words[1].as_str())?;
-    Some((settings.put(setting.name, setting.text)?, 2))
 }
 
-/// One option and the text of its value, which is empty for a flag.
-#[derive(Clone, Copy)]
-struct Setting<'a> {
-    name: Name,
-    text: &'a str,
-}
-
-/// The setting that a word makes by itself: a flag, or a name and its value joined by `=`.
-fn alone<'a>(verb: Verb, word: &'a str) -> Option<Setting<'a>>
-    ensures { option_map (λ s. record { name = s.name; text = s.text.now }) result ≡ alone verb word.now }
+/// The name of an option in a word, and the value that `=` joins to it.
+fn split(word: &str) -> (&str, Option<&str>)
+    ensures name { result.0.now ≡ before_first is_equals word.now }
+    ensures value { option_map (λ text. text.now) result.1 ≡ joined_value word.now }
 {
     match word.split_once('=') {
-        Some((name, text)) => valued(verb, name, text),
-        None => match Name::of(verb, word)? {
-            name if name.takes_value() => None,
-            name => Some(Setting { name, text: "" }),
-        },
+        Some((name, text)) => (name, Some(text)),
+        None => (word, None),
     }
 }
 
-/// The setting of an option that takes a value.
-fn valued<'a>(verb: Verb, name: &str, text: &'a str) -> Option<Setting<'a>>
-    ensures { option_map (λ s. record { name = s.name; text = s.text.now }) result ≡ valued verb name.now text.now }
+/// The option of the command that this word names, which isn't set.
+fn unset(verb: Verb, settings: &Settings, option: &str) -> Result<Name, Why>
+    ensures { result ≡ unset verb (seen settings.now) option.now }
 {
-    let name = Name::of(verb, name)?;
-    if name.takes_value() {
-        Some(Setting { name, text })
-    } else {
-        None
+    match Name::of(verb, option) {
+        None => Err(Why::NotAnOption),
+        Some(name) if settings.is_set(name) => Err(Why::Twice(name)),
+        Some(name) => Ok(name),
+    }
+}
+
+/// The text of an option's value, which is empty for a flag, and how many words the option and its value are: the value is
+/// joined to the name, or the first of the words that follow. Otherwise where they stop.
+fn value_of<'a>(
+    name: Name,
+    joined: Option<&'a str>,
+    following: &'a [String],
+) -> Result<(&'a str, usize), Stop>
+    ensures ok { IfOk result (λ r. value_of name (option_map (λ text. text.now) joined.entry)
+        (map string_bytes following.now) ≡ Ok (r.0.now, r.1)) }
+    ensures err { IfErr result (λ stop. value_of name (option_map (λ text. text.now) joined.entry)
+        (map string_bytes following.now) ≡ Err (stop.place, stop.why)) }
+{
+    match (name.takes_value(), joined) {
+        (true, Some(text)) => Ok((text, 1)),
+        (true, None) => match following.first() {
+            Some(text) => Ok((text.as_str(), 2)),
+            None => Err(Stop {
+                place: 1,
+                why: Why::NoValue(name),
+            }),
+        },
+        (false, None) => Ok(("", 1)),
+        (false, Some(_)) => Err(Stop {
+            place: 0,
+            why: Why::FlagWithValue(name),
+        }),
     }
 }

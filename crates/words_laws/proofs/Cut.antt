@@ -13,8 +13,8 @@ use Rattle.tool_words.specs.Commands.{verb_named}
 use Rattle.tool_words.specs.Options.{option_named, option_of, takes, takes_value}
 use Rattle.tool_words.specs.Reading.{Set, alone, flag, is_equals, prepend, settings, valued}
 use Rattle.words_laws.specs.Grammar.{AreSpelled, Spells, apart, joined}
-use Rattle.words_laws.proofs.Names.{IsPlain, names-are-plain}
-use Rattle.words_laws.proofs.Options.{begins, one-of-two, part-is, prepend-more, prepend-none, prepend_all, prepended}
+use Rattle.tool_words.proofs.Plain.{IsPlain, names-are-plain}
+use Rattle.tool_words.proofs.Chains.{begins, one-of-two, part-is, prepend-more, prepend-none, prepend_all, prepended}
 
 -- ---- one word
 

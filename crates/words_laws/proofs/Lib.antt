@@ -1,4 +1,3 @@
-mod Options
 mod Names
 mod Order
 mod Cut

@@ -8,12 +8,13 @@ use Rattle.tool_words.specs.Commands.{command_of, verb_named}
 use Rattle.tool_words.specs.Options.{are_together_few, is_set, no_settings, put}
 use Rattle.tool_words.specs.Reading.{Set, few_together, flag, meaning, prepend, settings, settled, settled_by, valued}
 use Rattle.tool_words.specs.Settings.{Settings}
+use Rattle.tool_words.proofs.Cutting.{settled-append}
 use Rattle.tool_words.proofs.FittingLemmas.{and_then-some}
 use Rattle.words_laws.specs.Grammar.{AreSpelled, Says, Spells, apart, joined}
 use Rattle.words_laws.specs.Laws.{JoinedIsApart, SettingsCommute, TwiceIsNothing, WordsMean}
 use Rattle.words_laws.proofs.Names.{put-sets}
 use Rattle.words_laws.proofs.Order.{put-commute, put-keeps}
-use Rattle.words_laws.proofs.Options.{begins, if-some, prepend_all, then-none, then-then}
+use Rattle.tool_words.proofs.Chains.{begins, if-some, prepend_all, then-none, then-then}
 use Rattle.words_laws.proofs.Cut.{cut-spells, front, fronts, when-apart, when-joined}
 
 -- what a command makes of settings that were cut
@@ -49,18 +50,6 @@ joined-is-apart first name text before after sets set spelled h = by-verb (verb_
         ∙ sym (fronts first verb sets before (apart name text ++ after) is spelled))
 
 -- ---- one after the other
-
-settled-append : (s : Settings) (sets more : List Set) → settled s (sets ++ more) ≡ option_and_then
-    (λ t. settled t more) (settled s sets)
-settled-append s [] more = refl
-settled-append s (set ∷ sets) more = each (put s set.name set.text) (λ t. settled-append t sets more)
-  where
-    each : (o : Option Settings) →
-        ((t : Settings) → settled t (sets ++ more) ≡ option_and_then (λ u. settled u more) (settled t sets)) →
-        option_and_then (λ t. settled t (sets ++ more)) o ≡ option_and_then (λ u. settled u more)
-        (option_and_then (λ t. settled t sets) o)
-    each None later = refl
-    each (Some t) later = later t
 
 swap : (s : Settings) (x y : Set) (rest : List Set) → x.name ≢ y.name → settled s (x ∷ y ∷ rest) ≡ settled s
     (y ∷ x ∷ rest)

@@ -7,7 +7,7 @@ use Rattle.trace_gen.specs.declared.shape.Shape as shapes
 use Rattle.tool_words.specs.Settings.{Settings}
 use Rattle.tool_words.specs.Options.{is_set, put, put_new}
 use Rattle.tool_words.specs.Reading.{Set}
-use Rattle.words_laws.proofs.Options.{if-none, then-none}
+use Rattle.tool_words.proofs.Chains.{if-none, then-none}
 use Rattle.tool_words.proofs.LaidSettings.{Apart, apart-by-name, lays, merge, merge-merge}
 use Rattle.tool_words.proofs.LaidSettings.{overlaps, overlaps-before, single}
 

@@ -1,48 +1,36 @@
-use Rattle.std.proofs.Common.{string_bytes, length, arith, ◌<◌}
-use Rattle.tool_words.proofs.ReadingLemmas.{by-alone, by-pair, by-last, by-unknown, map-first, map-two, map-one}
+use Rattle.std.proofs.Common.{string_bytes}
+use Rattle.tool_words.proofs.ReadingLemmas.{map-rest}
+use Rattle.tool_words.proofs.Stopping.{at-name, at-value, offered, setting-err, setting-ok}
 use Rattle.tool_words.proofs.reading.put_next.Goals as goal
 
-pub returns-in-Some-clause-some : goal.returns-in-Some-clause-some
-returns-in-Some-clause-some c =
-    by-alone _ _ _ _ _ _ _ _ (map-first string_bytes c.args.words.now c.index-words-0.result c.requires
-    c.index-words-0.is) c.as_str-word.ensures.value
-    c.in-Some.ensures c.in_ok-put.ensures
+pub returns-in-Err-clause-err : goal.returns-in-Err-clause-err
+returns-in-Err-clause-err c =
+    at-name _ _ _ _ _ _ _ _ (map-rest string_bytes c.args.words.now c.index-words-0.result c.requires
+    c.index-words-0.is) c.as_str.ensures.value c.split.ensures.name c.in-Err.ensures
 
-pub returns-in_err-put-clause-none : goal.returns-in_err-put-clause-none
-returns-in_err-put-clause-none c =
-    rw c.from_residual.ensures
-    (by-alone _ _ _ _ _ _ _ _ (map-first string_bytes c.args.words.now c.index-words-0.result c.requires
-    c.index-words-0.is) c.as_str-word.ensures.value
-    c.in-Some.ensures c.in_err-put.ensures)
+pub returns-in-Err-value_of-clause-err : goal.returns-in-Err-value_of-clause-err
+returns-in-Err-value_of-clause-err c =
+    at-value _ _ _ _ _ _ _ _ _ _ _ (map-rest string_bytes c.args.words.now c.index-words-0.result c.requires
+    c.index-words-0.is) c.as_str.ensures.value c.split.ensures.name c.in-Ok.ensures c.split.ensures.value
+    c.in-Err-value_of.ensures.err
 
-pub returns-then-words-eq1-clause-none : goal.returns-then-words-eq1-clause-none
-returns-then-words-eq1-clause-none c =
-    by-last _ _ _ _ _ (map-one string_bytes c.args.words.now c.index-words-0.result c.if-words-eq1.true
-    c.index-words-0.is) c.as_str-word.ensures.value
-    c.in_default.ensures
+pub overflow_sub-result : goal.overflow_sub-result
+overflow_sub-result c =
+    let o = offered _ _ _ _ _ _ _ _ _ _ _ (map-rest string_bytes c.args.words.now c.index-words-0.result c.requires
+    c.index-words-0.is) c.as_str.ensures.value c.split.ensures.name c.in-Ok.ensures c.split.ensures.value
+    c.in-Ok-value_of.ensures.ok in
+    o.offers.some
 
-pub returns-in_err-setting-clause-none : goal.returns-in_err-setting-clause-none
-returns-in_err-setting-clause-none c =
-    let two : 1 < length c.args.words.now = omega arith in
-    rw c.from_residual-in_err-setting.ensures
-    (by-unknown _ _ _ _ _ _ _ _ (map-two string_bytes c.args.words.now c.index-words-0.result c.index-words-1.result
-    two c.index-words-0.is c.index-words-1.is)
-    c.as_str-word.ensures.value c.as_str.ensures.value c.in_default.ensures c.in_err-setting.ensures)
+pub returns-in-Ok-with-clause-ok : goal.returns-in-Ok-with-clause-ok
+returns-in-Ok-with-clause-ok c =
+    let o = offered _ _ _ _ _ _ _ _ _ _ _ (map-rest string_bytes c.args.words.now c.index-words-0.result c.requires
+    c.index-words-0.is) c.as_str.ensures.value c.split.ensures.name c.in-Ok.ensures c.split.ensures.value
+    c.in-Ok-value_of.ensures.ok in
+    setting-ok _ _ _ _ _ _ _ o.unset o.offers c.in-Ok-with.ensures.ok.0 c.in-Ok-with.ensures.ok.1
 
-pub returns-in_err-put-2-clause-none : goal.returns-in_err-put-2-clause-none
-returns-in_err-put-2-clause-none c =
-    let two : 1 < length c.args.words.now = omega arith in
-    rw c.from_residual-in_err-put-2.ensures
-    (by-pair _ _ _ _ _ _ _ _ _ _
-    (map-two string_bytes c.args.words.now c.index-words-0.result c.index-words-1.result two c.index-words-0.is
-    c.index-words-1.is)
-    c.as_str-word.ensures.value c.as_str.ensures.value c.in_default.ensures c.in_ok-setting.ensures
-    c.in_err-put-2.ensures)
-
-pub returns-clause-some : goal.returns-clause-some
-returns-clause-some c =
-    let two : 1 < length c.args.words.now = omega arith in
-    by-pair _ _ _ _ _ _ _ _ _ _ (map-two string_bytes c.args.words.now c.index-words-0.result c.index-words-1.result
-    two c.index-words-0.is c.index-words-1.is)
-    c.as_str-word.ensures.value c.as_str.ensures.value c.in_default.ensures c.in_ok-setting.ensures
-    c.in_ok-put-2.ensures
+pub returns-in-Err-with-clause-err : goal.returns-in-Err-with-clause-err
+returns-in-Err-with-clause-err c =
+    let o = offered _ _ _ _ _ _ _ _ _ _ _ (map-rest string_bytes c.args.words.now c.index-words-0.result c.requires
+    c.index-words-0.is) c.as_str.ensures.value c.split.ensures.name c.in-Ok.ensures c.split.ensures.value
+    c.in-Ok-value_of.ensures.ok in
+    setting-err _ _ _ _ _ _ _ o.unset o.offers c.in-Err-with.ensures.err
