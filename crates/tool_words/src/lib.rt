@@ -1,8 +1,13 @@
-//! What the words of a command line mean: one command with all its options filled in, or nothing; and of words that mean
-//! nothing, which of them can't stand where it stands, and why.
+//! What the words of a command line mean: one command with all its options filled in, or nothing. Of words that mean
+//! nothing, it tells which of them can't stand where it stands, and why.
 //!
-//! Proved: `meaning` answers exactly the command that the words mean, and `fault` exactly the first word that no list of
-//! words which means a command has there, with the reason.
+//! While words are read, choices are kept as the text that spells them, so reading takes no memory. So want of memory
+//! never hides that words mean nothing.
+//!
+//! Proved: `meaning` is the definition of what words mean. `fault` answers exactly the first word that no list of words
+//! which means a command has there, with the reason. `what_words_mean_fits`: its parameters are in range, cores times
+//! limit is, and a shape that it names has an image of its number. The number of threads is at most 8 by the definition
+//! itself.
 #![tactic(auto)]
 
 mod choices;
