@@ -72,7 +72,7 @@ pub record HasPassed (which : Which) (r : Recording) (outcome : Outcome) (list :
   pub clocks : AreClocksOf which r kept
 
 -- the recording is determinate by the log, this is how the low order ends, and every order agrees with it
-pub record IsReplayed (which : Which) (r : Recording) (outcome : Outcome) : Type 0 where
+pub record IsReplayOf (which : Which) (r : Recording) (outcome : Outcome) : Type 0 where
   pub determinate : IsDeterminate which r
   pub outcome_is : outcome ≡ low_outcome which r
   pub every_order : EveryOrderAgrees which r
@@ -80,7 +80,7 @@ pub record IsReplayed (which : Which) (r : Recording) (outcome : Outcome) : Type
 -- what a pass comes to: the replay, and where the accesses are listed all that is kept
 pub record HasFollowed (listed : Bool) (which : Which) (r : Recording) (outcome : Outcome) (list : List Access)
     (kept : Kept) : Type 0 where
-  pub replayed : IsReplayed which r outcome
+  pub replayed : IsReplayOf which r outcome
   pub passed : IsTrue listed → HasPassed which r outcome list kept
 
 -- a tally, a replay and a trail at the start of the low order

@@ -5,7 +5,7 @@ ghost use Rattle.clock_core.specs.Reach.{IsClock};
 ghost use Rattle.race_log.specs.Sources.{log_edges};
 ghost use Rattle.race_log.specs.Validity.{Valid};
 ghost use Rattle.replay_audit.specs.Audits.{AuditRefuses, Begins, FollowRefuses, HasFollowed, IsAuditOf, IsInstrOf};
-ghost use Rattle.replay_audit.specs.Audits.{IsReplayed, PassesOf};
+ghost use Rattle.replay_audit.specs.Audits.{IsReplayOf, PassesOf};
 
 use crate::audit_fault::AuditFault;
 use crate::log_clocks::LogClocks;
@@ -136,7 +136,7 @@ pub fn replayed(
 ) -> Result<(Recording, Outcome), AuditFault>
     requires { Valid recording }
     ensures { MatchResult result
-        (λ parts. (parts.0 ≡ recording) × IsReplayed which recording parts.1)
+        (λ parts. (parts.0 ≡ recording) × IsReplayOf which recording parts.1)
         (AuditRefuses which recording) }
 {
     let outcome = match Pass::over(alloc, &recording, which, false) {
