@@ -1,0 +1,5 @@
+pub mod Actors
+pub mod Counts
+pub mod Few
+pub mod Texts
+pub mod Turns
