@@ -19,5 +19,6 @@ mod reading;
 
 pub use command::{Command, RunWords, Verb};
 pub use faults::{Fault, Why};
+pub use numerals::number_between;
 pub use options::{Name, THREADS_MAX};
 pub use reading::{fault, meaning, what_words_mean_fits};

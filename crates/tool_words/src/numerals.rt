@@ -27,7 +27,7 @@ fn are_digits(bytes: &[u8]) -> bool
 }
 
 /// The number that the text is, where it lies in the range.
-pub(crate) fn number_between(least: u64, most: u64, text: &str) -> Option<u64>
+pub fn number_between(least: u64, most: u64, text: &str) -> Option<u64>
     ensures value { result ≡ number_between least most text.now }
     ensures within { IfSome result (λ n. (least ≤ n) × (n ≤ most)) }
 {

@@ -1,0 +1,2 @@
+pub mod HexNumbers
+pub mod Ranges

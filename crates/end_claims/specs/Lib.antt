@@ -1,0 +1,9 @@
+pub mod Answers
+pub mod Demands
+pub mod Ends
+pub mod Meaning
+pub mod Named
+pub mod Numbers
+pub mod Places
+pub mod Reading
+pub mod Views
