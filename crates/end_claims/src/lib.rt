@@ -1,9 +1,10 @@
-//! Claims on how a run ends: their text, what they say of an end, and the answers that are printed.
+//! Claims on how a run ends: their text, what they say of an end, and the answers that are printed. A claim is
+//! alternatives of atoms, such as `[10ac]=6,all:exit|1:x7<0`. An end is what the outcome of a run has: its cores and its
+//! words of memory.
 //!
-//! A claim is alternatives of atoms, such as `[10ac]=6,all:exit|1:x7<0`. Each function's clause says that it computes
-//! a definition: `claim_of` what a text claims (every other text claims nothing), `holds_at` what a claim says of an
-//! end, `breaks` which ends break a demand, `named_by` which places a claim names, and `answer` how a place's value is
-//! printed. An end is what the outcome of a run has: its cores and its words of memory.
+//! Proved: each function computes a definition. `read_claim` gives what a text claims (`claim_of`), and nothing exactly
+//! where a text claims nothing. `holds_at` gives what a claim says of an end, `breaks` which ends break a demand,
+//! `named_by` which places a claim names, and `put_answer` how a place's value is printed (`answer`).
 #![tactic(auto)]
 
 mod asking;
