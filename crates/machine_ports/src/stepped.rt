@@ -1,9 +1,7 @@
 //! What a run asks of a machine, whatever a core is.
 ghost use Rattle.std.specs.Prelude.{◌≡◌, ◌<◌, ◌*◌, ℕ, Bool, List, length, slice_index_or, true};
-ghost use Rattle.access_times.specs.Riding.{none_carrying, none_riding};
 ghost use Rattle.image_mem.specs.Contents.{Contents};
-ghost use Rattle.msi_memory.specs.Finals.{SameWords, block_words};
-ghost use Rattle.msi_memory.specs.Memories.{Memory};
+ghost use Rattle.msi_memory.specs.Finals.{SameWords};
 ghost use Rattle.rtr_types.specs.declared.TheConstants.{BLOCK_WORDS};
 ghost use Rattle.rv_core.specs.States.{starting};
 ghost use Rattle.rv_core.specs.declared.core_state.Core.{Core};
@@ -19,8 +17,8 @@ pub trait SteppedMachine {
     /// Its cores, without their pending accesses.
     ghost cores: { Self → List Core };
 
-    /// Its memory, without what rides.
-    ghost memory: { Self → Memory (Unit {0}) (Unit {0}) };
+    /// The words of each block of its memory, which hold where no step is left.
+    ghost words: { Self → ℕ → List ℕ };
 
     /// Whether no step is left.
     ghost ended: { Self → Bool };
@@ -41,5 +39,5 @@ pub trait SteppedMachine {
     fn final_words(&self, block: u32) -> [u32; BLOCK_WORDS]
         requires done { ended self.now ≡ true }
         requires within { block * BLOCK_WORDS < (image self.now).words }
-        ensures { SameWords result (block_words none_riding none_carrying (memory self.now) block) };
+        ensures { SameWords result (words self.now block) };
 }

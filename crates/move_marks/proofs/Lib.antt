@@ -13,3 +13,4 @@ pub mod Idle
 pub mod MoveOrder
 pub mod NamedMoves
 pub mod NumberedMoves
+pub mod MemberNumbers

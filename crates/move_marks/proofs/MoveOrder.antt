@@ -50,14 +50,14 @@ renumbered f make a b (suc n) same =
         let b_on : b + (1 + i) ≡ (b + 1) + i = omega arith in
         ap f a_on ∙ same (1 + i) (omega arith) ∙ ap make b_on
 
-none_from : (q : ℕ → Bool) (a n : ℕ) → ((c : ℕ) → a ≤ c → c < a + n → q c ≡ false) → filter q (range_with_len a n) ≡ []
+pub none_from : (q : ℕ → Bool) (a n : ℕ) → ((c : ℕ) → a ≤ c → c < a + n → q c ≡ false) → filter q (range_with_len a n) ≡ []
 none_from q a zero none = refl
 none_from q a (suc n) none =
     ap (λ (b : Bool). cond b (a ∷ filter q (range_with_len (a + 1) n)) (filter q (range_with_len (a + 1) n)))
     (none a (omega arith) (omega arith))
     ∙ none_from q (a + 1) n (λ c past within. none c (omega arith) (omega arith))
 
-agree_on : (p q : ℕ → Bool) (a n : ℕ) → ((c : ℕ) → a ≤ c → c < a + n → p c ≡ q c) →
+pub agree_on : (p q : ℕ → Bool) (a n : ℕ) → ((c : ℕ) → a ≤ c → c < a + n → p c ≡ q c) →
     filter p (range_with_len a n) ≡ filter q (range_with_len a n)
 agree_on p q a zero same = refl
 agree_on p q a (suc n) same =

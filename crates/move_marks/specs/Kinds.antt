@@ -1,5 +1,5 @@
 -- Which moves are marked, by their kinds.
-use Rattle.std.specs.Prelude.{ℕ, ◌/◌, ◌%◌, ◌^◌, List, ◌++◌, map}
+use Rattle.std.specs.Prelude.{ℕ, ◌-◌, ◌/◌, ◌%◌, ◌^◌, ◌==◌, if◌then◌else◌, Option, Some, None, List, ◌++◌, length, map}
 use Rattle.rtr_types.specs.declared.TheConstants.{CORES_MAX}
 use Rattle.rtr_types.specs.declared.core_set.CoreSet.{CoreSet}
 use Rattle.move_marks.specs.declared.marks.MarkedMove.{MarkedMove}
@@ -30,3 +30,8 @@ marked_at_ports marks = marked_of Request marks ++ (marked_of Response marks ++ 
 -- the marked moves, in order
 abbrev pub marked : MoveMarks → List MarkedMove
 marked marks = marked_of Own marks ++ marked_at_ports marks
+
+-- the number of the last marked move, where it isn't a core's own
+abbrev pub last_at_port : MoveMarks → Option ℕ
+last_at_port marks =
+    if length (marked_at_ports marks) == 0 then None else Some (length (marked marks) - 1)

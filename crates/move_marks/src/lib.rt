@@ -8,7 +8,8 @@
 //!
 //! Proved: `set`, `mark_all` and `clear_all` change the marks that they name, core by core and kind by kind, and
 //! nothing else. `count` is how many are marked, and `pick` the one of a number in the list of the marked moves, by
-//! kinds and cores. `mark_turn`: after a turn of the home exactly the messages that it sent are marked too, and the
+//! kinds and cores. `last_at_port` is the number of the last one where it isn't a core's own. `mark_turn`: after a turn
+//! of the home exactly the messages that it sent are marked too, and the
 //! requests for its block as it got free or busy. `take_request` and `take_response` make the home's turn with the
 //! marks. These are those of what can be done at the ports after it, where they were before. `with_late` and
 //! `make_room`: the one request that isn't looked at yet is marked as it can be taken.
@@ -23,5 +24,5 @@ mod taking;
 pub use late::{make_room, with_late};
 pub use marking::{mark_port, mark_turn};
 pub use marks::{MarkedMove, MoveKind, MoveMarks};
-pub use sets::{count, nth, set_to};
+pub use sets::{count, nth, number_in, set_to};
 pub use taking::{take_request, take_response};

@@ -2,7 +2,7 @@
 ghost use Rattle.std.specs.Prelude.{◌≡◌, ◌≢◌, ◌==◌, ◌<◌, ◌≤◌, ◌&&◌, ◌||◌, ℕ, false, length, not, slice_index_or};
 ghost use Rattle.rtr_types.specs.CoreSets.{has};
 ghost use Rattle.rtr_types.specs.declared.TheConstants.{CORES_MAX};
-ghost use Rattle.move_marks.specs.Kinds.{marked, marked_at_ports, marked_of, place_of, set_of};
+ghost use Rattle.move_marks.specs.Kinds.{last_at_port, marked, marked_at_ports, marked_of, place_of, set_of};
 ghost use Rattle.move_marks.specs.declared.marks.MarkedMove.{MarkedMove};
 ghost use Rattle.move_marks.specs.declared.marks.MoveKind.{MoveKind};
 
@@ -142,6 +142,17 @@ impl MoveMarks {
             return self.pick_of(MoveKind::Response, left);
         }
         self.pick_of(MoveKind::FromHome, left - responses)
+    }
+
+    /// The number of the last marked move, where it isn't a core's own.
+    pub fn last_at_port(self) -> Option<u32>
+        ensures { result ≡ last_at_port self }
+    {
+        let many = self.count();
+        if many == self.count_of(MoveKind::Own) {
+            return None;
+        }
+        Some(many - 1)
     }
 
     /// How many moves of the kind are marked.

@@ -1,5 +1,5 @@
 //! Sets of cores whose members are counted, and found by their numbers.
-ghost use Rattle.std.specs.Prelude.{◌≡◌, ◌≢◌, ◌<◌, ◌≤◌, ◌&&◌, ℕ, length, nat_lt, slice_index_or};
+ghost use Rattle.std.specs.Prelude.{◌≡◌, ◌≢◌, ◌<◌, ◌≤◌, ◌&&◌, ℕ, length, nat_lt, slice_index_or, true};
 ghost use Rattle.rtr_types.specs.CoreSets.{has};
 ghost use Rattle.rtr_types.specs.declared.TheConstants.{CORES_MAX};
 ghost use Rattle.move_marks.specs.Members.{members};
@@ -35,6 +35,16 @@ pub fn count(set: CoreSet) -> u32
     ensures few { result ≤ CORES_MAX }
 {
     set.bits.count_ones()
+}
+
+/// The number of a member, from 0: so many members are below it.
+pub fn number_in(set: CoreSet, core: u8) -> u32
+    requires core { core < CORES_MAX }
+    requires member { has set core ≡ true }
+    ensures within { result < length (members set) }
+    ensures value { (d : ℕ) → slice_index_or (members set) result d ≡ core }
+{
+    count(first_of(set, core as u32))
 }
 
 /// The member of this number, from 0.

@@ -1,6 +1,7 @@
 pub mod AtHand
 pub mod StartMarks
 pub mod ChosenMove
+pub mod CoreMoveNumber
 pub mod Elsewhere
 pub mod MoveFrames
 pub mod MarksAfterMoves

@@ -11,6 +11,8 @@
 //! most one cache that may write a block, and then no other that may read it (`keeps`). `new` is at the definition's
 //! start. At `done` the links are empty, and `final_words` are what was last written. `step_timed` is `step` on riders
 //! that record times, with what `machine_times` says of it. A machine as `new` makes it stands for nothing retired.
+//! `moves` marks exactly the moves that can be made, in the order in which a choice numbers them. `need` is what a core's
+//! next instruction needs.
 //! `data_alone_retire`: a block's data retire the waiting core's instruction, and no other message retires one.
 #![tactic(auto)]
 
@@ -23,4 +25,5 @@ mod stepped;
 mod timed;
 
 pub use machine::{Machine, Stepped};
+pub use marks::Marks;
 pub use msi_state::Move;

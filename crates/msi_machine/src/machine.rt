@@ -3,6 +3,7 @@ ghost use Rattle.std.specs.Prelude.{◌≡◌, ◌<◌, ◌≤◌, ◌/◌, ◌%
 ghost use Rattle.std.specs.Prelude.{slice_index, true};
 ghost use Rattle.access_times.specs.Riding.{none_carrying, none_riding};
 ghost use Rattle.rtr_types.specs.Parameters.{Fits};
+ghost use Rattle.rv_core.specs.Steps.{need};
 ghost use Rattle.rtr_types.specs.declared.TheConstants.{BLOCK_WORDS, CORES_MAX};
 ghost use Rattle.msi_machine.specs.Delivering.{MessagesRetire};
 ghost use Rattle.msi_machine.specs.Marks.{AllMarked, marked};
@@ -29,6 +30,7 @@ use machine_ports::SteppedMachine;
 use move_marks::{make_room, with_late};
 use msi_state::Move;
 use rtr_types::{BLOCK_WORDS, CORES_MAX, Instr, Params};
+use rv_core::{Need, Program};
 use std::alloc::{AllocError, Global};
 use std::marker::Model;
 
@@ -88,9 +90,31 @@ impl<R: Rider, K: Carry> Machine<R, K> {
         ensures one_writer { IfOk result (λ machine. OneWriterEach R.riding K.carrying machine.state) }
         ensures untouched { IfOk result (λ machine. touched machine.rooms ≡ 0) }
     {
+        let program = Program::new(alloc, image)?;
+        Machine::of_program(alloc, program, params)
+    }
+
+    /// The machine of a program, which is an image decoded beforehand, before its first step. No cache holds a block,
+    /// and nothing is under way.
+    pub fn of_program(
+        alloc: Global,
+        program: Program,
+        params: Params,
+    ) -> Result<Machine<R, K>, AllocError>
+        requires fits { Fits params }
+        requires words { program.words ≡ params.words }
+        ensures start { IfOk result (λ machine.
+            machine.state ≡ state_start R.riding K.carrying program params.cores params.limit) }
+        ensures plain { IfOk result (λ machine. plain machine.state ≡ opening_state program params) }
+        ensures coherent { IfOk result (λ machine. Coherent R.riding K.carrying machine.state (opening_memory program)) }
+        ensures idle { IfOk result (λ machine. total_owed machine.state ≡ 0) }
+        ensures one_writer { IfOk result (λ machine. OneWriterEach R.riding K.carrying machine.state) }
+        ensures untouched { IfOk result (λ machine. touched machine.rooms ≡ 0) }
+    {
+        let image = program.image();
         let words = image.words();
         prove!(words == params.words);
-        let parts = Parts::new(alloc, image, params.cores, params.limit)?;
+        let parts = Parts::new(alloc, program, params.cores, params.limit)?;
         let standings = first_standings(alloc, &parts.program, parts.cores.as_slice())?;
         let marks = first_marks(standings.as_slice());
         Ok(Machine {
@@ -164,6 +188,24 @@ impl<R: Rider, K: Carry> Machine<R, K> {
         Stepped { taken, retired }
     }
 
+    /// Which moves can be made: exactly these are marked. They stand in the order in which a choice numbers them.
+    pub fn moves(&self) -> Marks
+        ensures all { AllMarked R.riding K.carrying self.now.state result }
+        ensures moves { marked result ≡ moves R.riding K.carrying self.now.state }
+    {
+        self.all_marks()
+    }
+
+    /// What a core's next instruction needs.
+    pub fn need(&self, core: u8) -> Need
+        requires { core < length self.now.state.cores }
+        ensures { result ≡ need self.now.state.image (core_at self.now.state.cores core) }
+    {
+        // What always holds of a machine says this of its standings.
+        let _ = &self.parts;
+        self.standings[core as usize].need
+    }
+
     /// The marks of the moves that can be made.
     fn all_marks(&self) -> Marks
         ensures all { AllMarked R.riding K.carrying self.now.state result }
@@ -194,13 +236,20 @@ impl<R: Rider, K: Carry> Machine<R, K> {
     pub fn into_image(self) -> Image
         ensures { result ≡ self.state.image }
     {
+        self.into_program().into_image()
+    }
+
+    /// The program that the machine runs.
+    pub fn into_program(self) -> Program
+        ensures { result ≡ self.state.image }
+    {
         let Machine {
             parts,
             standings: _standings,
             marks: _marks,
             asker: _asker,
         } = self;
-        parts.into_image()
+        parts.into_program()
     }
 
     /// What retires as a core takes the oldest message from home: after a block's data the instruction that

@@ -18,7 +18,6 @@ ghost use Rattle.msi_state.specs.Steps.{event};
 
 use crate::standing::Standing;
 use access_times::{Carry, Clerk, Rider};
-use image_mem::Image;
 use msi_memory::MemorySystem;
 use rtr_types::{Access, BLOCK_WORDS, Instr, Kind};
 use rv_core::{Core, Program};
@@ -51,14 +50,13 @@ impl<R: Rider, K: Carry> Parts<R, K> {
     /// The parts at the start, with so many cores, each of which retires at most `limit` instructions.
     pub(crate) fn new(
         alloc: Global,
-        image: Image,
+        program: Program,
         cores: u8,
         limit: u32,
     ) -> Result<Parts<R, K>, AllocError>
-        ensures state { IfOk result (λ parts. parts.state ≡ state_start R.riding K.carrying image cores limit) }
+        ensures state { IfOk result (λ parts. parts.state ≡ state_start R.riding K.carrying program cores limit) }
         ensures untouched { IfOk result (λ parts. touched parts.rooms ≡ 0) }
     {
-        let program = Program::new(alloc, image)?;
         let memory = MemorySystem::new(alloc, program.image(), cores)?;
         let cores = first_cores(alloc, cores, limit)?;
         Ok(Parts {
@@ -68,8 +66,8 @@ impl<R: Rider, K: Carry> Parts<R, K> {
         })
     }
 
-    /// The image that the cores run.
-    pub(crate) fn into_image(self) -> Image
+    /// The program that the cores run.
+    pub(crate) fn into_program(self) -> Program
         ensures { result ≡ self.state.image }
     {
         let Parts {
@@ -77,7 +75,7 @@ impl<R: Rider, K: Carry> Parts<R, K> {
             cores: _cores,
             memory: _memory,
         } = self;
-        program.into_image()
+        program
     }
 
     /// Core `c` moves: its next instruction retires, or what that needs is asked for. What was kept of the

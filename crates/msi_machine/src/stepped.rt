@@ -22,7 +22,7 @@ impl<R: Rider, K: Carry> SteppedMachine for Machine<R, K> {
 
     ghost cores = { λ m. m.state.cores };
 
-    ghost memory = { λ m. (plain m.state).memory };
+    ghost words = { λ m block. final_words none_riding none_carrying (plain m.state) block };
 
     ghost ended = { λ m. all_done m.state };
 

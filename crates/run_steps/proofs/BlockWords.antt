@@ -5,9 +5,8 @@ use Rattle.std.specs.Prelude.{slice_index}
 use Rattle.std.specs.List.{range_with_len}
 use Rattle.std.proofs.lemmas.List.{append-nil, append_assoc}
 use Rattle.std.proofs.lemmas.List.FromFn.{map-range_with_len_more}
-use Rattle.access_times.specs.Riding.{Carrying, Riding}
-use Rattle.msi_memory.specs.Finals.{SameWords, block_words, memory_word}
-use Rattle.msi_memory.specs.Memories.{Memory}
+use Rattle.msi_memory.specs.Finals.{SameWords}
+use Rattle.run_steps.specs.Ends.{words_in}
 
 -- the next values of a function, behind those of the numbers below n
 module _ (f : ℕ → ℕ) where
@@ -29,21 +28,22 @@ module _ (f : ℕ → ℕ) where
       ∙ ap firsts counted
 
 -- a block's words are the next words of the memory
-module _ {R K : Type 0} (riding : Riding R) (carrying : Carrying K) (m : Memory R K) (block : ℕ) where
-  slot_of : (slot : ℕ) → slot < 4 →
-      slice_index (block_words riding carrying m block) slot ≡ memory_word riding carrying m (block * 4 + slot)
+module _ (blocks : ℕ → List ℕ) (block : ℕ) where
+  abbrev word_of : ℕ → ℕ
+  word_of word = slice_index (blocks (word / 4)) (word % 4)
+
+  slot_of : (slot : ℕ) → slot < 4 → slice_index (blocks block) slot ≡ word_of (block * 4 + slot)
   slot_of slot low =
       let same : (block * 4 + slot) / 4 ≡ block = omega arith in
       let here : (block * 4 + slot) % 4 ≡ slot = omega arith in
       rw (same, here)
 
-  pub words_more : (list words : List ℕ) → list ≡ map (memory_word riding carrying m) (range_with_len 0 (block * 4))
-      → length words ≡ 4 → SameWords words (block_words riding carrying m block)
-      → list ++ words ≡ map (memory_word riding carrying m) (range_with_len 0 ((block + 1) * 4))
+  pub words_more : (list words : List ℕ) → list ≡ words_in blocks (block * 4) → length words ≡ 4
+      → SameWords words (blocks block) → list ++ words ≡ words_in blocks ((block + 1) * 4)
   words_more list words before four same =
-      let each : (i : ℕ) → i < length words → slice_index words i ≡ memory_word riding carrying m (block * 4 + i) =
+      let each : (i : ℕ) → i < length words → slice_index words i ≡ word_of (block * 4 + i) =
       λ i within. let low : i < 4 = omega (arith, within, four) in same i low ∙ slot_of i low in
       let counted : block * 4 + length words ≡ (block + 1) * 4 = omega (arith, four) in
       ap (λ (xs : List ℕ). xs ++ words) before
-      ∙ more_values (memory_word riding carrying m) words (block * 4) each
-      ∙ ap (λ (n : ℕ). map (memory_word riding carrying m) (range_with_len 0 n)) counted
+      ∙ more_values word_of words (block * 4) each
+      ∙ ap (λ (n : ℕ). words_in blocks n) counted

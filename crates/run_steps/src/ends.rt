@@ -21,7 +21,7 @@ pub fn outcome_at_end<M: SteppedMachine>(
     requires words { params.words ≡ (M.image machine.now).words }
     requires whole { params.words % BLOCK_WORDS ≡ 0 }
     ensures { IfOk result (λ outcome. outcome
-        ≡ outcome_with (M.cores machine.now) (M.memory machine.now) (M.image machine.now).words loads) }
+        ≡ outcome_with (M.cores machine.now) (M.words machine.now) (M.image machine.now).words loads) }
 {
     let cores = cores_of(alloc, machine, params.cores)?;
     let words = words_of(alloc, machine, params.words)?;
@@ -49,7 +49,7 @@ fn words_of<M: SteppedMachine>(alloc: Global, machine: &M, words: u32) -> Made<I
     requires done { M.ended machine.now ≡ true }
     requires words { words ≡ (M.image machine.now).words }
     requires whole { words % BLOCK_WORDS ≡ 0 }
-    ensures { IfOk result (λ list. list ≡ words_in (M.memory machine.now) (M.image machine.now).words) }
+    ensures { IfOk result (λ list. list ≡ words_in (M.words machine.now) (M.image machine.now).words) }
 {
     let mut list = Vec::with_capacity(alloc, words as usize)?;
     for block in 0..words / BLOCK_WORDS as u32 {

@@ -10,6 +10,7 @@ pub mod MoveFrames
 pub mod Promises
 pub mod Queues
 pub mod MarkCounts
+pub mod MarkNumbers
 pub mod MarksAfterMoves
 pub mod RequestRoom
 pub mod Standings

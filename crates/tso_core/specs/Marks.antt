@@ -1,5 +1,5 @@
 -- Which moves can be made, one bit a core in a set for each kind of move.
-use Rattle.std.specs.Prelude.{◌≡◌, ℕ, List, ◌++◌, length, map}
+use Rattle.std.specs.Prelude.{◌≡◌, ℕ, ◌-◌, ◌==◌, if◌then◌else◌, Option, Some, None, List, ◌++◌, length, map}
 use Rattle.access_times.specs.Riding.{Riding, Carrying}
 use Rattle.rtr_types.specs.CoreSets.{has}
 use Rattle.move_marks.specs.declared.marks.MarkedMove.{MarkedMove}
@@ -31,6 +31,11 @@ marked_past_own marks = map (λ c. OrderMove c) (members marks.orders) ++ map mo
 -- the marked moves, in order
 abbrev pub marked : Marks → List Move
 marked marks = map (λ c. CoreMove c) (members (set_of Own marks.moves)) ++ marked_past_own marks
+
+-- the number of the last marked move, where it is one of a message
+abbrev pub last_at_port : Marks → Option ℕ
+last_at_port marks =
+    if length (marked_at_ports marks.moves) == 0 then None else Some (length (marked marks) - 1)
 
 module _ {R K : Type 0} where
   -- of so many cores exactly those are marked that can move, and that can order their oldest pending access

@@ -16,6 +16,8 @@
 //! ordered so far, the rider that the clerk is handed with an ordered access has exactly the last write of its word.
 //! For an access that writes it also has each core's last read since. The step leaves the riders with the times of
 //! these and of that access, noted with the clerk's clock. A machine as `new` makes it has the times of no access.
+//! `moves` marks exactly the moves that can be made, in the order in which a choice numbers them. `need`, `oldest` and
+//! `stores` are what a core's next instruction needs, its oldest pending access and how many of these are stores.
 #![tactic(auto)]
 
 mod machine;
@@ -33,4 +35,5 @@ mod timed;
 mod working;
 
 pub use machine::BufferedMachine;
+pub use marks::Marks;
 pub use tso_state::Move;

@@ -3,11 +3,13 @@ ghost use Rattle.std.specs.Prelude.{◌≡◌, ◌<◌, ◌≤◌, ◌/◌, ◌%
 ghost use Rattle.std.specs.Prelude.{slice_index, true};
 ghost use Rattle.access_times.specs.Riding.{none_carrying, none_riding};
 ghost use Rattle.rtr_types.specs.Parameters.{Fits};
+ghost use Rattle.rv_core.specs.Steps.{need};
 ghost use Rattle.rtr_types.specs.declared.TheConstants.{BLOCK_WORDS, CORES_MAX};
 ghost use Rattle.machine_data.specs.Coherent.{opening_memory};
 ghost use Rattle.msi_directory.specs.Blocks.{touched};
 ghost use Rattle.msi_memory.specs.Rests.{RoomsMade};
 ghost use Rattle.tso_state.specs.FinalMemory.{final_word};
+ghost use Rattle.tso_state.specs.Pending.{stores_in};
 ghost use Rattle.tso_state.specs.Runs.{chosen, opening_state};
 ghost use Rattle.tso_state.specs.States.{all_done, core_at, state_start};
 ghost use Rattle.tso_state.specs.Steps.{event, moves};
@@ -17,6 +19,7 @@ ghost use Rattle.tso_plain.specs.Plain.{plain};
 ghost use Rattle.tso_core.specs.Machineries.{heads_roomy};
 ghost use Rattle.tso_core.specs.Marks.{AllMarked, marked};
 ghost use Rattle.tso_core.specs.Numbers.{IsTaken};
+ghost use Rattle.tso_core.specs.Queues.{oldest};
 ghost use Rattle.tso_core.specs.Steppings.{HasMoved, KeepsPromises};
 ghost use Rattle.tso_core.specs.Moving.{AcceptsOf, TellsOf};
 ghost use Rattle.machine_ports.specs.Writers.{OneWriterEach};
@@ -29,10 +32,11 @@ use image_mem::Image;
 use machine_ports::SteppedMachine;
 use move_marks::{make_room, with_late};
 use rtr_types::{BLOCK_WORDS, CORES_MAX, Params};
+use rv_core::{Need, Program};
 use std::alloc::{AllocError, Global};
 use std::marker::Model;
 use tso_clerk::TsoClerk;
-use tso_state::Move;
+use tso_state::{Move, Pending};
 
 /// A machine of some cores with store buffers, in a state of a run. Contracts see that state, and which of the
 /// home's blocks have room for a request.
@@ -86,9 +90,31 @@ impl<R: Rider, K: Carry> BufferedMachine<R, K> {
         ensures one_writer { IfOk result (λ machine. OneWriterEach R.riding K.carrying machine.state.memory) }
         ensures untouched { IfOk result (λ machine. touched machine.rooms ≡ 0) }
     {
+        let program = Program::new(alloc, image)?;
+        BufferedMachine::of_program(alloc, program, params)
+    }
+
+    /// The machine of a program, which is an image decoded beforehand, before its first step. No access is pending, no
+    /// cache holds a block, and nothing
+    /// is under way.
+    pub fn of_program(
+        alloc: Global,
+        program: Program,
+        params: Params,
+    ) -> Result<BufferedMachine<R, K>, AllocError>
+        requires fits { Fits params }
+        requires words { program.words ≡ params.words }
+        ensures start { IfOk result (λ machine.
+            machine.state ≡ state_start R.riding K.carrying program params.cores params.limit) }
+        ensures plain { IfOk result (λ machine. plain machine.state ≡ opening_state program params) }
+        ensures coherent { IfOk result (λ machine. Coherent R.riding K.carrying machine.state (opening_memory program)) }
+        ensures one_writer { IfOk result (λ machine. OneWriterEach R.riding K.carrying machine.state.memory) }
+        ensures untouched { IfOk result (λ machine. touched machine.rooms ≡ 0) }
+    {
+        let image = program.image();
         let words = image.words();
         prove!(words == params.words);
-        let parts = Parts::new(alloc, image, params.cores, params.limit)?;
+        let parts = Parts::new(alloc, program, params.cores, params.limit)?;
         let standings = first_standings(alloc, &parts.program, parts.cores.as_slice())?;
         let marks = first_marks(standings.as_slice());
         Ok(BufferedMachine {
@@ -164,6 +190,40 @@ impl<R: Rider, K: Carry> BufferedMachine<R, K> {
         taken
     }
 
+    /// Which moves can be made: exactly these are marked. They stand in the order in which a choice numbers them.
+    pub fn moves(&self) -> Marks
+        ensures all { AllMarked R.riding K.carrying self.now.state result }
+        ensures moves { marked result ≡ moves R.riding K.carrying self.now.state }
+    {
+        self.all_marks()
+    }
+
+    /// What a core's next instruction needs.
+    pub fn need(&self, core: u8) -> Need
+        requires { core < length self.now.state.cores }
+        ensures { result ≡ need self.now.state.image (core_at self.now.state.cores core).core }
+    {
+        // What always holds of a machine says this of its standings.
+        let _ = &self.parts;
+        self.standings[core as usize].need
+    }
+
+    /// The oldest of a core's pending accesses.
+    pub fn oldest(&self, core: u8) -> Option<Pending>
+        requires { core < length self.now.state.cores }
+        ensures { result ≡ oldest (core_at self.now.state.cores core).queue }
+    {
+        self.parts.cores[core as usize].queue.oldest()
+    }
+
+    /// How many of a core's pending accesses are stores.
+    pub fn stores(&self, core: u8) -> usize
+        requires { core < length self.now.state.cores }
+        ensures { result ≡ stores_in (core_at self.now.state.cores core).queue }
+    {
+        self.parts.cores[core as usize].queue.stores()
+    }
+
     /// The marks of the moves that can be made.
     #[inline(always)]
     pub(crate) fn all_marks(&self) -> Marks
@@ -203,13 +263,20 @@ impl<R: Rider, K: Carry> BufferedMachine<R, K> {
     pub fn into_image(self) -> Image
         ensures { result ≡ self.state.image }
     {
+        self.into_program().into_image()
+    }
+
+    /// The program that the machine runs.
+    pub fn into_program(self) -> Program
+        ensures { result ≡ self.state.image }
+    {
         let BufferedMachine {
             parts,
             standings: _standings,
             marks: _marks,
             mover: _mover,
         } = self;
-        parts.into_image()
+        parts.into_program()
     }
 
     /// Each core's number is its place, and below the greatest number of cores: a law for clerks that keep

@@ -6,7 +6,6 @@ ghost use Rattle.tso_state.specs.States.{buffered_start, state_start};
 
 use crate::station::Station;
 use access_times::{Carry, Rider};
-use image_mem::Image;
 use msi_memory::MemorySystem;
 use rv_core::Program;
 use std::alloc::{AllocError, Global};
@@ -38,14 +37,13 @@ impl<R: Rider, K: Carry> Parts<R, K> {
     /// The parts at the start, with so many cores, each of which executes at most `limit` instructions.
     pub(crate) fn new(
         alloc: Global,
-        image: Image,
+        program: Program,
         cores: u8,
         limit: u32,
     ) -> Result<Parts<R, K>, AllocError>
-        ensures state { IfOk result (λ parts. parts.state ≡ state_start R.riding K.carrying image cores limit) }
+        ensures state { IfOk result (λ parts. parts.state ≡ state_start R.riding K.carrying program cores limit) }
         ensures untouched { IfOk result (λ parts. touched parts.rooms ≡ 0) }
     {
-        let program = Program::new(alloc, image)?;
         let memory = MemorySystem::new(alloc, program.image(), cores)?;
         let cores = first_cores(alloc, cores, limit)?;
         Ok(Parts {
@@ -55,8 +53,8 @@ impl<R: Rider, K: Carry> Parts<R, K> {
         })
     }
 
-    /// The image that the cores run.
-    pub(crate) fn into_image(self) -> Image
+    /// The program that the cores run.
+    pub(crate) fn into_program(self) -> Program
         ensures { result ≡ self.state.image }
     {
         let Parts {
@@ -64,7 +62,7 @@ impl<R: Rider, K: Carry> Parts<R, K> {
             cores: _cores,
             memory: _memory,
         } = self;
-        program.into_image()
+        program
     }
 }
 

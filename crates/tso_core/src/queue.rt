@@ -62,6 +62,13 @@ impl PendingQueue {
         Some(self.places[0])
     }
 
+    /// How many of the accesses are stores.
+    pub(crate) fn stores(&self) -> usize
+        ensures { result ≡ stores_in self.now }
+    {
+        self.stores
+    }
+
     /// Whether no access is pending.
     pub(crate) fn is_empty(&self) -> bool
         ensures { result ≡ is_nil self.now }

@@ -20,7 +20,7 @@ impl<R: Rider, K: Carry> SteppedMachine for BufferedMachine<R, K> {
 
     ghost cores = { λ m. map (λ t. t.core) m.state.cores };
 
-    ghost memory = { λ m. (plain m.state).memory };
+    ghost words = { λ m block. block_words none_riding none_carrying (plain m.state).memory block };
 
     ghost ended = { λ m. all_done m.state };
 

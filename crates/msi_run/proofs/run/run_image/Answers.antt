@@ -1,5 +1,7 @@
 use Rattle.std.proofs.Common.{ap, sym, ◌∙◌}
+use Rattle.access_times.specs.Riding.{none_carrying, none_riding}
 use Rattle.machine_plain.specs.Plain.{plain}
+use Rattle.msi_state.specs.FinalMemory.{final_words}
 use Rattle.run_outcome.proofs.RunPlaces.{outcome_is, stands_start}
 use Rattle.run_steps.proofs.RunStart.{under_way}
 use Rattle.run_steps.specs.Ends.{outcome_with}
@@ -22,7 +24,7 @@ returns-clause-outcome c =
     let start = stands_start a.image a.params a.schedule _ _ c.in_ok-machine.ensures.plain c.in_ok-clerk.ensures in
     let stands = c.in_ok-ended.ensures.stands _ _ _ _ start in
     let s = c.in_ok-ended.ended.machine.state in
-    c.in_ok-outcome.ensures ∙ ap (outcome_with s.cores (plain s).memory s.image.words) c.into_loads-loads.ensures
+    c.in_ok-outcome.ensures ∙ ap (outcome_with s.cores (final_words none_riding none_carrying (plain s)) s.image.words) c.into_loads-loads.ensures
     ∙ outcome_is _ _ _ stands.0 s _ _ c.requires.fits c.in_ok-ended.ensures.done stands.1
 
 pub returns-clause-image : goal.returns-clause-image

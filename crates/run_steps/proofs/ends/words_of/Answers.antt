@@ -1,10 +1,9 @@
 use Rattle.std.proofs.Common.{◌∙◌, arith}
-use Rattle.access_times.specs.Riding.{none_carrying, none_riding}
 use Rattle.run_steps.proofs.BlockWords.{words_more}
 use Rattle.run_steps.proofs.ends.words_of.Goals as goal
 
 pub loop-block-preserved : goal.loop-block-preserved
 loop-block-preserved g c =
     c.in_ok-extend_from_slice.ensures.items
-    ∙ words_more none_riding none_carrying (g.M.SteppedMachine.memory c.args.machine.now) c.loop-block.block _
-    c.final_words.result c.loop-block.invariant (grind arith) c.final_words.ensures
+    ∙ words_more (g.M.SteppedMachine.words c.args.machine.now) c.loop-block.block _ c.final_words.result
+    c.loop-block.invariant (grind arith) c.final_words.ensures

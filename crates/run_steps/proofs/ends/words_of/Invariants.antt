@@ -4,4 +4,4 @@ use Rattle.run_steps.proofs.ends.words_of.Given as goal
 
 -- the words so far
 abbrev pub invariant-loop-block : goal.invariant-loop-block
-invariant-loop-block g l = l.list.items ≡ words_in (g.M.SteppedMachine.memory l.machine) (l.block * 4)
+invariant-loop-block g l = l.list.items ≡ words_in (g.M.SteppedMachine.words l.machine) (l.block * 4)

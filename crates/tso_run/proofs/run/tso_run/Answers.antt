@@ -1,5 +1,7 @@
 use Rattle.std.proofs.Common.{ap, map, sym, ◌∙◌}
 use Rattle.std.proofs.lemmas.List.{length-map}
+use Rattle.access_times.specs.Riding.{none_carrying, none_riding}
+use Rattle.msi_memory.specs.Finals.{block_words}
 use Rattle.run_steps.proofs.RunStart.{under_way}
 use Rattle.run_steps.specs.Ends.{outcome_with}
 use Rattle.tso_outcome.proofs.RunPlaces.{outcome_is, stands_start}
@@ -30,7 +32,7 @@ returns-clause-outcome c =
     let start = stands_start a.image a.params a.schedule _ _ c.in_ok-machine.ensures.plain c.in_ok-clerk.ensures in
     let s = c.in_ok-ended.ended.machine.state in
     c.in_ok-outcome.ensures
-    ∙ ap (outcome_with (map (λ (t : BufferedCore). t.core) s.cores) (plain s).memory s.image.words)
+    ∙ ap (outcome_with (map (λ (t : BufferedCore). t.core) s.cores) (block_words none_riding none_carrying (plain s).memory) s.image.words)
     c.into_loads-loads.ensures
     ∙ outcome_is _ _ _ _ (plain s) _ _ c.requires.fits (sym (plain_done s) ∙ c.in_ok-ended.ensures.done)
     (c.in_ok-ended.ensures.stands _ _ _ _ start).1

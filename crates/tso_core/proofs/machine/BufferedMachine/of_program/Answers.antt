@@ -1,6 +1,7 @@
 -- At the start no move is marked but the cores' own, and all that a machine holds is true of the opening state by the
 -- laws of the start.
-use Rattle.std.proofs.Common.{◌≡◌, ◌∙◌, length, ℕ, arith}
+use Rattle.std.proofs.Common.{◌≡◌, ◌∙◌, ◌*◌, ◌≤◌, length, subst, ℕ, arith}
+use Rattle.image_mem.specs.Contents.{Contents}
 use Rattle.tso_state.specs.States.{BufferedCore, buffered_start}
 use Rattle.tso_plain.specs.Plain.{plain}
 use Rattle.tso_plain.proofs.ForgetfulSteps.{plain_start}
@@ -8,7 +9,7 @@ use Rattle.tso_core.specs.Standings.{standing_with}
 use Rattle.machine_ports.proofs.AtHand.{one_writer}
 use Rattle.machine_ports.proofs.CoreRanges.{kept_long}
 use Rattle.tso_core.proofs.StartMarks.{begun_coherent, begun_holds, notes_first}
-use Rattle.tso_core.proofs.machine.BufferedMachine.new.Goals as goal
+use Rattle.tso_core.proofs.machine.BufferedMachine.of_program.Goals as goal
 
 pub first_marks-marks-requires : goal.first_marks-marks-requires
 first_marks-marks-requires g c =
@@ -21,7 +22,7 @@ first_marks-marks-requires g c =
 
 pub invariant_of-result : goal.invariant_of-result
 invariant_of-result g c =
-    notes_first g.R.Rider.riding g.K.Carry.carrying c.args.image c.args.params.cores c.args.params.limit
+    notes_first g.R.Rider.riding g.K.Carry.carrying c.args.program c.args.params.cores c.args.params.limit
     c.in_ok-parts.parts c.in_ok-parts.ensures.state c.requires.fits.cores (omega arith) c.parts.view_is
     c.as_slice.ensures.value c.in_ok-standings.ensures c.as_slice-2.ensures.value c.first_marks-marks.result
     c.first_marks-marks.ensures.cores c.first_marks-marks.ensures.own c.first_marks-marks.ensures.orders
@@ -30,15 +31,20 @@ invariant_of-result g c =
 pub returns-clause-plain : goal.returns-clause-plain
 returns-clause-plain g c =
     (λ i. plain (c.in_ok-parts.ensures.state i))
-    ∙ plain_start g.R.Rider.riding g.K.Carry.carrying c.args.image c.args.params.cores c.args.params.limit
+    ∙ plain_start g.R.Rider.riding g.K.Carry.carrying c.args.program c.args.params.cores c.args.params.limit
 
 pub returns-clause-coherent : goal.returns-clause-coherent
 returns-clause-coherent g c =
-    begun_coherent g.R.Rider.riding g.K.Carry.carrying c.args.image c.args.params.cores c.args.params.limit
-    c.in_ok-parts.parts c.in_ok-parts.ensures.state (omega arith)
+    begun_coherent g.R.Rider.riding g.K.Carry.carrying c.args.program c.args.params.cores c.args.params.limit
+    c.in_ok-parts.parts c.in_ok-parts.ensures.state
+    (subst (λ (x : Contents). length x.bytes ≤ 4 * x.words) c.image-image.ensures (omega (
+      arith,
+      c.words-words.ensures.value,
+      c.words-words.ensures.room,
+    )))
 
 pub returns-clause-one_writer : goal.returns-clause-one_writer
 returns-clause-one_writer g c =
     one_writer g.R.Rider.riding g.K.Carry.carrying c.in_ok-parts.parts.state.memory
-    (begun_holds g.R.Rider.riding g.K.Carry.carrying c.args.image c.args.params.cores c.args.params.limit
+    (begun_holds g.R.Rider.riding g.K.Carry.carrying c.args.program c.args.params.cores c.args.params.limit
     c.in_ok-parts.parts c.in_ok-parts.ensures.state c.requires.fits.cores (omega arith)).memory

@@ -1,6 +1,6 @@
 -- At the start no move is marked but the cores' own, and all that a machine holds is true of the opening state by the
 -- laws of the start.
-use Rattle.std.proofs.Common.{◌≡◌, ◌∙◌, ap, sym, subst, false, length, ℕ, arith, List}
+use Rattle.std.proofs.Common.{◌≡◌, ◌∙◌, ◌*◌, ◌≤◌, ap, sym, subst, false, length, ℕ, arith, List}
 use Rattle.std.specs.Prelude.{map}
 use Rattle.image_mem.specs.Contents.{Contents}
 use Rattle.rv_core.specs.declared.core_state.Core.{Core}
@@ -19,7 +19,7 @@ use Rattle.msi_machine.specs.declared.standing.Standing.{Standing}
 use Rattle.msi_machine.specs.Standings.{may_begin, standing_with}
 use Rattle.msi_machine.proofs.AtHand.{one_writer}
 use Rattle.msi_machine.proofs.StartMarks.{notes_begin}
-use Rattle.msi_machine.proofs.machine.Machine.new.Goals as goal
+use Rattle.msi_machine.proofs.machine.Machine.of_program.Goals as goal
 
 pub first_marks-marks-requires : goal.first_marks-marks-requires
 first_marks-marks-requires g c =
@@ -32,21 +32,21 @@ first_marks-marks-requires g c =
 
 pub invariant_of-result : goal.invariant_of-result
 invariant_of-result g c =
-    let image : c.parts.inside.program ≡ c.args.image =
+    let image : c.parts.inside.program ≡ c.args.program =
     ap (λ (m : Machinery g.row.R.Denot g.row.K.Denot). m.state.image) c.parts.view_is
     ∙ ap (λ (s : State g.row.R.Denot g.row.K.Denot). s.image) c.in_ok-parts.ensures.state in
     let cores : c.as_slice.result.now ≡ c.in_ok-parts.parts.state.cores =
     c.as_slice.ensures.value ∙ ap (λ (m : Machinery g.row.R.Denot g.row.K.Denot). m.state.cores) c.parts.view_is in
-    notes_begin g.R.Rider.riding g.K.Carry.carrying c.args.image c.args.params.cores c.args.params.limit
+    notes_begin g.R.Rider.riding g.K.Carry.carrying c.args.program c.args.params.cores c.args.params.limit
     c.in_ok-parts.parts
     c.in_ok-standings.standings.items c.first_marks-marks.result c.in_ok-parts.ensures.state
     (subst (λ (s : State g.row.R.Denot g.row.K.Denot). MachineHolds g.R.Rider.riding g.K.Carry.carrying s)
     (sym c.in_ok-parts.ensures.state)
-    (holds_start g.R.Rider.riding g.K.Carry.carrying c.args.image c.args.params.cores c.args.params.limit
+    (holds_start g.R.Rider.riding g.K.Carry.carrying c.args.program c.args.params.cores c.args.params.limit
     c.requires.fits.cores (omega arith)))
     (c.in_ok-standings.ensures
     ∙ ap (λ (x : Contents). map (λ (core : Core). standing_with x core false) c.as_slice.result.now) image
-    ∙ ap (map (λ (core : Core). standing_with c.args.image core false)) cores)
+    ∙ ap (map (λ (core : Core). standing_with c.args.program core false)) cores)
     (c.first_marks-marks.ensures.cores ∙ ap (λ (xs : List Standing). length xs) c.as_slice-2.ensures.value)
     (λ k. c.first_marks-marks.ensures.own k ∙ ap (λ (xs : List Standing). may_begin xs k) c.as_slice-2.ensures.value)
     c.first_marks-marks.ensures.others
@@ -54,15 +54,19 @@ invariant_of-result g c =
 pub returns-clause-plain : goal.returns-clause-plain
 returns-clause-plain g c =
     ap (plain {R = g.row.R.Denot} {K = g.row.K.Denot}) c.in_ok-parts.ensures.state
-    ∙ plain_start g.R.Rider.riding g.K.Carry.carrying c.args.image c.args.params.cores c.args.params.limit
+    ∙ plain_start g.R.Rider.riding g.K.Carry.carrying c.args.program c.args.params.cores c.args.params.limit
 
 pub returns-clause-coherent : goal.returns-clause-coherent
 returns-clause-coherent g c =
     subst (λ (s : State g.row.R.Denot g.row.K.Denot). Coherent g.R.Rider.riding g.K.Carry.carrying s
-    (opening_memory c.args.image))
+    (opening_memory c.args.program))
     (sym c.in_ok-parts.ensures.state)
-    (start_coherent g.R.Rider.riding g.K.Carry.carrying c.args.image c.args.params.cores c.args.params.limit
-    (omega arith))
+    (start_coherent g.R.Rider.riding g.K.Carry.carrying c.args.program c.args.params.cores c.args.params.limit
+    (subst (λ (x : Contents). length x.bytes ≤ 4 * x.words) c.image-image.ensures (omega (
+      arith,
+      c.words-words.ensures.value,
+      c.words-words.ensures.room,
+    ))))
 
 pub returns-clause-idle : goal.returns-clause-idle
 returns-clause-idle g c =
@@ -74,5 +78,5 @@ returns-clause-one_writer g c =
     one_writer g.R.Rider.riding g.K.Carry.carrying c.in_ok-parts.parts.state
     (subst (λ (s : State g.row.R.Denot g.row.K.Denot). MachineHolds g.R.Rider.riding g.K.Carry.carrying s)
     (sym c.in_ok-parts.ensures.state)
-    (holds_start g.R.Rider.riding g.K.Carry.carrying c.args.image c.args.params.cores c.args.params.limit
+    (holds_start g.R.Rider.riding g.K.Carry.carrying c.args.program c.args.params.cores c.args.params.limit
     c.requires.fits.cores (omega arith)))
