@@ -1,7 +1,7 @@
 "use strict";
 const run = /*DATA*/;
 const ROW = 24, TOP = 20, ROWS = 400, FOOT = 15;
-const [CORE, COUNT, LEVEL, DOES, ADDRESS, KIND, LOGGED, REST, LOSES] = [0, 1, 2, 3, 4, 5, 6, 7, 8];
+const [CORE, COUNT, LEVEL, DOES, ADDRESS, KIND, LOGGED, REST, LOSES, TWIN] = [0, 1, 2, 3, 4, 5, 6, 7, 8, 9];
 const by = (id) => document.getElementById(id);
 const states = run.states, last = states ? states.rows.length - 1 : 0;
 let first = 0, picked = null, word = "";
@@ -15,7 +15,7 @@ const numbered = new Map(run.nodes.map((_, number) => [name(number), number]));
 
 function said(number) {
   const it = run.nodes[number];
-  return [it[DOES], it[LOSES], it[LOGGED] ? "logged" : "", it[REST]].filter(Boolean).join("   ");
+  return [it[DOES], it[LOSES], it[TWIN], it[LOGGED] ? "logged" : "", it[REST]].filter(Boolean).join("   ");
 }
 
 // The instructions, of the word alone where one is chosen, and a row for each of their levels: empty rows are left out.
@@ -53,7 +53,8 @@ function arrow(edge, there, kind, colour) {
 function dot(number, { x, y }) {
   const it = run.nodes[number], lane = run.lanes[it[CORE]];
   const state = (number === picked ? " picked" : "") + (isFuture(number) ? " future" : "");
-  const look = `class="dot${it[LOGGED] ? " ring" : ""}${it[LOSES] ? " lost" : ""}${state}" data-n="${number}"`;
+  const kinds = (it[LOGGED] ? " ring" : "") + (it[LOSES] || it[TWIN] ? " lost" : "") + state;
+  const look = `class="dot${kinds}" data-n="${number}"`;
   const shape = ["store", "amo"].includes(it[KIND])
     ? `<rect ${look} x="${x - 4.5}" y="${y - 4.5}" width="9" height="9"/>`
     : `<circle ${look} cx="${x}" cy="${y}" r="4.5"/>`;

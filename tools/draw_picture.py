@@ -264,14 +264,14 @@ class Picture:
             out.append("Ring: a logged load, which no edge orders: a replay gives it its value from the recording.")
         if any(it.lost for at, it in self.told.items() if at in self.rows):
             out.append(
-                "loses C:N: a lost update. Both cores read one value before the next write, and this write overwrites"
-                " what the other core made of it, unseen."
+                "Red: a lost update. Two cores read one value before the next write, and the write that loses C:N"
+                " overwrites what the other core made of that value, unseen."
             )
         return out
 
     def dot(self, at):
         (x, y), lane, told = self.place(at), self.lanes[at[0]], self.told.get(at, Told())
-        look = ("ring" if self.is_ring(at) else "mark") + (" lost" if told.lost else "")
+        look = ("ring" if self.is_ring(at) else "mark") + (" lost" if told.lost or told.twin else "")
         title = f"<title>{at[0]}:{at[1]}</title>"
         if told.kind in ("store", "amo"):
             out = [f'<rect class="{look}" x="{x - 4}" y="{y - 4}" width="8" height="8">{title}</rect>']
@@ -290,7 +290,8 @@ class Picture:
 
     def page(self):
         """The data of a page."""
-        nodes, heads, under = self.in_order(), [self.head(it) for it in self.lanes], [self.ends(it) for it in self.lanes]
+        nodes, heads = self.in_order(), [self.head(it) for it in self.lanes]
+        under = [self.ends(it) for it in self.lanes]
         if self.is_shared:
             heads, under = [f"{len(heads)} cores", *[""] * (len(heads) - 1)], [list(chain(*under))]
         number = {it: k for k, it in enumerate(nodes)}
@@ -318,4 +319,5 @@ class Picture:
         told = self.told.get(at, Told())
         return [
             *at, self.rows[at], told.does(), told.address, told.kind or "", told.logged, told.rest(), told.loses(),
+            told.read_as(),
         ]

@@ -10,12 +10,13 @@ MADE = 64
 class Told:
     """What is told of an instruction: its kind of access (load, store, amo, or None for a local one), the byte address
     of its word and its name, the value that it read and the one that it left, its text, its source line, whether it is
-    a logged load, and the writes that it overwrites without having read them."""
+    a logged load, the writes that it overwrites without having read them, and for a read before such a loss the other
+    core's read of the same value."""
 
     def __init__(self, kind=None, address=None, value=None, left=None, name="", text="", line=""):
         self.kind, self.address, self.value, self.left = kind, address, value, left
         self.name, self.text, self.line, self.logged = name, text, line, False
-        self.made, self.lost = {}, []
+        self.made, self.lost, self.twin = {}, [], None
 
     def word(self):
         """The word by its name, or by its byte address in brackets."""
@@ -39,8 +40,12 @@ class Told:
         first, last = (f"{core}:{count}" for core, count in (self.lost[0], self.lost[-1])) if self.lost else ("", "")
         return "" if not self.lost else f"loses {first}" + ("" if first == last else f" to {last}")
 
+    def read_as(self):
+        """The mark of a read that a lost update begins with."""
+        return f"read by {self.twin[0]}:{self.twin[1]} too before either wrote" if self.twin else ""
+
     def said(self):
-        parts = (self.does(), self.loses(), "logged" if self.logged else "", self.rest())
+        parts = (self.does(), self.loses(), self.read_as(), "logged" if self.logged else "", self.rest())
         return "   ".join(it for it in parts if it)
 
 
@@ -115,8 +120,8 @@ def told_of_program(logs, loads, program):
 
 
 class Word:
-    """A word while its accesses are gone over: its writes, each with how many of them its core had seen before; and of
-    each core its latest load, with how many writes that saw."""
+    """A word while its accesses are gone over: its writes, each with the read that it is made of and how many writes
+    that saw; and of each core its latest load, with how many writes that saw."""
 
     def __init__(self):
         self.writes, self.seen = [], {}
@@ -126,20 +131,22 @@ class Word:
         self.seen[at[0]] = None if logged else (at[1], len(self.writes))
 
     def write(self, at, told):
-        """Answers the writes of other cores that this one overwrites, where it is made of an older value, and the first
-        of them is made of that value too."""
+        """Answers the writes of other cores that this one overwrites, where it is made of an older value and the first
+        of them is made of that value too, and then both reads of that value."""
         count, saw = self.seen.get(at[0]) or (None, None)
         based = count is not None and told.made.get(told.address) == count
         missed = self.writes[saw:] if based and told.left is not None else []
-        lost = [it for it, _ in missed] if missed and missed[0][1] == saw and missed[0][0][0] != at[0] else []
-        self.writes.append((at, saw if based else None))
-        return [it for it in lost if it[0] != at[0]]
+        self.writes.append((at, count if based else None, saw if based else None))
+        if not missed or missed[0][2] != saw or missed[0][0][0] == at[0]:
+            return [], []
+        first, read, _ = missed[0]
+        return [it for it, _, _ in missed if it[0] != at[0]], [(at[0], count), (first[0], read)]
 
 
 def mark_lost(told, rows):
     """Marks lost updates: two reads of one value come before the next write, which is made of it, and the other core's
-    write, made of it as well, comes later. Rows that obey the logs have the accesses to each word in their order, but
-    for reads between the same writes."""
+    write, made of it as well, comes later. Both reads are marked, and the later write. Rows that obey the logs have the
+    accesses to each word in their order, but for reads between the same writes."""
     words = {}
     for at in sorted((it for it in told if it in rows), key=lambda it: (rows[it], it)):
         it = told[at]
@@ -149,7 +156,9 @@ def mark_lost(told, rows):
         if it.kind in READS:
             word.read(at, it.logged)
         if it.kind in WRITES:
-            it.lost = word.write(at, it)
+            it.lost, reads = word.write(at, it)
+            for one, other in zip(reads, reads[::-1]):
+                told[one].twin = other
 
 
 def relation(source, target):
