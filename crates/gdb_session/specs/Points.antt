@@ -13,6 +13,10 @@ use Rattle.gdb_packets.specs.declared.replies.Why.TheVariants.{Breakpoint, Watch
 use Rattle.gdb_session.specs.declared.TheConstants.{POINTS_MAX}
 use Rattle.gdb_session.specs.declared.points.Point.{Point}
 
+-- the most points of one kind that are kept; `sizes_law` ties the code's constant, which the definitions cite, to it
+abbrev pub points_max : ℕ
+points_max = 256
+
 -- ---- which points are one
 
 -- points of this kind watch memory

@@ -23,6 +23,7 @@ mod commanded;
 mod direction;
 mod ends;
 mod hearing;
+pub mod laws;
 mod memory;
 mod moves;
 mod orders;

@@ -1,5 +1,6 @@
 //! What is told of a place, without moving.
 ghost use Rattle.std.specs.Prelude.{◌≡◌, ◌<◌, IfOk};
+ghost use Rattle.replay_core.specs.Plans.{recorded_image};
 ghost use Rattle.gdb_session.specs.Seats.{Sees};
 ghost use Rattle.gdb_session.specs.Told.{place_reply, still_reply, there_reply, thread_reply, told_stop, word_reply};
 ghost use Rattle.gdb_session.specs.Wishes.{Fit};
@@ -46,6 +47,7 @@ pub(crate) fn still_reply(
         Plain::Registers | Plain::Register(_) | Plain::Memory(_) => place_reply(
             alloc,
             audited,
+            image,
             place,
             wishes.looked,
             plain,
@@ -96,18 +98,20 @@ fn thread_reply(
 fn place_reply(
     alloc: Global,
     audited: &Audited,
+    image: &Image,
     place: &Place,
     core: u8,
     plain: Plain,
 ) -> Result<Reply, AllocError>
     requires recording { audited.now.recording ≡ place.now.recording }
+    requires image { image.now ≡ recorded_image place.now.recording }
     requires core { core < place.now.recording.params.cores }
     ensures { IfOk result (λ reply. reply ≡ place_reply place.now core plain) }
 {
     let total = audited.recording().totals.as_slice()[core as usize];
     match plain {
-        Plain::Registers => registers_reply(alloc, place, core, total),
-        Plain::Register(number) => register_reply(alloc, place, core, total, number),
+        Plain::Registers => registers_reply(alloc, image, place, core, total),
+        Plain::Register(number) => register_reply(alloc, image, place, core, total, number),
         Plain::Memory(span) => memory_reply(alloc, place, audited.recording().params.words, span),
         _ => Ok(Reply::Unknown),
     }

@@ -19,7 +19,7 @@ pub const USAGE: &str =
 edges C:N | writer ADDR | readers ADDR | history ADDR | conflicts C:N | order C:N C:N\n";
 
 /// Where the place is and goes, what comes before what, and what is asked on the way.
-pub static PLACES: [Told; 16] = [
+pub static PLACES: [Told; 18] = [
     told!("cut" => "cut 32 26 32 26\n"),
     told!("edges 2:33" => "2:33 pc 00000098 load 000010f8 00000001\n"),
     told!("conflicts 2:33" =>
@@ -35,6 +35,10 @@ pub static PLACES: [Told; 16] = [
     told!("order 1:60 0:30" => "after\n"),
     told!("order 1:60 1:60" => "same\n"),
     told!("order 0:1 1:1" => "unordered\n"),
+    told!("goto 1:174" => "cut 165 174 157 159\n"),
+    told!("readers 4344" =>
+        "2:155 pc 00000098 load 000010f8 0000000d\n\
+        1:174 pc 0000008c load 000010f8 0000000d\n"),
     told!("goto 0 0 33 0" => "cut 0 0 33 0\n"),
     told!("goto 37 0 0 0" => "rtr_gdb: not closed; the least closed cut that contains it is 37 37 35 29\n"),
     told!(" cut " => "cut 0 0 33 0\n"),

@@ -1,6 +1,6 @@
 //! Commands of a debugger's user.
 use crate::command_rows::{PLACES, RUN, Told, UNKNOWN, USAGE};
-use crate::handed_over::handed_over;
+use crate::handed_over::{handed_over, many_loads};
 use crate::lock::lock;
 use crate::rows::{Row, plays};
 use gdb_monitor::payloads_of;
@@ -101,5 +101,21 @@ fn other_commands_are_refused(rt: HostRuntime) -> Result<(), Fail> {
         assert!(rt; right, "{command}");
     }
     assert!(rt; tells(rt.alloc(), &mut session, "cut", "cut 32 26 32 26\n")?);
+    Ok(())
+}
+
+/// How many payloads tell a command.
+fn payloads(alloc: Global, session: &mut Session, command: &str) -> Result<usize, Fail> {
+    let digits = hex::encode(alloc, command)?;
+    let packet = format!(in alloc; "qRcmd,{digits}")?;
+    Ok(session.answer(alloc, packet.as_bytes())?.payloads.len())
+}
+
+// 221,298 bytes in frames of 1000, and one frame behind them.
+#[test]
+fn a_long_history_is_told(rt: HostRuntime) -> Result<(), Fail> {
+    let audited = many_loads(rt.alloc())?;
+    let mut session = Session::begin(rt.alloc(), &audited)?;
+    assert_eq!(rt; payloads(rt.alloc(), &mut session, "history 64")?, 223);
     Ok(())
 }

@@ -24,6 +24,19 @@ pub static STEPS: [Row; 18] = [
     asked!("bs" => "T05thread:1;replaylog:begin;"),
 ];
 
+/// A program that ends at an EBREAK, by its pc and by how many instructions it has retired.
+pub static BREAK: [Row; 9] = [
+    asked!("vCont;s:1" => "T05thread:1;"),
+    asked!("p20" => "04000000"),
+    asked!("p21" => "01000000"),
+    asked!("vCont;c" => "T05thread:1;"),
+    asked!("p20" => "04000000"),
+    asked!("p21" => "02000000"),
+    asked!("bs" => "T05thread:1;"),
+    asked!("p20" => "04000000"),
+    asked!("p21" => "01000000"),
+];
+
 /// Breakpoints of both kinds.
 pub static BREAKS: [Row; 17] = [
     asked!("Z0,8,4" => "OK"),

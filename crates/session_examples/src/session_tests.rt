@@ -1,7 +1,7 @@
 //! Sessions on a recording of two cores.
-use crate::handed_over::handed_over;
+use crate::handed_over::{handed_over, one_break};
 use crate::rows::{Row, plays};
-use crate::session_rows::{BREAKS, STEPS, STILL, WATCHES};
+use crate::session_rows::{BREAK, BREAKS, STEPS, STILL, WATCHES};
 use crate::turn_rows::{BACK_ALONE, LEADS, ONE_CORE, OTHERS_BACK, TOLD, UNASKED, UNHEARD};
 use gdb_server::{Next, Partner};
 use gdb_session::Session;
@@ -107,11 +107,11 @@ fn an_interrupt_leaves_out_one_move(rt: HostRuntime) -> Result<(), Fail> {
     Ok(())
 }
 
-/// Sets breakpoints at the first `count` addresses, and answers how many of them were taken.
-fn taken(alloc: Global, session: &mut Session, count: u32) -> Result<u32, AllocError> {
+/// Sets points of a kind at the first `count` addresses, and answers how many of them were taken.
+fn taken(alloc: Global, session: &mut Session, kind: u32, count: u32) -> Result<u32, AllocError> {
     let mut all = 0;
     for at in 0..count {
-        let packet = format!(in alloc; "Z0,{at:x},4")?;
+        let packet = format!(in alloc; "Z{kind},{at:x},4")?;
         let answer = session.answer(alloc, packet.as_bytes())?;
         match answer.payloads.as_slice() {
             [one] if one.as_slice() == b"OK".as_slice() => all += 1,
@@ -125,9 +125,31 @@ fn taken(alloc: Global, session: &mut Session, count: u32) -> Result<u32, AllocE
 fn so_many_breakpoints_are_kept(rt: HostRuntime) -> Result<(), Fail> {
     let audited = handed_over(rt.alloc())?;
     let mut session = Session::begin(rt.alloc(), &audited)?;
-    assert_eq!(rt; taken(rt.alloc(), &mut session, 257)?, 256);
+    assert_eq!(rt; taken(rt.alloc(), &mut session, 0, 257)?, 256);
     assert!(rt; says(rt.alloc(), &mut session, "Z0,ff,4", "OK")?);
     assert!(rt; says(rt.alloc(), &mut session, "Z0,100,4", "E01")?);
     assert!(rt; says(rt.alloc(), &mut session, "Z1,100,4", "OK")?);
+    Ok(())
+}
+
+// As many ranges as a person watches at once.
+#[test]
+fn five_ranges_are_watched(rt: HostRuntime) -> Result<(), Fail> {
+    let audited = handed_over(rt.alloc())?;
+    let mut session = Session::begin(rt.alloc(), &audited)?;
+    assert_eq!(rt; taken(rt.alloc(), &mut session, 2, 5)?, 5);
+    assert_eq!(rt; taken(rt.alloc(), &mut session, 4, 5)?, 5);
+    Ok(())
+}
+
+// The program is a NOP and an EBREAK, whose pc stays where it was; a step back comes to the same pc.
+#[test]
+fn a_break_is_shown_at_itself(rt: HostRuntime) -> Result<(), Fail> {
+    let audited = one_break(rt.alloc())?;
+    let mut session = Session::begin(rt.alloc(), &audited)?;
+    for row in &BREAK {
+        let right = plays(rt.alloc(), &mut session, row)?;
+        assert!(rt; right, "{}", row.packet);
+    }
     Ok(())
 }
