@@ -1,5 +1,5 @@
 -- What a session's exit says of the recording. Each way to end is put together from what was greeted, read and said.
-use Rattle.std.proofs.Common.{◌≡◌, ℕ, List, Result, Ok, Err, IfErr, OnOk}
+use Rattle.std.proofs.Common.{◌≡◌, ℕ, List, Result, Ok, Err, IfErr, OnOk, inl, inr}
 use Rattle.std.specs.Prelude.{Option, None}
 use Rattle.gdb_packets.specs.declared.line.Line.{Line}
 use Rattle.gdb_packets.specs.Lines.{Wire}
@@ -15,7 +15,10 @@ use Rattle.rtr_cli.proofs.CompletenessLemmas.{lacks_memory}
 use Rattle.rtr_cli.proofs.RefusalLemmas.{refused_answers}
 use Rattle.state_text.specs.declared.exit.Exit.{Exit}
 use Rattle.state_text.specs.declared.exit.Exit.TheVariants as exits
-use Rattle.gdb_cli.specs.Sessions.{Converses, Debugs, Declines, first_wire, replayed_by}
+use Rattle.gdb_cli.specs.Sessions.{Converses, Debugs, DebugsStreams, Declines, IsHeld, Stream, first_wire}
+use Rattle.gdb_cli.specs.Sessions.{replayed_by, streams_passed}
+use Rattle.gdb_server.specs.Words.{StreamsPassed, Word}
+use Rattle.std.specs.Io.KnownBytes.{IsAtEnd}
 
 -- what `replay` gives nothing for has no session
 declines : (which : Which) (input : List ℕ) (exit : Exit) (file file' : Option (List ℕ))
@@ -42,22 +45,70 @@ lacked (Err exit) which file file' bytes input is accepts was refused =
     lacks_memory (replayed_by which) exit file file' bytes input is accepts was refused
 
 -- behind the first packet the session ends so
-pub declined : (which : Which) (exit : Exit) (file file' left left' got got' : Option (List ℕ)) (line : Line)
-    → GreetsSome first_wire line left left' got got' → Declines which exit file file'
-    → Debugs which exit file file' left left' got got'
-declined which exits.Done file file' left left' got got' line greeted it = absurd it
-declined which exits.WriteFault file file' left left' got got' line greeted it = absurd it
-declined which exits.Usage file file' left left' got got' line greeted it = absurd it
-declined which exits.ReadFault file file' left left' got got' line greeted it = it.0
-declined which exits.OutOfMemory file file' left left' got got' line greeted it = it.0
-declined which exit file file' left left' got got' line greeted it =
+pub declined : {C : Type 0} (passed : C → List Word → C → Type 0) (which : Which) (exit : Exit)
+    (file file' : Option (List ℕ)) (old new : C) (over : Type 0) (line : Line)
+    → GreetsSome first_wire line (λ words. passed old words new) → Declines which exit file file'
+    → Debugs passed which exit file file' old new over
+declined passed which exits.Done file file' old new over line greeted it = absurd it
+declined passed which exits.WriteFault file file' old new over line greeted it = absurd it
+declined passed which exits.Usage file file' old new over line greeted it = absurd it
+declined passed which exits.ReadFault file file' old new over line greeted it = it.0
+declined passed which exits.OutOfMemory file file' old new over line greeted it = it.0
+declined passed which exit file file' old new over line greeted it =
     record { line = line; greeted = greeted; declines = it }
 
 -- a session that begins so and talks to its end
 pub conversed : {E : Type 0} (result : Result Unit E) (a : Findings) (first last : Seat) (wire : Wire)
-    (payload : List ℕ) (left left' got got' : Option (List ℕ)) → Begins a first
-    → OnOk result (Talked AnswersPacket (λ old new. new ≡ interrupted old) wire first payload last left left' got got')
-    → OnOk result (Converses a wire payload left left' got got')
-conversed (Ok done) a first last wire payload left left' got got' begins talked =
+    (payload : List ℕ) (passed : List Word → Type 0) (over : Type 0) → Begins a first
+    → OnOk result (Talked AnswersPacket (λ old new. new ≡ interrupted old) wire first payload last passed over)
+    → OnOk result (Converses a wire payload passed over)
+conversed (Ok done) a first last wire payload passed over begins talked =
     record { first = first; last = last; begins = begins; talked = talked }
-conversed (Err fault) a first last wire payload left left' got got' begins talked = tt
+conversed (Err fault) a first last wire payload passed over begins talked = tt
+
+-- ---- over two streams
+
+module _ {C : Type 0} (left got : C → Option (List ℕ)) where
+  abbrev by_streams : C → List Word → C → Type 0
+  by_streams old words new = StreamsPassed (left old) (left new) (got old) (got new) words
+
+  abbrev stream : C → Stream
+  stream c = record { left = left c; got = got c }
+
+  greeted_so : (old new : C) (line : Line) → GreetsSome first_wire line (λ words. by_streams old words new)
+      → GreetsSome first_wire line (λ words. streams_passed (stream old) words (stream new))
+  greeted_so old new line g = record {
+    heard = g.heard;
+    words = g.words;
+    before = g.before;
+    is_said = g.is_said;
+    byte = g.byte;
+    ends = g.ends;
+    shows = g.shows;
+    passed_is = g.passed_is;
+  }
+
+  held_so : (which : Which) (file file' : Option (List ℕ)) (old new : C)
+      → IsHeld by_streams which file file' old new (IsAtEnd (left new))
+      → IsHeld streams_passed which file file' (stream old) (stream new) (IsAtEnd (left new))
+  unfolding greeted_so
+  held_so which file file' old new h = record {
+    line = h.line;
+    behind = stream h.behind;
+    greeted = greeted_so old h.behind h.line h.greeted;
+    findings = h.findings;
+    audited = h.audited;
+    session = h.session;
+  }
+
+  pub over_streams : (which : Which) (exit : Exit) (file file' : Option (List ℕ)) (old new : C)
+      → Debugs by_streams which exit file file' old new (IsAtEnd (left new))
+      → DebugsStreams which exit file file' (left old) (left new) (got old) (got new)
+  over_streams which exits.Done file file' old new (inl none) =
+      inl (record { greeted = none.greeted; untouched = none.untouched })
+  over_streams which exits.Done file file' old new (inr held) = inr (held_so which file file' old new held)
+  over_streams which exits.ReadFault file file' old new it = it
+  over_streams which exits.WriteFault file file' old new it = it
+  over_streams which exits.OutOfMemory file file' old new it = it
+  over_streams which exit file file' old new it =
+      record { line = it.line; greeted = greeted_so old new it.line it.greeted; declines = it.declines }

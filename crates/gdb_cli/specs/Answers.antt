@@ -11,7 +11,7 @@ use Rattle.state_text.specs.declared.exit.Exit.{Exit}
 use Rattle.state_text.specs.declared.exit.Exit.TheVariants as exits
 use Rattle.gdb_cli.specs.declared.words.Moment.{Moment}
 use Rattle.gdb_cli.specs.Cores.{MakesCore, printed_by}
-use Rattle.gdb_cli.specs.Sessions.{Debugs, replayed_by}
+use Rattle.gdb_cli.specs.Sessions.{DebugsStreams, replayed_by}
 use Rattle.gdb_cli.specs.Words.{file_name, moment_in}
 use Rattle.rtr_types.specs.declared.pairs.Which.{Which}
 
@@ -56,7 +56,7 @@ pub record IsAnswerOf (asked : Option Moment) (exit : Exit) (left left' got got'
 -- recording that `rtr replay` accepts there is a session to its end, unless memory runs out or a stream fails
 pub record IsSessionOf (which : Which) (exit : Exit) (file file' left left' got got' : Option (List ℕ))
     (opened opened' read read' written written' : ℕ) : Type 0 where
-  pub debugs : Debugs which exit file file' left left' got got'
+  pub debugs : DebugsStreams which exit file file' left left' got got'
   pub read_fault : exit ≡ exits.ReadFault → HasRisen opened opened' ⊎ HasRisen read read'
   pub no_read_fault : (exit ≡ exits.ReadFault) ⊎ (opened' ≡ opened) × (read' ≡ read)
   pub write_fault : exit ≡ exits.WriteFault → HasRisen written written'

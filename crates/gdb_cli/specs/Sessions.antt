@@ -1,12 +1,13 @@
 -- Rule: a debugger's session on a recording, up to an exit: Debugs, IsHeld, IsDeclined
 -- A debugger's session on a recording: what is heard and said, and what each way to end says of the recording.
 use Rattle.std.specs.Prelude.{◌≡◌, ℕ, ◌⊎◌, false, true, List, [], Option, None}
-use Rattle.std.specs.Io.KnownBytes.{Keeps}
+use Rattle.std.specs.Io.KnownBytes.{IsAtEnd, Keeps}
 use Rattle.gdb_packets.specs.Frames.{Between}
 use Rattle.gdb_packets.specs.Lines.{Wire, payload_in}
 use Rattle.gdb_packets.specs.declared.line.Line.{Line}
 use Rattle.gdb_server.specs.Sessions.{GreetsNobody, GreetsSome, Talked}
 use Rattle.gdb_server.specs.Wires.{behind_byte}
+use Rattle.gdb_server.specs.Words.{StreamsPassed, Word}
 use Rattle.gdb_session.specs.Answers.{AnswersPacket}
 use Rattle.gdb_session.specs.Seats.{Begins, Seat, interrupted}
 use Rattle.log_codec.specs.Reading.{whole_at}
@@ -29,12 +30,12 @@ first_wire = record { at = Between; acks = true; last = [] }
 
 -- a session on this audited recording, which begins before the first instruction: the first packet is answered, and
 -- then each that comes, up to an answer that ends the session or to the end of what is heard
-pub record Converses (a : Findings) (wire : Wire) (payload : List ℕ) (left left' got got' : Option (List ℕ))
+pub record Converses (a : Findings) (wire : Wire) (payload : List ℕ) (passed : List Word → Type 0) (over : Type 0)
     : Type 0 where
   pub first : Seat
   pub last : Seat
   pub begins : Begins a first
-  pub talked : Talked AnswersPacket (λ old new. new ≡ interrupted old) wire first payload last left left' got got'
+  pub talked : Talked AnswersPacket (λ old new. new ≡ interrupted old) wire first payload last passed over
 
 -- the recording that its source had left was read to its end, it is determinate by the log, and this is its audit
 pub record IsAudited (which : Which) (file file' : Option (List ℕ)) (a : Findings) : Type 0 where
@@ -49,34 +50,55 @@ Declines which exits.Done file file' = ⊥
 Declines which exits.WriteFault file file' = ⊥
 Declines which exit file file' = AnswersCommand (replayed_by which) exit file file' None None
 
--- what was heard ended before the first packet, and the recording wasn't touched
-pub record IsUnasked (file file' left left' got got' : Option (List ℕ)) : Type 0 where
-  pub greeted : GreetsNobody first_wire left left' got got'
-  pub untouched : Keeps file file'
+module _ {C : Type 0} where
+  -- what was heard ended before the first packet, and the recording wasn't touched
+  pub record IsUnasked (passed : C → List Word → C → Type 0) (file file' : Option (List ℕ)) (old new : C)
+      (over : Type 0) : Type 0 where
+    pub greeted : GreetsNobody first_wire (λ words. passed old words new) over
+    pub untouched : Keeps file file'
 
--- the first packet was heard and acknowledged, and then there was a session on the recording, which answered it first
-pub record IsHeld (which : Which) (file file' left left' got got' : Option (List ℕ)) : Type 0 where
-  pub line : Line
-  pub behind : Option (List ℕ)
-  pub said : Option (List ℕ)
-  pub greeted : GreetsSome first_wire line left behind got said
-  pub findings : Findings
-  pub audited : IsAudited which file file' findings
-  pub session : Converses findings (behind_byte greeted.before greeted.byte) (payload_in line) behind left' said got'
+  -- the first packet was heard and acknowledged, and then there was a session on the recording, which answered it first
+  pub record IsHeld (passed : C → List Word → C → Type 0) (which : Which) (file file' : Option (List ℕ)) (old new : C)
+      (over : Type 0) : Type 0 where
+    pub line : Line
+    pub behind : C
+    pub greeted : GreetsSome first_wire line (λ words. passed old words behind)
+    pub findings : Findings
+    pub audited : IsAudited which file file' findings
+    pub session : Converses findings (behind_byte greeted.before greeted.byte) (payload_in line)
+        (λ words. passed behind words new) over
 
--- the first packet was heard and acknowledged, nothing else was heard or said, and there is no session
-pub record IsDeclined (which : Which) (exit : Exit) (file file' left left' got got' : Option (List ℕ)) : Type 0 where
-  pub line : Line
-  pub greeted : GreetsSome first_wire line left left' got got'
-  pub declines : Declines which exit file file'
+  -- the first packet was heard and acknowledged, nothing else was heard or said, and there is no session
+  pub record IsDeclined (passed : C → List Word → C → Type 0) (which : Which) (exit : Exit)
+      (file file' : Option (List ℕ)) (old new : C) : Type 0 where
+    pub line : Line
+    pub greeted : GreetsSome first_wire line (λ words. passed old words new)
+    pub declines : Declines which exit file file'
 
--- what each way to end says of the recording that its source had left, and of what was heard and said. At a fault, and
--- where memory ran out, no more of the recording was taken than `replay` takes
-abbrev pub Debugs : Which → Exit → (file file' left left' got got' : Option (List ℕ)) → Type 0
-Debugs which exits.Done file file' left left' got got' =
-    IsUnasked file file' left left' got got' ⊎ IsHeld which file file' left left' got got'
-Debugs which exits.ReadFault file file' left left' got got' = IsTakenUpTo (most_of (replayed_by which)) file file'
-Debugs which exits.WriteFault file file' left left' got got' = IsTakenUpTo (most_of (replayed_by which)) file file'
-Debugs which exits.OutOfMemory file file' left left' got got' =
-    IsTakenUpTo (one_more (most_of (replayed_by which))) file file'
-Debugs which exit file file' left left' got got' = IsDeclined which exit file file' left left' got got'
+  -- what each way to end says of the recording that its source had left, and of what passed in the conversation. At a
+  -- fault, and where memory ran out, no more of the recording was taken than `replay` takes
+  abbrev pub Debugs : (passed : C → List Word → C → Type 0) → Which → Exit → (file file' : Option (List ℕ)) →
+      (old new : C) → (over : Type 0) → Type 0
+  Debugs passed which exits.Done file file' old new over =
+      IsUnasked passed file file' old new over ⊎ IsHeld passed which file file' old new over
+  Debugs passed which exits.ReadFault file file' old new over = IsTakenUpTo (most_of (replayed_by which)) file file'
+  Debugs passed which exits.WriteFault file file' old new over = IsTakenUpTo (most_of (replayed_by which)) file file'
+  Debugs passed which exits.OutOfMemory file file' old new over =
+      IsTakenUpTo (one_more (most_of (replayed_by which))) file file'
+  Debugs passed which exit file file' old new over = IsDeclined passed which exit file file' old new
+
+-- ---- over two streams
+
+-- what the one stream has left, and what the other got
+pub record Stream : Type 0 where
+  pub left : Option (List ℕ)
+  pub got : Option (List ℕ)
+
+abbrev pub streams_passed : Stream → List Word → Stream → Type 0
+streams_passed old words new = StreamsPassed old.left new.left old.got new.got words
+
+-- the same of a session whose bytes are heard from the one stream and said to the other
+abbrev pub DebugsStreams : Which → Exit → (file file' left left' got got' : Option (List ℕ)) → Type 0
+DebugsStreams which exit file file' left left' got got' =
+    Debugs streams_passed which exit file file' (record { left = left; got = got })
+    (record { left = left'; got = got' }) (IsAtEnd left')

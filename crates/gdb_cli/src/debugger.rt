@@ -9,6 +9,7 @@ ghost use Rattle.gdb_cli.specs.Words.{session_log};
 use crate::sessions::debug;
 use crate::tool::write_core;
 use crate::words::{file_name, session_log};
+use gdb_server::Streams;
 use rtr_cli::tell;
 use rtr_io::{Sink, Source};
 use rtr_types::Which;
@@ -22,20 +23,28 @@ pub fn run_debugger<F: Source + Drop, P: FnOnce(&str) -> F, I: Source, O: Sink, 
     alloc: Global,
     words: &[String],
     opener: P,
-    input: &mut I,
-    output: &mut O,
+    streams: &mut Streams<I, O>,
     report: &mut E,
 ) -> Exit
     requires { P.IsAlwaysCallable opener }
     ensures answered { IsAnswerIn (FnOnceReturnsAt P.FnOnce opener) F.left F.faults (map string_bytes words.now)
-        (session_log (map string_bytes words.now)) result (I.left input.old) (I.left input.new) (O.got output.old)
-        (O.got output.new) (I.faults input.old) (I.faults input.new) (O.faults output.old) (O.faults output.new) }
+        (session_log (map string_bytes words.now)) result (I.left streams.old.input) (I.left streams.new.input)
+        (O.got streams.old.output) (O.got streams.new.output) (I.faults streams.old.input) (I.faults streams.new.input)
+        (O.faults streams.old.output) (O.faults streams.new.output) }
     ensures told { Tells (fault_line result) (E.got report.old) (E.got report.new) (E.faults report.old)
         (E.faults report.new) }
 {
     let exit = match session_log(alloc, words) {
-        Ok(Some(which)) => debug_file(alloc, which, file_name(words), opener, input, output),
-        Ok(None) => return write_core(alloc, words, input, output, report),
+        Ok(Some(which)) => debug_file(alloc, which, file_name(words), opener, streams),
+        Ok(None) => {
+            return write_core(
+                alloc,
+                words,
+                &mut streams.input,
+                &mut streams.output,
+                report,
+            );
+        }
         Err(AllocError) => Exit::OutOfMemory,
     };
     tell(report, &exit);
@@ -48,14 +57,14 @@ fn debug_file<F: Source + Drop, P: FnOnce(&str) -> F, I: Source, O: Sink>(
     which: Which,
     name: &str,
     opener: P,
-    input: &mut I,
-    output: &mut O,
+    streams: &mut Streams<I, O>,
 ) -> Exit
     requires { P.IsAlwaysCallable opener }
     ensures { (file : F) × FnOnceReturnsAt P.FnOnce opener name.now file
-        × IsSessionIn F.left F.faults which result file (I.left input.old) (I.left input.new) (O.got output.old)
-        (O.got output.new) (I.faults input.old) (I.faults input.new) (O.faults output.old) (O.faults output.new) }
+        × IsSessionIn F.left F.faults which result file (I.left streams.old.input) (I.left streams.new.input)
+        (O.got streams.old.output) (O.got streams.new.output) (I.faults streams.old.input) (I.faults streams.new.input)
+        (O.faults streams.old.output) (O.faults streams.new.output) }
 {
     let mut file = opener(name);
-    debug(alloc, which, &mut file, input, output)
+    debug(alloc, which, &mut file, streams)
 }

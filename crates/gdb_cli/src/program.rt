@@ -9,6 +9,7 @@ ghost use Rattle.state_text.specs.declared.exit.Exit.{Exit};
 
 use crate::debugger::run_debugger;
 use crate::opened::Opened;
+use gdb_server::Streams;
 use rtr_cli::{arguments, tell};
 use rtr_io::{Sink, Source, StdSink, StdSource};
 use state_text::Exit;
@@ -30,8 +31,10 @@ pub fn run_program<R: AllocGlobal + Env + Files>(
         rt.alloc(),
         arguments(rt),
         |name: &str| Opened::new(fs::open(rt, name).ok()),
-        &mut StdSource::new(input),
-        &mut StdSink::new(output),
+        &mut Streams {
+            input: StdSource::new(input),
+            output: StdSink::new(output),
+        },
         &mut StdSink::new(report),
     )
 }
@@ -43,8 +46,7 @@ pub fn conclude<F: Source + Drop, P: FnOnce(&str) -> F, I: Source, O: Sink, E: S
     alloc: Global,
     words: Result<Vec<String>, Exit>,
     opener: P,
-    input: &mut I,
-    output: &mut O,
+    streams: &mut Streams<I, O>,
     report: &mut E,
 ) -> ExitCode
     requires { P.IsAlwaysCallable opener }
@@ -52,18 +54,20 @@ pub fn conclude<F: Source + Drop, P: FnOnce(&str) -> F, I: Source, O: Sink, E: S
         × EndsBy exit (exit_status result) (E.got report.old) (E.got report.new) (E.faults report.old)
         (E.faults report.new)
         × IsAnswerIn (FnOnceReturnsAt P.FnOnce opener) F.left F.faults (map string_bytes list.items)
-        (session_log (map string_bytes list.items)) exit (I.left input.old) (I.left input.new) (O.got output.old)
-        (O.got output.new) (I.faults input.old) (I.faults input.new) (O.faults output.old) (O.faults output.new)) }
+        (session_log (map string_bytes list.items)) exit (I.left streams.old.input) (I.left streams.new.input)
+        (O.got streams.old.output) (O.got streams.new.output) (I.faults streams.old.input) (I.faults streams.new.input)
+        (O.faults streams.old.output) (O.faults streams.new.output)) }
 
     // The words couldn't be had.
     ensures wordless { IfErr words (λ exit. EndsBy exit (exit_status result) (E.got report.old) (E.got report.new)
         (E.faults report.old) (E.faults report.new)) }
-    ensures untouched { IfErr words (λ _. Keeps (I.left input.old) (I.left input.new)
-        × Keeps (O.got output.old) (O.got output.new) × (I.faults input.new ≡ I.faults input.old)
-        × (O.faults output.new ≡ O.faults output.old)) }
+    ensures untouched { IfErr words (λ _. Keeps (I.left streams.old.input) (I.left streams.new.input)
+        × Keeps (O.got streams.old.output) (O.got streams.new.output)
+        × (I.faults streams.new.input ≡ I.faults streams.old.input)
+        × (O.faults streams.new.output ≡ O.faults streams.old.output)) }
 {
     let exit = match words {
-        Ok(words) => run_debugger(alloc, words.as_slice(), opener, input, output, report),
+        Ok(words) => run_debugger(alloc, words.as_slice(), opener, streams, report),
         Err(exit) => {
             tell(report, &exit);
             exit

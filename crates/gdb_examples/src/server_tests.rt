@@ -1,6 +1,6 @@
 //! Sessions over two streams in memory, with a partner that sends each packet back.
 use gdb_packets::Line;
-use gdb_server::{Answer, Next, Partner, TalkFault, greet, talk};
+use gdb_server::{Answer, Next, Partner, Streams, TalkFault, greet, talk};
 use rtr_io::{MemSink, MemSource};
 use rtr_types::Items;
 use std::alloc::{AllocError, Global};
@@ -49,27 +49,28 @@ struct Said {
 fn play(
     alloc: Global,
     echo: &mut Echo,
-    input: &mut MemSource,
-    output: &mut MemSink,
+    streams: &mut Streams<MemSource, MemSink>,
 ) -> Result<bool, TalkFault> {
     let mut line = Line::new(alloc)?;
-    if !greet(alloc, &mut line, input, output)? {
+    if !greet(alloc, &mut line, streams)? {
         return Ok(false);
     }
-    talk(alloc, echo, &mut line, input, output)?;
+    talk(alloc, echo, &mut line, streams)?;
     Ok(true)
 }
 
 /// What comes of these bytes. The writes of these numbers, from 1, fail.
 fn session(alloc: Global, sent: &[u8], failing: &[u64]) -> Result<Said, Fail> {
-    let mut input = MemSource::new(sent.to_vec(alloc)?, Vec::new(alloc), 64);
-    let mut output = MemSink::new(alloc, 256, failing.to_vec(alloc)?, 64)?;
+    let mut streams = Streams {
+        input: MemSource::new(sent.to_vec(alloc)?, Vec::new(alloc), 64),
+        output: MemSink::new(alloc, 256, failing.to_vec(alloc)?, 64)?,
+    };
     let mut echo = Echo { interrupts: 0 };
-    let ended = play(alloc, &mut echo, &mut input, &mut output);
+    let ended = play(alloc, &mut echo, &mut streams);
     Ok(Said {
         ended,
         interrupts: echo.interrupts,
-        written: output.bytes().to_vec(alloc)?,
+        written: streams.output.bytes().to_vec(alloc)?,
     })
 }
 

@@ -3,6 +3,7 @@
 use crate::calls::failing;
 use crate::session_rows::{File, Row};
 use gdb_cli::run_debugger;
+use gdb_server::Streams;
 use row_texts::{bytes, words};
 use rtr_io::{MemSink, MemSource};
 use std::alloc::{AllocError, Global};
@@ -53,15 +54,12 @@ fn status(
     alloc: Global,
     given: Given,
     there: &str,
-    output: &mut MemSink,
+    output: MemSink,
     report: &mut MemSink,
-) -> u8 {
-    let Given {
-        words,
-        file,
-        mut input,
-    } = given;
-    run_debugger(
+) -> (u8, MemSink) {
+    let Given { words, file, input } = given;
+    let mut streams = Streams { input, output };
+    let exit = run_debugger(
         alloc,
         words.as_slice(),
         move |name: &str| {
@@ -71,19 +69,18 @@ fn status(
                 MemSource::new(Vec::new(alloc), Vec::new(alloc), ROOM)
             }
         },
-        &mut input,
-        output,
+        &mut streams,
         report,
-    )
-    .status()
+    );
+    (exit.status(), streams.output)
 }
 
 /// Whether the row's call comes to what the row says.
 pub fn is_held(alloc: Global, row: &Row) -> Result<bool, AllocError> {
     let given = prepared(alloc, row)?;
-    let mut output = sink(alloc, row.output_fails)?;
+    let output = sink(alloc, row.output_fails)?;
     let mut report = sink(alloc, 0)?;
-    let status = status(alloc, given, row.name, &mut output, &mut report);
+    let (status, output) = status(alloc, given, row.name, output, &mut report);
     let said = output.bytes() == row.said && report.bytes() == row.report.as_bytes();
     Ok(status == row.status && said)
 }

@@ -1,1 +1,1 @@
-pub mod SessionLemmas
+mod SessionLemmas

@@ -2,16 +2,16 @@
 -- one keeps in a session; both say where the line stands behind the bytes so far, and how many there were.
 use Rattle.std.proofs.Common.{◌≡◌, ◌∙◌, refl, sym, ap, subst, append_assoc, ℕ, ◌+◌, ◌<◌, ◌≤◌, ◌&&◌, not, true, false}
 use Rattle.std.proofs.Common.{Bool, List, []}
-use Rattle.std.proofs.Common.{◌∷◌, ◌++◌, length, get_or, take, inl, inr, Option, Some, None}
-use Rattle.std.proofs.Common.{IfOk, Result, Ok, Err}
+use Rattle.std.proofs.Common.{◌∷◌, ◌++◌, length, get_or, take, inl, inr, map}
+use Rattle.std.proofs.Common.{IfOk, OnOk, Result, Ok, Err, Option}
+use Rattle.std.specs.Io.KnownBytes.{Appends}
+use Rattle.gdb_server.specs.Passing.{saying_passed}
 use Rattle.rtr_io.specs.Faults.{IsUnlessFault}
 use Rattle.std.proofs.lemmas.List.{append-nil, length-append, take_more}
 use Rattle.std.proofs.lemmas.List.Concat.{flat_map-append}
 use Rattle.std.specs.Prelude.{◌⊎◌}
-use Rattle.std.specs.Io.KnownBytes.{Appends, Consumes, IsAtEnd}
-use Rattle.rtr_io.proofs.MovedLemmas.{Appends-append, Consumes-append}
 use Rattle.gdb_packets.specs.Frames.{Event, Nothing, Packet, Broken, Interrupt, Again, framed, tells}
-use Rattle.gdb_packets.specs.Lines.{Shows, Wire, acknowledged, payload_in}
+use Rattle.gdb_packets.specs.Lines.{Shows, Wire, payload_in}
 use Rattle.gdb_packets.specs.Readers.{event_of}
 use Rattle.gdb_packets.specs.declared.line.Line.{Line}
 use Rattle.gdb_packets.specs.declared.reader.Told as outcome
@@ -24,7 +24,8 @@ use Rattle.gdb_server.specs.Hearing.{Follows, Hears, HearsNothing, SaysAnswer, i
 use Rattle.gdb_server.specs.Sessions.{GreetsNobody, GreetsSome, IsNoPacket, IsSaidTo, LeadsTo, Side, Talked}
 use Rattle.gdb_server.specs.Sessions.{Talking, Talks, Turn}
 use Rattle.gdb_server.specs.Sessions.{heard_max, listening}
-use Rattle.gdb_server.specs.Wires.{behind_answer, behind_byte, frames, is_last, last_frame, stops_acks}
+use Rattle.gdb_server.specs.Wires.{behind_answer, behind_byte, frames, heard_at, is_last, last_frame, stops_acks}
+use Rattle.gdb_server.specs.Words.{Heard, Said, StreamsPassed, Word, saying}
 
 -- ---- frames
 
@@ -74,124 +75,32 @@ shows_on wire answer line keeps shows =
     subst (λ (b : Bool). Shows (spoken wire b answer.payloads) line)
     (and_on wire.acks (stops_acks answer.next) keeps) shows
 
--- ---- nothing moves
+-- ---- words
 
-nothing_taken : (left : Option (List ℕ)) → Consumes left left []
-nothing_taken None = tt
-nothing_taken (Some bytes) = refl
-
-nothing_given : (got : Option (List ℕ)) → Appends got got []
-nothing_given None = tt
-nothing_given (Some bytes) = sym (append-nil bytes)
+saying-append : (first more : List ℕ) → saying (first ++ more) ≡ saying first ++ saying more
+saying-append [] more = refl
+saying-append (byte ∷ rest) more = ap (λ (l : List Word). Said byte ∷ l) (saying-append rest more)
 
 -- ---- before the first packet
 
 said_one : (wire : Wire) (byte : ℕ) → IsNoPacket (tells wire.at byte)
-    → IsSaidTo wire (byte ∷ []) ([] ++ acknowledged wire (tells wire.at byte)) (behind_byte wire byte)
-said_one wire byte none = (none, [], (refl, refl), sym (append-nil (acknowledged wire (tells wire.at byte))))
+    → IsSaidTo wire (byte ∷ []) ([] ++ heard_at wire byte) (behind_byte wire byte)
+said_one wire byte none = (none, [], (refl, refl), sym (append-nil (heard_at wire byte)))
 
 -- a byte more that ends no packet
-said_more : (old mid : Wire) (heard said : List ℕ) (byte : ℕ) → IsSaidTo old heard said mid
+said_more : (old mid : Wire) (heard : List ℕ) (words : List Word) (byte : ℕ) → IsSaidTo old heard words mid
     → IsNoPacket (tells mid.at byte)
-    → IsSaidTo old (heard ++ byte ∷ []) (said ++ acknowledged mid (tells mid.at byte)) (behind_byte mid byte)
-said_more old mid [] said byte (is, same) none =
-    subst
-    (λ (w : Wire). IsSaidTo old (byte ∷ []) (said ++ acknowledged w (tells w.at byte)) (behind_byte w byte)) (sym same)
-    (subst
-    (λ (s : List ℕ). IsSaidTo old (byte ∷ []) (s ++ acknowledged old (tells old.at byte)) (behind_byte old byte))
+    → IsSaidTo old (heard ++ byte ∷ []) (words ++ heard_at mid byte) (behind_byte mid byte)
+said_more old mid [] words byte (is, same) none =
+    subst (λ (w : Wire). IsSaidTo old (byte ∷ []) (words ++ heard_at w byte) (behind_byte w byte)) (sym same)
+    (subst (λ (s : List Word). IsSaidTo old (byte ∷ []) (s ++ heard_at old byte) (behind_byte old byte))
     (sym is) (said_one old byte (subst (λ (w : Wire). IsNoPacket (tells w.at byte)) same none)))
-said_more old mid (b ∷ rest) said byte (quiet, more, tail, is) none = (
+said_more old mid (b ∷ rest) words byte (quiet, more, tail, is) none = (
   quiet,
-  more ++ acknowledged mid (tells mid.at byte),
+  more ++ heard_at mid byte,
   said_more (behind_byte old b) mid rest more byte tail none,
-  ap (λ (l : List ℕ). l ++ acknowledged mid (tells mid.at byte)) is
-      ∙ append_assoc (acknowledged old (tells old.at b)) more (acknowledged mid (tells mid.at byte)),
+  ap (λ (l : List Word). l ++ heard_at mid byte) is ∙ append_assoc (heard_at old b) more (heard_at mid byte),
 )
-
--- so many bytes were heard, none of which ended a packet
-pub record Waits (wire : Wire) (line : Line) (left left' got got' : Option (List ℕ)) (count : ℕ) : Type 0 where
-  pub heard : List ℕ
-  pub said : List ℕ
-  pub behind : Wire
-  pub is_said : IsSaidTo wire heard said behind
-  pub shows : Shows behind line
-  pub taken : Consumes left left' heard
-  pub given : Appends got got' said
-  pub counted : length heard ≡ count
-
-pub waits_first : (wire : Wire) (line : Line) (left got : Option (List ℕ)) → Shows wire line
-    → Waits wire line left left got got 0
-waits_first wire line left got shows =
-    record {
-      heard = [];
-      said = [];
-      behind = wire;
-      is_said = (refl, refl);
-      shows = shows;
-      taken = nothing_taken left;
-      given = nothing_given got;
-      counted = refl;
-    }
-
--- one byte more
-waits_more : (wire : Wire) (line next : Line) (told : outcome.Told) (left mid left' got mid' got' : Option (List ℕ))
-    (count : ℕ) (w : Waits wire line left mid got mid' count) → IsNoPacket (event_of told (payload_in next))
-    → Hears w.behind told next mid left' mid' got' → Waits wire next left left' got got' (count + 1)
-waits_more wire line next told left mid left' got mid' got' count w none hears =
-    record {
-      heard = w.heard ++ hears.byte ∷ [];
-      said = w.said ++ acknowledged w.behind (tells w.behind.at hears.byte);
-      behind = behind_byte w.behind hears.byte;
-      is_said = said_more wire w.behind w.heard w.said hears.byte w.is_said
-          (subst (λ (e : Event). IsNoPacket e) hears.told_is none);
-      shows = hears.shows;
-      taken = Consumes-append left mid left' w.heard (hears.byte ∷ []) w.taken hears.taken;
-      given = Appends-append got mid' got' w.said (acknowledged w.behind (tells w.behind.at hears.byte)) w.given
-          hears.given;
-      counted = length-append w.heard (hears.byte ∷ []) ∙ ap (λ (n : ℕ). n + 1) w.counted;
-    }
-
--- the first packet
-greets_some : (wire : Wire) (line next : Line) (left mid left' got mid' got' : Option (List ℕ)) (count : ℕ)
-    (w : Waits wire line left mid got mid' count) → Hears w.behind told_as.Packet next mid left' mid' got'
-    → GreetsSome wire next left left' got got'
-greets_some wire line next left mid left' got mid' got' count w hears =
-    let given : Appends mid' got' (acknowledged w.behind (Packet (payload_in next))) =
-    subst (λ (e : Event). Appends mid' got' (acknowledged w.behind e)) (sym hears.told_is) hears.given in
-    let byte : ℕ = hears.byte in
-    record {
-      byte = byte;
-      heard = w.heard;
-      said = w.said;
-      before = w.behind;
-      is_said = w.is_said;
-      ends = sym hears.told_is;
-      shows = hears.shows;
-      taken = Consumes-append left mid left' w.heard (byte ∷ []) w.taken hears.taken;
-      given = Appends-append got mid' got' w.said (acknowledged w.behind (Packet (payload_in next))) w.given given;
-    }
-
-appends_nothing : (got mid got' : Option (List ℕ)) (said : List ℕ) → Appends got mid said → Appends mid got' []
-    → Appends got got' said
-appends_nothing got mid got' said first more =
-    subst (λ (l : List ℕ). Appends got got' l) (append-nil said) (Appends-append got mid got' said [] first more)
-
-consumes_nothing : (left mid left' : Option (List ℕ)) (heard : List ℕ) → Consumes left mid heard → Consumes mid left' []
-    → Consumes left left' heard
-consumes_nothing left mid left' heard first more =
-    subst (λ (l : List ℕ). Consumes left left' l) (append-nil heard)
-    (Consumes-append left mid left' heard [] first more)
-
--- whatever was told
-pub greets_told : (wire : Wire) (line next : Line) (told : outcome.Told)
-    (left mid left' got mid' got' : Option (List ℕ)) (count : ℕ) (w : Waits wire line left mid got mid' count)
-    → is_packet told ≡ true → Hears w.behind told next mid left' mid' got' → GreetsSome wire next left left' got got'
-greets_told wire line next told_as.Packet left mid left' got mid' got' count w is hears =
-    greets_some wire line next left mid left' got mid' got' count w hears
-greets_told wire line next told_as.Nothing left mid left' got mid' got' count w is hears = absurd cc
-greets_told wire line next told_as.Broken left mid left' got mid' got' count w is hears = absurd cc
-greets_told wire line next told_as.Interrupt left mid left' got mid' got' count w is hears = absurd cc
-greets_told wire line next told_as.Again left mid left' got mid' got' count w is hears = absurd cc
 
 no_packet : (told : outcome.Told) (payload : List ℕ) → is_packet told ≡ false → IsNoPacket (event_of told payload)
 no_packet told_as.Packet payload is = absurd cc
@@ -200,41 +109,100 @@ no_packet told_as.Broken payload is = tt
 no_packet told_as.Interrupt payload is = tt
 no_packet told_as.Again payload is = tt
 
-pub waits_told : (wire : Wire) (line next : Line) (told : outcome.Told)
-    (left mid left' got mid' got' : Option (List ℕ)) (count : ℕ) (w : Waits wire line left mid got mid' count)
-    → is_packet told ≡ false → Hears w.behind told next mid left' mid' got'
-    → Waits wire next left left' got got' (count + 1)
-waits_told wire line next told left mid left' got mid' got' count w is hears =
-    waits_more wire line next told left mid left' got mid' got' count w (no_packet told (payload_in next) is) hears
+packet_told : (told : outcome.Told) (payload : List ℕ) → is_packet told ≡ true → event_of told payload ≡ Packet payload
+packet_told told_as.Packet payload is = refl
+packet_told told_as.Nothing payload is = absurd cc
+packet_told told_as.Broken payload is = absurd cc
+packet_told told_as.Interrupt payload is = absurd cc
+packet_told told_as.Again payload is = absurd cc
 
--- none of the bytes so far ended a packet, and they are all that are heard
-nobody : (wire : Wire) (line : Line) (left mid left' got mid' got' : Option (List ℕ)) (count : ℕ)
-    (w : Waits wire line left mid got mid' count) → Consumes mid left' [] → Appends mid' got' []
-    → IsAtEnd left' ⊎ (heard_max ≤ length w.heard) → GreetsNobody wire left left' got got'
-nobody wire line left mid left' got mid' got' count w taken given ends =
-    record {
-      heard = w.heard;
-      said = w.said;
-      behind = w.behind;
-      is_said = w.is_said;
-      taken = consumes_nothing left mid left' w.heard w.taken taken;
-      given = appends_nothing got mid' got' w.said w.given given;
-      ends = ends;
-    }
+module _ {C : Type 0} (passed : C → List Word → C → Type 0)
+    (goes_on : (a b c : C) (first more : List Word) → passed a first b → passed b more c → passed a (first ++ more) c)
+  where
+    -- so many bytes were heard, none of which ended a packet
+    pub record Waits (wire : Wire) (line : Line) (old new : C) (count : ℕ) : Type 0 where
+      pub heard : List ℕ
+      pub words : List Word
+      pub behind : Wire
+      pub is_said : IsSaidTo wire heard words behind
+      pub shows : Shows behind line
+      pub passed_is : passed old words new
+      pub counted : length heard ≡ count
 
--- the last byte
-pub greets_nobody : (wire : Wire) (line next : Line) (left mid left' got mid' got' : Option (List ℕ)) (count : ℕ)
-    (w : Waits wire line left mid got mid' count) → HearsNothing w.behind next mid left' mid' got'
-    → GreetsNobody wire left left' got got'
-greets_nobody wire line next left mid left' got mid' got' count w hears =
-    nobody wire line left mid left' got mid' got' count w hears.taken hears.given (inl hears.end)
+    pub waits_first : (wire : Wire) (line : Line) (c : C) → passed c [] c → Shows wire line → Waits wire line c c 0
+    waits_first wire line c nothing shows =
+        record {
+          heard = [];
+          words = [];
+          behind = wire;
+          is_said = (refl, refl);
+          shows = shows;
+          passed_is = nothing;
+          counted = refl;
+        }
 
--- or as many as are heard
-pub greets_no_more : (wire : Wire) (line : Line) (left left' got got' : Option (List ℕ)) (count : ℕ)
-    → Waits wire line left left' got got' count → heard_max ≤ count → GreetsNobody wire left left' got got'
-greets_no_more wire line left left' got got' count w most =
-    nobody wire line left left' left' got got' got' count w (nothing_taken left') (nothing_given got')
-    (inr (subst (λ (n : ℕ). heard_max ≤ n) (sym w.counted) most))
+    -- one byte more
+    pub waits_told : (wire : Wire) (line next : Line) (told : outcome.Told) (old mid new : C) (count : ℕ)
+        (w : Waits wire line old mid count) → is_packet told ≡ false → Hears passed w.behind told next mid new
+        → Waits wire next old new (count + 1)
+    waits_told wire line next told old mid new count w is hears =
+        record {
+          heard = w.heard ++ hears.byte ∷ [];
+          words = w.words ++ heard_at w.behind hears.byte;
+          behind = behind_byte w.behind hears.byte;
+          is_said = said_more wire w.behind w.heard w.words hears.byte w.is_said
+              (subst (λ (e : Event). IsNoPacket e) hears.told_is (no_packet told (payload_in next) is));
+          shows = hears.shows;
+          passed_is = goes_on old mid new w.words (heard_at w.behind hears.byte) w.passed_is hears.passed_is;
+          counted = length-append w.heard (hears.byte ∷ []) ∙ ap (λ (n : ℕ). n + 1) w.counted;
+        }
+
+    -- the first packet
+    pub greets_told : (wire : Wire) (line next : Line) (told : outcome.Told) (old mid new : C) (count : ℕ)
+        (w : Waits wire line old mid count) → is_packet told ≡ true → Hears passed w.behind told next mid new
+        → GreetsSome wire next (λ words. passed old words new)
+    greets_told wire line next told old mid new count w is hears =
+        record {
+          heard = w.heard;
+          words = w.words;
+          before = w.behind;
+          is_said = w.is_said;
+          byte = hears.byte;
+          ends = sym hears.told_is ∙ packet_told told (payload_in next) is;
+          shows = hears.shows;
+          passed_is = goes_on old mid new w.words (heard_at w.behind hears.byte) w.passed_is hears.passed_is;
+        }
+
+    passed_nothing : (a b c : C) (words : List Word) → passed a words b → passed b [] c → passed a words c
+    passed_nothing a b c words first more =
+        subst (λ (l : List Word). passed a l c) (append-nil words) (goes_on a b c words [] first more)
+
+    -- none of the bytes so far ended a packet, and they are all that are heard
+    pub greets_nobody : (over : Type 0) (wire : Wire) (line next : Line) (old mid new : C) (count : ℕ)
+        (w : Waits wire line old mid count) → HearsNothing passed w.behind next mid new → over
+        → GreetsNobody wire (λ words. passed old words new) over
+    greets_nobody over wire line next old mid new count w hears is =
+        record {
+          heard = w.heard;
+          words = w.words;
+          behind = w.behind;
+          is_said = w.is_said;
+          passed_is = passed_nothing old mid new w.words w.passed_is hears.nothing;
+          ends = inl is;
+        }
+
+    -- or as many as are heard
+    pub greets_no_more : (over : Type 0) (wire : Wire) (line : Line) (old new : C) (count : ℕ)
+        → Waits wire line old new count → heard_max ≤ count → GreetsNobody wire (λ words. passed old words new) over
+    greets_no_more over wire line old new count w most =
+        record {
+          heard = w.heard;
+          words = w.words;
+          behind = w.behind;
+          is_said = w.is_said;
+          passed_is = w.passed_is;
+          ends = inr (subst (λ (n : ℕ). heard_max ≤ n) (sym w.counted) most);
+        }
 
 -- ---- in a session
 
@@ -251,219 +219,216 @@ pub no_fault : {A E : Type 0} (fault : E) (a : A) (old new : ℕ) → IsUnlessFa
 no_fault fault a old new (inl is) = absurd cc
 no_fault fault a old new (inr is) = is
 
-module _ {P : Type 0} where
+module _ {P : Type 0} (answers : P → List ℕ → P → Answer → Type 0) (interrupts : P → P → Type 0) where
   -- a turn more
-  talks_more : (answers : P → List ℕ → P → Answer → Type 0) (interrupts : P → P → Type 0) (old mid new : Side P)
-      (heard said : List ℕ) (byte : ℕ) (more : List ℕ) → Talks answers interrupts old heard said mid
-      → Turn answers interrupts mid byte more new
-      → Talks answers interrupts old (heard ++ byte ∷ []) (said ++ more) new
-  talks_more answers interrupts old mid new [] said byte more (is, same) turn = (
+  talks_more : (old mid new : Side P) (heard : List ℕ) (words : List Word) (byte : ℕ) (more : List Word)
+      → Talks answers interrupts old heard words mid → Turn answers interrupts mid byte more new
+      → Talks answers interrupts old (heard ++ byte ∷ []) (words ++ more) new
+  talks_more old mid new [] words byte more (is, same) turn = (
     new,
     more,
     [],
     subst (λ (s : Side P). Turn answers interrupts s byte more new) same turn,
     (refl, refl),
-    ap (λ (l : List ℕ). l ++ more) is ∙ sym (append-nil more),
+    ap (λ (l : List Word). l ++ more) is ∙ sym (append-nil more),
   )
-  talks_more answers interrupts old mid new (b ∷ rest) said byte more (next, first, tail, head, talks, is) turn = (
+  talks_more old mid new (b ∷ rest) words byte more (next, first, tail, head, talks, is) turn = (
     next,
     first,
     tail ++ more,
     head,
-    talks_more answers interrupts next mid new rest tail byte more talks turn,
-    ap (λ (l : List ℕ). l ++ more) is ∙ append_assoc first tail more,
+    talks_more next mid new rest tail byte more talks turn,
+    ap (λ (l : List Word). l ++ more) is ∙ append_assoc first tail more,
   )
-
-  -- a packet was answered, and so many bytes were heard behind it
-  pub record Sits (answers : P → List ℕ → P → Answer → Type 0) (interrupts : P → P → Type 0) (wire : Wire)
-      (partner : P) (payload : List ℕ) (now : P) (line : Line) (next : Next)
-      (left left' got got' : Option (List ℕ)) (count : ℕ) : Type 0 where
-    pub heard : List ℕ
-    pub to : Side P
-    pub talking : Talking answers interrupts wire partner payload now left left' got got' heard to
-    pub over_is : to.over ≡ is_last next
-    pub shows : Shows to.wire line
-    pub counted : length heard ≡ count
 
   -- where a session stands behind an answer
   abbrev side_behind : Wire → P → Answer → Side P
   side_behind wire partner answer =
       record { wire = behind_answer wire answer; partner = partner; over = is_last answer.next }
 
-  pub sits_first : (answers : P → List ℕ → P → Answer → Type 0) (interrupts : P → P → Type 0) (wire : Wire)
-      (partner : P) (payload : List ℕ) (now : P) (line : Line) (next : Next) (left got got' : Option (List ℕ))
-      → SaysAnswer answers wire partner payload now next line got got'
-      → Sits answers interrupts wire partner payload now line next left left got got' 0
-  sits_first answers interrupts wire partner payload now line next left got got' says =
-      record {
-        heard = [];
-        to = side_behind wire now says.answer;
-        talking = record {
-          first = frames says.answer.payloads;
-          from = side_behind wire now says.answer;
-          answered = (says.answer, says.answered, refl, refl, refl);
-          said = [];
-          talks = (refl, refl);
-          partner_is = refl;
-          taken = nothing_taken left;
-          given = subst (λ (l : List ℕ). Appends got got' l) (sym (append-nil (frames says.answer.payloads)))
-              says.given;
-        };
-        over_is = ap is_last (sym says.next_is);
-        shows = says.shows;
-        counted = refl;
-      }
-
-  -- behind a turn
-  sits_more : (answers : P → List ℕ → P → Answer → Type 0) (interrupts : P → P → Type 0) (wire : Wire)
-      (partner : P) (payload : List ℕ) (now then : P) (line line' : Line) (next next' : Next)
-      (left mid left' got mid' got' : Option (List ℕ)) (count : ℕ)
-      (s : Sits answers interrupts wire partner payload now line next left mid got mid' count) (byte : ℕ)
-      (more : List ℕ) (to : Side P) → Turn answers interrupts s.to byte more to → to.partner ≡ then
-      → to.over ≡ is_last next' → Shows to.wire line' → Consumes mid left' (byte ∷ []) → Appends mid' got' more
-      → Sits answers interrupts wire partner payload then line' next' left left' got got' (count + 1)
-  sits_more answers interrupts wire partner payload now then line line' next next' left mid left' got mid' got' count s
-      byte more to turn partner_is over_is shows taken given =
-      let t = s.talking in
-      record {
-        heard = s.heard ++ byte ∷ [];
-        to = to;
-        talking = record {
-          first = t.first;
-          from = t.from;
-          answered = t.answered;
-          said = t.said ++ more;
-          talks = talks_more answers interrupts t.from s.to to s.heard t.said byte more t.talks turn;
-          partner_is = partner_is;
-          taken = Consumes-append left mid left' s.heard (byte ∷ []) t.taken taken;
-          given = subst (λ (l : List ℕ). Appends got got' l) (append_assoc t.first t.said more)
-              (Appends-append got mid' got' (t.first ++ t.said) more t.given given);
-        };
-        over_is = over_is;
-        shows = shows;
-        counted = length-append s.heard (byte ∷ []) ∙ ap (λ (n : ℕ). n + 1) s.counted;
-      }
-
-  -- behind a byte and what it leads to
-  pub sits_followed : (answers : P → List ℕ → P → Answer → Type 0) (interrupts : P → P → Type 0) (wire : Wire)
-      (partner : P) (payload : List ℕ) (now then : P) (line line' line'' : Line) (next next' : Next)
-      (told : outcome.Told) (left mid left' got mid' got' got'' : Option (List ℕ)) (count : ℕ)
-      (s : Sits answers interrupts wire partner payload now line next left mid got mid' count) → is_last next ≡ false
-      → (hears : Hears s.to.wire told line' mid left' mid' got')
-      → Follows answers interrupts (behind_byte s.to.wire hears.byte) now (event_of told (payload_in line')) then next'
-      line'' got' got''
-      → Sits answers interrupts wire partner payload then line'' next' left left' got got'' (count + 1)
-  sits_followed answers interrupts wire partner payload now then line line' line'' next next' told left mid left' got
-      mid' got' got'' count s on hears f =
-      let wire' : Wire = behind_byte s.to.wire hears.byte in
-      let ack : List ℕ = acknowledged s.to.wire (tells s.to.wire.at hears.byte) in
-      let of_event : LeadsTo answers interrupts wire' now (tells s.to.wire.at hears.byte) f.more f.to =
-      subst (λ (e : Event). LeadsTo answers interrupts wire' now e f.more f.to) hears.told_is f.leads in
-      let leads : LeadsTo answers interrupts wire' s.to.partner (tells s.to.wire.at hears.byte) f.more f.to =
-      subst (λ (p : P). LeadsTo answers interrupts wire' p (tells s.to.wire.at hears.byte) f.more f.to)
-      (sym s.talking.partner_is) of_event in
-      let turn : Turn answers interrupts s.to hears.byte (ack ++ f.more) f.to =
-      record { listens = s.over_is ∙ on; more = f.more; said_is = refl; leads = leads } in
-      sits_more answers interrupts wire partner payload now then line line'' next next' left mid left' got mid' got''
-      count s hears.byte (ack ++ f.more) f.to turn f.partner_is f.over_is f.shows hears.taken
-      (Appends-append mid' got' got'' ack f.more hears.given f.given)
-
-  -- ---- what an event leads to
-
-  pub follows_answer : (answers : P → List ℕ → P → Answer → Type 0) (interrupts : P → P → Type 0) (wire : Wire)
-      (partner : P) (payload : List ℕ) (now : P) (line : Line) (got got' : Option (List ℕ))
-      (result : Result Next TalkFault)
-      → IfOk result (λ next. SaysAnswer answers wire partner payload now next line got got')
-      → IfOk result (λ next. Follows answers interrupts wire partner (Packet payload) now next line got got')
-  follows_answer answers interrupts wire partner payload now line got got' (Ok next) says =
-      record {
-        to = side_behind wire now says.answer;
-        more = frames says.answer.payloads;
-        leads = (says.answer, says.answered, refl, refl, refl);
-        partner_is = refl;
-        over_is = ap is_last (sym says.next_is);
-        shows = says.shows;
-        given = says.given;
-      }
-  follows_answer answers interrupts wire partner payload now line got got' (Err fault) says = tt
-
-  pub follows_interrupt : (answers : P → List ℕ → P → Answer → Type 0) (interrupts : P → P → Type 0) (wire : Wire)
-      (partner now : P) (line : Line) (got : Option (List ℕ)) → interrupts partner now → Shows wire line
-      → Follows answers interrupts wire partner Interrupt now Listen line got got
-  follows_interrupt answers interrupts wire partner now line got does shows =
-      record {
-        to = listening wire now;
-        more = [];
-        leads = (does, refl, refl, refl);
-        partner_is = refl;
-        over_is = refl;
-        shows = shows;
-        given = nothing_given got;
-      }
-
-  quiet_leads : (answers : P → List ℕ → P → Answer → Type 0) (interrupts : P → P → Type 0) (wire : Wire)
-      (partner : P) (event : Event) → IsQuiet event
+  quiet_leads : (wire : Wire) (partner : P) (event : Event) → IsQuiet event
       → LeadsTo answers interrupts wire partner event [] (listening wire partner)
-  quiet_leads answers interrupts wire partner Nothing quiet = (refl, refl)
-  quiet_leads answers interrupts wire partner Broken quiet = (refl, refl)
-  quiet_leads answers interrupts wire partner Again quiet = (refl, refl)
-  quiet_leads answers interrupts wire partner Interrupt quiet = absurd quiet
-  quiet_leads answers interrupts wire partner (Packet payload) quiet = absurd quiet
+  quiet_leads wire partner Nothing quiet = (refl, refl)
+  quiet_leads wire partner Broken quiet = (refl, refl)
+  quiet_leads wire partner Again quiet = (refl, refl)
+  quiet_leads wire partner Interrupt quiet = absurd quiet
+  quiet_leads wire partner (Packet payload) quiet = absurd quiet
 
-  pub follows_quiet : (answers : P → List ℕ → P → Answer → Type 0) (interrupts : P → P → Type 0) (wire : Wire)
-      (partner : P) (event : Event) (line : Line) (got : Option (List ℕ)) → IsQuiet event → Shows wire line
-      → Follows answers interrupts wire partner event partner Listen line got got
-  follows_quiet answers interrupts wire partner event line got quiet shows =
-      record {
-        to = listening wire partner;
-        more = [];
-        leads = quiet_leads answers interrupts wire partner event quiet;
-        partner_is = refl;
-        over_is = refl;
-        shows = shows;
-        given = nothing_given got;
-      }
+  module _ {C : Type 0} (passed : C → List Word → C → Type 0)
+      (goes_on : (a b c : C) (first more : List Word) → passed a first b → passed b more c
+      → passed a (first ++ more) c) where
+    -- a packet was answered, and so many bytes were heard behind it
+    pub record Sits (wire : Wire) (partner : P) (payload : List ℕ) (now : P) (line : Line) (next : Next) (old new : C)
+        (count : ℕ) : Type 0 where
+      pub heard : List ℕ
+      pub to : Side P
+      pub talking : Talking answers interrupts wire partner payload now (λ words. passed old words new) heard to
+      pub over_is : to.over ≡ is_last next
+      pub shows : Shows to.wire line
+      pub counted : length heard ≡ count
 
-  -- ---- the end
+    pub sits_first : (wire : Wire) (partner : P) (payload : List ℕ) (now : P) (line : Line) (next : Next) (old new : C)
+        → SaysAnswer answers passed wire partner payload now next line old new
+        → Sits wire partner payload now line next old new 0
+    sits_first wire partner payload now line next old new says =
+        record {
+          heard = [];
+          to = side_behind wire now says.answer;
+          talking = record {
+            first = frames says.answer.payloads;
+            from = side_behind wire now says.answer;
+            answered = (says.answer, says.answered, refl, refl, refl);
+            words = [];
+            talks = (refl, refl);
+            partner_is = refl;
+            passed_is = subst (λ (l : List Word). passed old l new)
+                (sym (append-nil (saying (frames says.answer.payloads)))) says.passed_is;
+          };
+          over_is = ap is_last (sym says.next_is);
+          shows = says.shows;
+          counted = refl;
+        }
 
-  -- where the last answer ended the session
-  pub talked_over : (answers : P → List ℕ → P → Answer → Type 0) (interrupts : P → P → Type 0) (wire : Wire)
-      (partner : P) (payload : List ℕ) (now : P) (line : Line) (next : Next) (left left' got got' : Option (List ℕ))
-      (count : ℕ) → Sits answers interrupts wire partner payload now line next left left' got got' count
-      → is_last next ≡ true → Talked answers interrupts wire partner payload now left left' got got'
-  talked_over answers interrupts wire partner payload now line next left left' got got' count s last =
-      record { heard = s.heard; to = s.to; talking = s.talking; ends = inl (s.over_is ∙ last) }
+    -- behind a turn
+    sits_more : (wire : Wire) (partner : P) (payload : List ℕ) (now then : P) (line line' : Line) (next next' : Next)
+        (old mid new : C) (count : ℕ) (s : Sits wire partner payload now line next old mid count) (byte : ℕ)
+        (more : List Word) (to : Side P) → Turn answers interrupts s.to byte more to → to.partner ≡ then
+        → to.over ≡ is_last next' → Shows to.wire line' → passed mid more new
+        → Sits wire partner payload then line' next' old new (count + 1)
+    sits_more wire partner payload now then line line' next next' old mid new count s byte more to turn partner_is
+        over_is shows given =
+        let t = s.talking in
+        record {
+          heard = s.heard ++ byte ∷ [];
+          to = to;
+          talking = record {
+            first = t.first;
+            from = t.from;
+            answered = t.answered;
+            words = t.words ++ more;
+            talks = talks_more t.from s.to to s.heard t.words byte more t.talks turn;
+            partner_is = partner_is;
+            passed_is = subst (λ (l : List Word). passed old l new) (append_assoc (saying t.first) t.words more)
+                (goes_on old mid new (saying t.first ++ t.words) more t.passed_is given);
+          };
+          over_is = over_is;
+          shows = shows;
+          counted = length-append s.heard (byte ∷ []) ∙ ap (λ (n : ℕ). n + 1) s.counted;
+        }
 
-  -- where no byte was left
-  pub talked_out : (answers : P → List ℕ → P → Answer → Type 0) (interrupts : P → P → Type 0) (wire : Wire)
-      (partner : P) (payload : List ℕ) (now : P) (line line' : Line) (next : Next)
-      (left mid left' got mid' got' : Option (List ℕ)) (count : ℕ)
-      (s : Sits answers interrupts wire partner payload now line next left mid got mid' count)
-      → HearsNothing s.to.wire line' mid left' mid' got'
-      → Talked answers interrupts wire partner payload now left left' got got'
-  talked_out answers interrupts wire partner payload now line line' next left mid left' got mid' got' count s hears =
-      let t = s.talking in
-      record {
-        heard = s.heard;
-        to = s.to;
-        talking = record {
-          first = t.first;
-          from = t.from;
-          answered = t.answered;
-          said = t.said;
-          talks = t.talks;
-          partner_is = t.partner_is;
-          taken = consumes_nothing left mid left' s.heard t.taken hears.taken;
-          given = appends_nothing got mid' got' (t.first ++ t.said) t.given hears.given;
-        };
-        ends = inr (inl hears.end);
-      }
+    -- behind a byte and what it leads to
+    pub sits_followed : (wire : Wire) (partner : P) (payload : List ℕ) (now then : P) (line line' line'' : Line)
+        (next next' : Next) (told : outcome.Told) (old mid been new : C) (count : ℕ)
+        (s : Sits wire partner payload now line next old mid count) → is_last next ≡ false
+        → (hears : Hears passed s.to.wire told line' mid been)
+        → Follows answers interrupts passed (behind_byte s.to.wire hears.byte) now (event_of told (payload_in line'))
+        then next' line'' been new
+        → Sits wire partner payload then line'' next' old new (count + 1)
+    sits_followed wire partner payload now then line line' line'' next next' told old mid been new count s on hears f =
+        let wire' : Wire = behind_byte s.to.wire hears.byte in
+        let at : List Word = heard_at s.to.wire hears.byte in
+        let of_event : LeadsTo answers interrupts wire' now (tells s.to.wire.at hears.byte) f.more f.to =
+        subst (λ (e : Event). LeadsTo answers interrupts wire' now e f.more f.to) hears.told_is f.leads in
+        let leads : LeadsTo answers interrupts wire' s.to.partner (tells s.to.wire.at hears.byte) f.more f.to =
+        subst (λ (p : P). LeadsTo answers interrupts wire' p (tells s.to.wire.at hears.byte) f.more f.to)
+        (sym s.talking.partner_is) of_event in
+        let turn : Turn answers interrupts s.to hears.byte (at ++ saying f.more) f.to =
+        record { listens = s.over_is ∙ on; more = f.more; words_are = refl; leads = leads } in
+        sits_more wire partner payload now then line line'' next next' old mid new count s hears.byte
+        (at ++ saying f.more) f.to turn f.partner_is f.over_is f.shows
+        (goes_on mid been new at (saying f.more) hears.passed_is f.passed_is)
 
-  -- or as many were heard as are
-  pub talked_no_more : (answers : P → List ℕ → P → Answer → Type 0) (interrupts : P → P → Type 0) (wire : Wire)
-      (partner : P) (payload : List ℕ) (now : P) (line : Line) (next : Next) (left left' got got' : Option (List ℕ))
-      (count : ℕ) → Sits answers interrupts wire partner payload now line next left left' got got' count
-      → heard_max ≤ count → Talked answers interrupts wire partner payload now left left' got got'
-  talked_no_more answers interrupts wire partner payload now line next left left' got got' count s most =
-      let ends = inr (inr (subst (λ (n : ℕ). heard_max ≤ n) (sym s.counted) most)) in
-      record { heard = s.heard; to = s.to; talking = s.talking; ends = ends }
+    -- ---- what an event leads to
+
+    pub follows_answer : (wire : Wire) (partner : P) (payload : List ℕ) (now : P) (line : Line) (old new : C)
+        (result : Result Next TalkFault)
+        → IfOk result (λ next. SaysAnswer answers passed wire partner payload now next line old new)
+        → IfOk result (λ next. Follows answers interrupts passed wire partner (Packet payload) now next line old new)
+    follows_answer wire partner payload now line old new (Ok next) says =
+        record {
+          to = side_behind wire now says.answer;
+          more = frames says.answer.payloads;
+          leads = (says.answer, says.answered, refl, refl, refl);
+          partner_is = refl;
+          over_is = ap is_last (sym says.next_is);
+          shows = says.shows;
+          passed_is = says.passed_is;
+        }
+    follows_answer wire partner payload now line old new (Err fault) says = tt
+
+    pub follows_interrupt : (wire : Wire) (partner now : P) (line : Line) (c : C) → passed c [] c
+        → interrupts partner now → Shows wire line
+        → Follows answers interrupts passed wire partner Interrupt now Listen line c c
+    follows_interrupt wire partner now line c nothing does shows =
+        record {
+          to = listening wire now;
+          more = [];
+          leads = (does, refl, refl, refl);
+          partner_is = refl;
+          over_is = refl;
+          shows = shows;
+          passed_is = nothing;
+        }
+
+    pub follows_quiet : (wire : Wire) (partner : P) (event : Event) (line : Line) (c : C) → passed c [] c
+        → IsQuiet event → Shows wire line
+        → Follows answers interrupts passed wire partner event partner Listen line c c
+    follows_quiet wire partner event line c nothing quiet shows =
+        record {
+          to = listening wire partner;
+          more = [];
+          leads = quiet_leads wire partner event quiet;
+          partner_is = refl;
+          over_is = refl;
+          shows = shows;
+          passed_is = nothing;
+        }
+
+    -- ---- the end
+
+    -- where the last answer ended the session
+    pub talked_over : (over : Type 0) (wire : Wire) (partner : P) (payload : List ℕ) (now : P) (line : Line)
+        (next : Next) (old new : C) (count : ℕ) → Sits wire partner payload now line next old new count
+        → is_last next ≡ true
+        → Talked answers interrupts wire partner payload now (λ words. passed old words new) over
+    talked_over over wire partner payload now line next old new count s last =
+        record { heard = s.heard; to = s.to; talking = s.talking; ends = inl (s.over_is ∙ last) }
+
+    -- where no byte was left
+    pub talked_out : (over : Type 0) (wire : Wire) (partner : P) (payload : List ℕ) (now : P) (line line' : Line)
+        (next : Next) (old mid new : C) (count : ℕ) (s : Sits wire partner payload now line next old mid count)
+        → HearsNothing passed s.to.wire line' mid new → over
+        → Talked answers interrupts wire partner payload now (λ words. passed old words new) over
+    talked_out over wire partner payload now line line' next old mid new count s hears is =
+        let t = s.talking in
+        record {
+          heard = s.heard;
+          to = s.to;
+          talking = record {
+            first = t.first;
+            from = t.from;
+            answered = t.answered;
+            words = t.words;
+            talks = t.talks;
+            partner_is = t.partner_is;
+            passed_is = subst (λ (l : List Word). passed old l new) (append-nil (saying t.first ++ t.words))
+                (goes_on old mid new (saying t.first ++ t.words) [] t.passed_is hears.nothing);
+          };
+          ends = inr (inl is);
+        }
+
+    -- or as many were heard as are
+    pub talked_no_more : (over : Type 0) (wire : Wire) (partner : P) (payload : List ℕ) (now : P) (line : Line)
+        (next : Next) (old new : C) (count : ℕ) → Sits wire partner payload now line next old new count
+        → heard_max ≤ count
+        → Talked answers interrupts wire partner payload now (λ words. passed old words new) over
+    talked_no_more over wire partner payload now line next old new count s most =
+        let ends = inr (inr (subst (λ (n : ℕ). heard_max ≤ n) (sym s.counted) most)) in
+        record { heard = s.heard; to = s.to; talking = s.talking; ends = ends }
+
+-- ---- over two streams
+
+pub said_ok : {E : Type 0} (result : Result Unit E) (left got got' : Option (List ℕ)) (bytes : List ℕ)
+    → OnOk result (Appends got got' bytes) → OnOk result (StreamsPassed left left got got' (saying bytes))
+said_ok (Ok done) left got got' bytes given = saying_passed left got got' bytes given
+said_ok (Err fault) left got got' bytes given = tt

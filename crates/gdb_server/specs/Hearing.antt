@@ -1,8 +1,7 @@
 -- One byte heard, and one packet answered.
-use Rattle.std.specs.Prelude.{◌≡◌, ℕ, Bool, true, false, List, [], ◌∷◌, Option}
-use Rattle.std.specs.Io.KnownBytes.{Appends, Consumes, IsAtEnd}
+use Rattle.std.specs.Prelude.{◌≡◌, ℕ, Bool, true, false, List, []}
 use Rattle.gdb_packets.specs.Frames.{Event, tells}
-use Rattle.gdb_packets.specs.Lines.{Shows, Wire, acknowledged, payload_in}
+use Rattle.gdb_packets.specs.Lines.{Shows, Wire, payload_in}
 use Rattle.gdb_packets.specs.Readers.{event_of}
 use Rattle.gdb_packets.specs.declared.line.Line.{Line}
 use Rattle.gdb_packets.specs.declared.reader.Told as outcome
@@ -10,31 +9,31 @@ use Rattle.gdb_packets.specs.declared.reader.Told.TheVariants as told_as
 use Rattle.gdb_server.specs.declared.partner.Answer.{Answer}
 use Rattle.gdb_server.specs.declared.partner.Next.{Next}
 use Rattle.gdb_server.specs.Sessions.{LeadsTo, Side}
-use Rattle.gdb_server.specs.Wires.{behind_answer, behind_byte, frames, is_last}
+use Rattle.gdb_server.specs.Wires.{behind_answer, behind_byte, frames, heard_at, is_last}
+use Rattle.gdb_server.specs.Words.{Word, saying}
 
--- no byte was left
-pub record HearsNothing (wire : Wire) (line : Line) (left left' got got' : Option (List ℕ)) : Type 0 where
-  pub taken : Consumes left left' []
-  pub end : IsAtEnd left'
-  pub given : Appends got got' []
+-- nothing was heard or said
+pub record HearsNothing {C : Type 0} (passed : C → List Word → C → Type 0) (wire : Wire) (line : Line) (old new : C)
+    : Type 0 where
+  pub nothing : passed old [] new
   pub shows : Shows wire line
 
--- a byte was heard, it told this, and what has to be said at once was said
-pub record Hears (wire : Wire) (told : outcome.Told) (line : Line) (left left' got got' : Option (List ℕ))
-    : Type 0 where
+-- a byte was heard, it told this, and what has to be said at once was said behind it
+pub record Hears {C : Type 0} (passed : C → List Word → C → Type 0) (wire : Wire) (told : outcome.Told) (line : Line)
+    (old new : C) : Type 0 where
   pub byte : ℕ
-  pub taken : Consumes left left' (byte ∷ [])
   pub told_is : event_of told (payload_in line) ≡ tells wire.at byte
-  pub given : Appends got got' (acknowledged wire (tells wire.at byte))
+  pub passed_is : passed old (heard_at wire byte) new
   pub shows : Shows (behind_byte wire byte) line
 
--- the partner answered a packet, the frames of its answer were given, and this is to be done next
-pub record SaysAnswer {P : Type 0} (answers : P → List ℕ → P → Answer → Type 0) (wire : Wire) (partner : P)
-    (payload : List ℕ) (partner' : P) (next : Next) (line : Line) (got got' : Option (List ℕ)) : Type 0 where
+-- the partner answered a packet, the frames of its answer were said, and this is to be done next
+pub record SaysAnswer {P C : Type 0} (answers : P → List ℕ → P → Answer → Type 0)
+    (passed : C → List Word → C → Type 0) (wire : Wire) (partner : P) (payload : List ℕ) (partner' : P) (next : Next)
+    (line : Line) (old new : C) : Type 0 where
   pub answer : Answer
   pub answered : answers partner payload partner' answer
   pub next_is : next ≡ answer.next
-  pub given : Appends got got' (frames answer.payloads)
+  pub passed_is : passed old (saying (frames answer.payloads)) new
   pub shows : Shows (behind_answer wire answer) line
 
 -- a packet has come
@@ -46,13 +45,13 @@ is_packet told_as.Interrupt = false
 is_packet told_as.Again = false
 
 -- what an event leads to was done and said, and this is to be done next
-pub record Follows {P : Type 0} (answers : P → List ℕ → P → Answer → Type 0) (interrupts : P → P → Type 0)
-    (wire : Wire) (partner : P) (event : Event) (partner' : P) (next : Next) (line : Line)
-    (got got' : Option (List ℕ)) : Type 0 where
+pub record Follows {P C : Type 0} (answers : P → List ℕ → P → Answer → Type 0) (interrupts : P → P → Type 0)
+    (passed : C → List Word → C → Type 0) (wire : Wire) (partner : P) (event : Event) (partner' : P) (next : Next)
+    (line : Line) (old new : C) : Type 0 where
   pub to : Side P
   pub more : List ℕ
   pub leads : LeadsTo answers interrupts wire partner event more to
   pub partner_is : to.partner ≡ partner'
   pub over_is : to.over ≡ is_last next
   pub shows : Shows to.wire line
-  pub given : Appends got got' more
+  pub passed_is : passed old (saying more) new

@@ -1,3 +1,5 @@
+pub mod Words
+pub mod Passing
 pub mod Wires
 pub mod Sessions
 pub mod Hearing

@@ -1,12 +1,12 @@
--- Rule: a debugger's session over two streams: Greets, Talks, Talked
--- A debugger's session: what is heard byte by byte, and what is said.
-use Rattle.std.specs.Prelude.{◌≡◌, ℕ, ◌-◌, ◌^◌, ◌≤◌, ◌⊎◌, Bool, true, false, List, [], ◌∷◌, ◌++◌, length, Option}
-use Rattle.std.specs.Io.KnownBytes.{Appends, Consumes, IsAtEnd}
+-- Rule: a debugger's session in a conversation: Greets, Talks, Talked
+-- A debugger's session: what is heard byte by byte, and what is said behind each byte, before the next is heard.
+use Rattle.std.specs.Prelude.{◌≡◌, ℕ, ◌-◌, ◌^◌, ◌≤◌, ◌⊎◌, Bool, true, false, List, [], ◌∷◌, ◌++◌, length}
 use Rattle.gdb_packets.specs.Frames.{Event, Packet, Interrupt, tells}
-use Rattle.gdb_packets.specs.Lines.{Shows, Wire, acknowledged, payload_in}
+use Rattle.gdb_packets.specs.Lines.{Shows, Wire, payload_in}
 use Rattle.gdb_packets.specs.declared.line.Line.{Line}
 use Rattle.gdb_server.specs.declared.partner.Answer.{Answer}
-use Rattle.gdb_server.specs.Wires.{behind_answer, behind_byte, frames, is_last}
+use Rattle.gdb_server.specs.Wires.{behind_answer, behind_byte, frames, heard_at, is_last}
+use Rattle.gdb_server.specs.Words.{Word, saying}
 
 -- the most bytes that are heard of one session
 abbrev pub heard_max : ℕ
@@ -19,40 +19,39 @@ abbrev pub IsNoPacket : Event → Type 0
 IsNoPacket (Packet payload) = ⊥
 IsNoPacket event = Unit {0}
 
--- none of the bytes ends a packet; this is said to them, and they lead to this wire
-abbrev pub IsSaidTo : Wire → List ℕ → (said : List ℕ) → Wire → Type 0
-IsSaidTo old [] said new = (said ≡ []) × (new ≡ old)
-IsSaidTo old (byte ∷ rest) said new =
+-- none of the bytes ends a packet; behind each stands what has to be said at once, and they lead to this wire
+abbrev pub IsSaidTo : Wire → (heard : List ℕ) → List Word → Wire → Type 0
+IsSaidTo old [] words new = (words ≡ []) × (new ≡ old)
+IsSaidTo old (byte ∷ rest) words new =
     IsNoPacket (tells old.at byte)
-    × (more : List ℕ) × IsSaidTo (behind_byte old byte) rest more new
-    × (said ≡ acknowledged old (tells old.at byte) ++ more)
+    × (more : List Word) × IsSaidTo (behind_byte old byte) rest more new
+    × (words ≡ heard_at old byte ++ more)
 
--- bytes were heard to the end of the first packet, which the line tells, and what has to be said at once was said
-pub record GreetsSome (wire : Wire) (line : Line) (left left' got got' : Option (List ℕ)) : Type 0 where
+-- bytes were heard to the end of the first packet, which the line tells; in what passed, what has to be said at once
+-- stands behind each of them
+pub record GreetsSome (wire : Wire) (line : Line) (passed : List Word → Type 0) : Type 0 where
   pub heard : List ℕ
-  pub said : List ℕ
+  pub words : List Word
   pub before : Wire
-  pub is_said : IsSaidTo wire heard said before
+  pub is_said : IsSaidTo wire heard words before
   pub byte : ℕ
   pub ends : tells before.at byte ≡ Packet (payload_in line)
   pub shows : Shows (behind_byte before byte) line
-  pub taken : Consumes left left' (heard ++ byte ∷ [])
-  pub given : Appends got got' (said ++ acknowledged before (Packet (payload_in line)))
+  pub passed_is : passed (words ++ heard_at before byte)
 
 -- bytes were heard to the last one, and none ended a packet
-pub record GreetsNobody (wire : Wire) (left left' got got' : Option (List ℕ)) : Type 0 where
+pub record GreetsNobody (wire : Wire) (passed : List Word → Type 0) (over : Type 0) : Type 0 where
   pub heard : List ℕ
-  pub said : List ℕ
+  pub words : List Word
   pub behind : Wire
-  pub is_said : IsSaidTo wire heard said behind
-  pub taken : Consumes left left' heard
-  pub given : Appends got got' said
-  pub ends : IsAtEnd left' ⊎ (heard_max ≤ length heard)
+  pub is_said : IsSaidTo wire heard words behind
+  pub passed_is : passed words
+  pub ends : over ⊎ (heard_max ≤ length heard)
 
 -- whether a packet came
-abbrev pub Greets : Wire → (some : Bool) → Line → (left left' got got' : Option (List ℕ)) → Type 0
-Greets wire true line left left' got got' = GreetsSome wire line left left' got got'
-Greets wire false line left left' got got' = GreetsNobody wire left left' got got'
+abbrev pub Greets : Wire → (some : Bool) → Line → (passed : List Word → Type 0) → (over : Type 0) → Type 0
+Greets wire true line passed over = GreetsSome wire line passed
+Greets wire false line passed over = GreetsNobody wire passed over
 
 -- ---- a session
 
@@ -78,39 +77,39 @@ module _ {P : Type 0} where
       interrupts partner new.partner × (said ≡ []) × (new.wire ≡ wire) × (new.over ≡ false)
   LeadsTo answers interrupts wire partner event said new = (said ≡ []) × (new ≡ listening wire partner)
 
-  -- a byte is heard in a session that isn't over: what has to be said at once is said, and then what its event leads to
+  -- a byte is heard in a session that isn't over: what has to be said at once is said, and then what its event leads
+  -- to, before another byte is heard
   pub record Turn (answers : P → List ℕ → P → Answer → Type 0) (interrupts : P → P → Type 0) (old : Side P)
-      (byte : ℕ) (said : List ℕ) (new : Side P) : Type 0 where
+      (byte : ℕ) (words : List Word) (new : Side P) : Type 0 where
     pub listens : old.over ≡ false
     pub more : List ℕ
-    pub said_is : said ≡ acknowledged old.wire (tells old.wire.at byte) ++ more
+    pub words_are : words ≡ heard_at old.wire byte ++ saying more
     pub leads : LeadsTo answers interrupts (behind_byte old.wire byte) old.partner (tells old.wire.at byte) more new
 
   -- bytes are heard one after the other
   abbrev pub Talks : (answers : P → List ℕ → P → Answer → Type 0) (interrupts : P → P → Type 0) → Side P
-      → (heard said : List ℕ) → Side P → Type 0
-  Talks answers interrupts old [] said new = (said ≡ []) × (new ≡ old)
-  Talks answers interrupts old (byte ∷ rest) said new =
-      (mid : Side P) × (first : List ℕ) × (more : List ℕ) × Turn answers interrupts old byte first mid
-      × Talks answers interrupts mid rest more new × (said ≡ first ++ more)
+      → (heard : List ℕ) → List Word → Side P → Type 0
+  Talks answers interrupts old [] words new = (words ≡ []) × (new ≡ old)
+  Talks answers interrupts old (byte ∷ rest) words new =
+      (mid : Side P) × (first : List Word) × (more : List Word) × Turn answers interrupts old byte first mid
+      × Talks answers interrupts mid rest more new × (words ≡ first ++ more)
 
   -- a packet was answered, and behind that these bytes were heard, to here
   pub record Talking (answers : P → List ℕ → P → Answer → Type 0) (interrupts : P → P → Type 0) (wire : Wire)
-      (partner : P) (payload : List ℕ) (partner' : P) (left left' got got' : Option (List ℕ)) (heard : List ℕ)
+      (partner : P) (payload : List ℕ) (partner' : P) (passed : List Word → Type 0) (heard : List ℕ)
       (to : Side P) : Type 0 where
     pub first : List ℕ
     pub from : Side P
     pub answered : LeadsTo answers interrupts wire partner (Packet payload) first from
-    pub said : List ℕ
-    pub talks : Talks answers interrupts from heard said to
+    pub words : List Word
+    pub talks : Talks answers interrupts from heard words to
     pub partner_is : to.partner ≡ partner'
-    pub taken : Consumes left left' heard
-    pub given : Appends got got' (first ++ said)
+    pub passed_is : passed (saying first ++ words)
 
   -- and they were heard to the end: to an answer that ends the session, or to the last byte
   pub record Talked (answers : P → List ℕ → P → Answer → Type 0) (interrupts : P → P → Type 0) (wire : Wire)
-      (partner : P) (payload : List ℕ) (partner' : P) (left left' got got' : Option (List ℕ)) : Type 0 where
+      (partner : P) (payload : List ℕ) (partner' : P) (passed : List Word → Type 0) (over : Type 0) : Type 0 where
     pub heard : List ℕ
     pub to : Side P
-    pub talking : Talking answers interrupts wire partner payload partner' left left' got got' heard to
-    pub ends : (to.over ≡ true) ⊎ (IsAtEnd left' ⊎ (heard_max ≤ length heard))
+    pub talking : Talking answers interrupts wire partner payload partner' passed heard to
+    pub ends : (to.over ≡ true) ⊎ (over ⊎ (heard_max ≤ length heard))

@@ -1,15 +1,20 @@
 -- What a byte and an answer make of a wire.
 use Rattle.std.specs.Prelude.{ℕ, ◌&&◌, not, Bool, true, false, List, [], ◌∷◌}
 use Rattle.std.specs.List.{flat_map}
-use Rattle.gdb_packets.specs.Frames.{follow, framed}
-use Rattle.gdb_packets.specs.Lines.{Wire}
+use Rattle.gdb_packets.specs.Frames.{follow, framed, tells}
+use Rattle.gdb_packets.specs.Lines.{Wire, acknowledged}
 use Rattle.gdb_server.specs.declared.partner.Answer.{Answer}
 use Rattle.gdb_server.specs.declared.partner.Next.{Next}
 use Rattle.gdb_server.specs.declared.partner.Next.TheVariants.{StopAcks, End}
+use Rattle.gdb_server.specs.Words.{Heard, Word, saying}
 
 -- the wire behind a byte
 abbrev pub behind_byte : Wire → ℕ → Wire
 behind_byte wire byte = record wire { at = follow wire.at byte }
+
+-- a byte is heard, and what has to be said at once stands behind it
+abbrev pub heard_at : Wire → ℕ → List Word
+heard_at wire byte = Heard byte ∷ saying (acknowledged wire (tells wire.at byte))
 
 -- the frames of payloads, in order
 abbrev pub frames : List (List ℕ) → List ℕ

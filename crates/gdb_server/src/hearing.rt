@@ -7,9 +7,10 @@ ghost use Rattle.gdb_server.specs.Hearing.{Follows, Hears, HearsNothing, SaysAns
 ghost use Rattle.gdb_server.specs.Wires.{frames, last_frame};
 ghost use Rattle.gdb_server.specs.declared.hearing.TalkFault.TheVariants as faults;
 
+use crate::conversation::Conversation;
 use crate::partner::{Answer, Next, Partner};
 use gdb_packets::{Line, Told};
-use rtr_io::{Failed, Sink, Source, WriteFault, write_all};
+use rtr_io::{Failed, WriteFault};
 use rtr_types::Items;
 use std::alloc::{AllocError, Global};
 
@@ -40,32 +41,34 @@ impl From<WriteFault> for TalkFault {
     }
 }
 
-/// Hears a byte, if one is left, and says what has to be said at once.
-pub(crate) fn hear<I: Source, O: Sink>(
+/// Hears a byte, if one is left, and says what has to be said at once: before anything else is heard.
+pub(crate) fn hear<C: Conversation>(
     alloc: Global,
     line: &mut Line,
-    input: &mut I,
-    output: &mut O,
+    conversation: &mut C,
 ) -> Result<Option<Told>, TalkFault>
     ensures heard { (wire : Wire) → Shows wire line.old → IfOk result (λ told. MatchOption told
-        (HearsNothing wire line.new (I.left input.old) (I.left input.new) (O.got output.old) (O.got output.new))
-        (λ event. Hears wire event line.new (I.left input.old) (I.left input.new) (O.got output.old)
-        (O.got output.new))) }
-    ensures read_fault { IsErrOf result TalkFault.ReadFault → HasRisen (I.faults input.old) (I.faults input.new) }
-    ensures no_read_fault { IsUnlessFault TalkFault.ReadFault result (I.faults input.old) (I.faults input.new) }
-    ensures write_fault { IsErrOf result TalkFault.WriteFault → HasRisen (O.faults output.old) (O.faults output.new) }
-    ensures no_write_fault { IsUnlessFault TalkFault.WriteFault result (O.faults output.old) (O.faults output.new) }
+        (HearsNothing C.passed wire line.new conversation.old conversation.new × C.is_over conversation.new)
+        (λ event. Hears C.passed wire event line.new conversation.old conversation.new)) }
+    ensures read_fault { IsErrOf result TalkFault.ReadFault →
+        HasRisen (C.read_faults conversation.old) (C.read_faults conversation.new) }
+    ensures no_read_fault { IsUnlessFault TalkFault.ReadFault result (C.read_faults conversation.old)
+        (C.read_faults conversation.new) }
+    ensures write_fault { IsErrOf result TalkFault.WriteFault →
+        HasRisen (C.write_faults conversation.old) (C.write_faults conversation.new) }
+    ensures no_write_fault { IsUnlessFault TalkFault.WriteFault result (C.write_faults conversation.old)
+        (C.write_faults conversation.new) }
 {
-    let mut byte = [0u8; 1];
-    match input.take(&mut byte) {
-        Ok(0) => return Ok(None),
-        Ok(_) => {}
-        Err(Failed) => return Err(TalkFault::ReadFault),
+    match conversation.hear() {
+        Ok(Some(byte)) => {
+            let mut said = Vec::new(alloc);
+            let told = line.hear(byte, &mut said)?;
+            conversation.say(said.as_slice())?;
+            Ok(Some(told))
+        }
+        Ok(None) => Ok(None),
+        Err(Failed) => Err(TalkFault::ReadFault),
     }
-    let mut said = Vec::new(alloc);
-    let told = line.hear(byte[0], &mut said)?;
-    write_all(output, said.as_slice())?;
-    Ok(Some(told))
 }
 
 /// Whether a packet has come.
@@ -76,22 +79,25 @@ pub(crate) fn is_packet(told: Told) -> bool
 }
 
 /// Does what the byte that the line heard last asks for, and answers what is to be done next.
-pub(crate) fn follow<P: Partner, O: Sink>(
+pub(crate) fn follow<P: Partner, C: Conversation>(
     alloc: Global,
     partner: &mut P,
     line: &mut Line,
-    output: &mut O,
+    conversation: &mut C,
     told: Told,
 ) -> Result<Next, TalkFault>
-    ensures followed { (wire : Wire) → Shows wire line.old → IfOk result (λ next. Follows P.answers P.interrupts wire
-        partner.old (event_of told (payload_in line.old)) partner.new next line.new (O.got output.old)
-        (O.got output.new)) }
+    ensures followed { (wire : Wire) → Shows wire line.old → IfOk result (λ next. Follows P.answers P.interrupts
+        C.passed wire partner.old (event_of told (payload_in line.old)) partner.new next line.new conversation.old
+        conversation.new) }
     ensures read_fault { result ≢ Err TalkFault.ReadFault }
-    ensures write_fault { IsErrOf result TalkFault.WriteFault → HasRisen (O.faults output.old) (O.faults output.new) }
-    ensures no_write_fault { IsUnlessFault TalkFault.WriteFault result (O.faults output.old) (O.faults output.new) }
+    ensures still_read { C.read_faults conversation.new ≡ C.read_faults conversation.old }
+    ensures write_fault { IsErrOf result TalkFault.WriteFault →
+        HasRisen (C.write_faults conversation.old) (C.write_faults conversation.new) }
+    ensures no_write_fault { IsUnlessFault TalkFault.WriteFault result (C.write_faults conversation.old)
+        (C.write_faults conversation.new) }
 {
     match told {
-        Told::Packet => answer(alloc, partner, line, output),
+        Told::Packet => answer(alloc, partner, line, conversation),
         Told::Interrupt => {
             partner.interrupt();
             Ok(Next::Listen)
@@ -103,21 +109,24 @@ pub(crate) fn follow<P: Partner, O: Sink>(
 }
 
 /// Answers the packet that the line was told last, and answers what is to be done next.
-pub(crate) fn answer<P: Partner, O: Sink>(
+pub(crate) fn answer<P: Partner, C: Conversation>(
     alloc: Global,
     partner: &mut P,
     line: &mut Line,
-    output: &mut O,
+    conversation: &mut C,
 ) -> Result<Next, TalkFault>
-    ensures said { (wire : Wire) → Shows wire line.old → IfOk result (λ next. SaysAnswer P.answers wire partner.old
-        (payload_in line.old) partner.new next line.new (O.got output.old) (O.got output.new)) }
+    ensures said { (wire : Wire) → Shows wire line.old → IfOk result (λ next. SaysAnswer P.answers C.passed wire
+        partner.old (payload_in line.old) partner.new next line.new conversation.old conversation.new) }
     ensures read_fault { result ≢ Err TalkFault.ReadFault }
-    ensures write_fault { IsErrOf result TalkFault.WriteFault → HasRisen (O.faults output.old) (O.faults output.new) }
-    ensures no_write_fault { IsUnlessFault TalkFault.WriteFault result (O.faults output.old) (O.faults output.new) }
+    ensures still_read { C.read_faults conversation.new ≡ C.read_faults conversation.old }
+    ensures write_fault { IsErrOf result TalkFault.WriteFault →
+        HasRisen (C.write_faults conversation.old) (C.write_faults conversation.new) }
+    ensures no_write_fault { IsUnlessFault TalkFault.WriteFault result (C.write_faults conversation.old)
+        (C.write_faults conversation.new) }
 {
     let Answer { payloads, next } = partner.answer(alloc, line.payload())?;
     let said = frames_of(alloc, line, payloads.as_slice())?;
-    write_all(output, said.as_slice())?;
+    conversation.say(said.as_slice())?;
     if next.stops_acks() {
         line.stop_acks();
     }

@@ -1,21 +1,24 @@
-//! A debugger's session over two streams, whoever answers: bytes are heard, acknowledged at once, and each packet
+//! A debugger's session in a conversation, whoever answers: bytes are heard, acknowledged at once, and each packet
 //! answered before the next byte.
 //!
 //! The first packet is acknowledged before anything slow is done. Else gdb sends it again after two seconds, and then
 //! takes each answer for that of the packet behind. An interrupt before it is passed over.
 //!
-//! Proved: `greet` hears bytes to the end of the first packet, or to the input's end where no packet comes (`Greets`).
-//! The packet is acknowledged and not answered yet, and just what has to be said at once is given. `talk` goes on from
-//! there byte by byte (`Talked`). It gives just the acks, the frames again where they are wanted, and the frames of the
-//! partner's answers, in order. It ends at the answer that ends the session, at the input's end, or after 2^64 - 1
-//! bytes. A fault of a stream comes only where its count rose. Of a session that breaks off nothing is said of what was
-//! given.
+//! Proved: `greet` hears bytes to the end of the first packet, or to the last byte if no packet comes (`Greets`). The
+//! packet is acknowledged and not answered yet, and just what has to be said at once is said. `talk` goes on from there
+//! byte by byte (`Talked`). It says just the acks, the frames again if they are wanted, and the frames of the partner's
+//! answers. It ends at the answer that ends the session, if nothing is left to hear, or after 2^64 - 1 bytes. Both say
+//! so of the conversation's one history: what is owed for a byte stands behind it and before the next byte that is
+//! heard. `Streams` is a conversation over any source and sink; its history is what the one lost and the other got. A
+//! fault comes only if its count rose. Of a session that breaks off nothing is said of what was said.
 #![tactic(auto)]
 
+mod conversation;
 mod hearing;
 mod partner;
 mod sessions;
 
+pub use conversation::{Conversation, Streams};
 pub use hearing::TalkFault;
 pub use partner::{Answer, Next, Partner};
 pub use sessions::{greet, talk};

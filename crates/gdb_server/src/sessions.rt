@@ -4,30 +4,33 @@ ghost use Rattle.gdb_packets.specs.Lines.{Shows, Wire, payload_in};
 ghost use Rattle.rtr_io.specs.Faults.{HasRisen, IsUnlessFault};
 ghost use Rattle.gdb_server.specs.Sessions.{Greets, Talked};
 
+use crate::conversation::Conversation;
 use crate::hearing::{TalkFault, answer, follow, hear, is_packet};
 use crate::partner::Partner;
 use gdb_packets::Line;
-use rtr_io::{Sink, Source};
 use std::alloc::Global;
 
-/// Hears bytes until one has ended a packet, and says at once whatever has to be: the packet is acknowledged before it
-/// is answered. An interrupt is passed over, since nothing runs yet. Whether a packet has come; else the input is at
-/// its end.
-pub fn greet<I: Source, O: Sink>(
+/// Hears bytes until one has ended a packet, and says at once whatever has to be, before the next byte is heard: the
+/// packet is acknowledged before it is answered. An interrupt is passed over, since nothing runs yet. Whether a packet
+/// has come; else no byte is left.
+pub fn greet<C: Conversation>(
     alloc: Global,
     line: &mut Line,
-    input: &mut I,
-    output: &mut O,
+    conversation: &mut C,
 ) -> Result<bool, TalkFault>
     ensures greeted { (wire : Wire) → Shows wire line.old → IfOk result (λ some. Greets wire some line.new
-        (I.left input.old) (I.left input.new) (O.got output.old) (O.got output.new)) }
-    ensures read_fault { IsErrOf result TalkFault.ReadFault → HasRisen (I.faults input.old) (I.faults input.new) }
-    ensures no_read_fault { IsUnlessFault TalkFault.ReadFault result (I.faults input.old) (I.faults input.new) }
-    ensures write_fault { IsErrOf result TalkFault.WriteFault → HasRisen (O.faults output.old) (O.faults output.new) }
-    ensures no_write_fault { IsUnlessFault TalkFault.WriteFault result (O.faults output.old) (O.faults output.new) }
+        (λ words. C.passed conversation.old words conversation.new) (C.is_over conversation.new)) }
+    ensures read_fault { IsErrOf result TalkFault.ReadFault →
+        HasRisen (C.read_faults conversation.old) (C.read_faults conversation.new) }
+    ensures no_read_fault { IsUnlessFault TalkFault.ReadFault result (C.read_faults conversation.old)
+        (C.read_faults conversation.new) }
+    ensures write_fault { IsErrOf result TalkFault.WriteFault →
+        HasRisen (C.write_faults conversation.old) (C.write_faults conversation.new) }
+    ensures no_write_fault { IsUnlessFault TalkFault.WriteFault result (C.write_faults conversation.old)
+        (C.write_faults conversation.new) }
 {
     for count in 0..u64::MAX {
-        match hear(alloc, line, input, output)? {
+        match hear(alloc, line, conversation)? {
             None => return Ok(false),
             Some(told) => {
                 if is_packet(told) {
@@ -40,30 +43,34 @@ pub fn greet<I: Source, O: Sink>(
 }
 
 /// Answers the packet that the line was told last, and then every packet that comes, until the partner's answer ends
-/// the session or the input is at its end.
-pub fn talk<P: Partner, I: Source, O: Sink>(
+/// the session or no byte is left. In the conversation's history each answer stands behind the byte that ended
+/// its packet, and before the next byte that is heard.
+pub fn talk<P: Partner, C: Conversation>(
     alloc: Global,
     partner: &mut P,
     line: &mut Line,
-    input: &mut I,
-    output: &mut O,
+    conversation: &mut C,
 ) -> Result<(), TalkFault>
     ensures talked { (wire : Wire) → Shows wire line.old → OnOk result (Talked P.answers P.interrupts wire partner.old
-        (payload_in line.old) partner.new (I.left input.old) (I.left input.new) (O.got output.old)
-        (O.got output.new)) }
-    ensures read_fault { IsErrOf result TalkFault.ReadFault → HasRisen (I.faults input.old) (I.faults input.new) }
-    ensures no_read_fault { IsUnlessFault TalkFault.ReadFault result (I.faults input.old) (I.faults input.new) }
-    ensures write_fault { IsErrOf result TalkFault.WriteFault → HasRisen (O.faults output.old) (O.faults output.new) }
-    ensures no_write_fault { IsUnlessFault TalkFault.WriteFault result (O.faults output.old) (O.faults output.new) }
+        (payload_in line.old) partner.new (λ words. C.passed conversation.old words conversation.new)
+        (C.is_over conversation.new)) }
+    ensures read_fault { IsErrOf result TalkFault.ReadFault →
+        HasRisen (C.read_faults conversation.old) (C.read_faults conversation.new) }
+    ensures no_read_fault { IsUnlessFault TalkFault.ReadFault result (C.read_faults conversation.old)
+        (C.read_faults conversation.new) }
+    ensures write_fault { IsErrOf result TalkFault.WriteFault →
+        HasRisen (C.write_faults conversation.old) (C.write_faults conversation.new) }
+    ensures no_write_fault { IsUnlessFault TalkFault.WriteFault result (C.write_faults conversation.old)
+        (C.write_faults conversation.new) }
 {
-    let mut next = answer(alloc, partner, line, output)?;
+    let mut next = answer(alloc, partner, line, conversation)?;
     for count in 0..u64::MAX {
         if next.is_last() {
             return Ok(());
         }
-        match hear(alloc, line, input, output)? {
+        match hear(alloc, line, conversation)? {
             None => return Ok(()),
-            Some(told) => next = follow(alloc, partner, line, output, told)?,
+            Some(told) => next = follow(alloc, partner, line, conversation, told)?,
         }
     }
     Ok(())

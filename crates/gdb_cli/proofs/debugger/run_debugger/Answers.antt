@@ -11,9 +11,10 @@ returns-in-Ok-None-clause-answered g c =
     let e = c.write_core.ensures in
     core_answers (FnOnceReturnsAt g.P.FnOnce c.args.opener) g.F.Source.left g.F.Source.faults
     (map string_bytes c.args.words.now) (session_log (map string_bytes c.args.words.now)) c.write_core.result
-    (g.I.Source.left c.args.input.now) (g.I.Source.left c.write_core.new.input) (g.O.Sink.got c.args.output.now)
-    (g.O.Sink.got c.write_core.new.output) (g.I.Source.faults c.args.input.now)
-    (g.I.Source.faults c.write_core.new.input) (g.O.Sink.faults c.args.output.now)
+    (g.I.Source.left c.args.streams.now.input) (g.I.Source.left c.write_core.new.input) (g.O.Sink.got
+    c.args.streams.now.output)
+    (g.O.Sink.got c.write_core.new.output) (g.I.Source.faults c.args.streams.now.input)
+    (g.I.Source.faults c.write_core.new.input) (g.O.Sink.faults c.args.streams.now.output)
     (g.O.Sink.faults c.write_core.new.output) is (record {
       answers = e.answered;
       read_fault = e.read_fault;
@@ -31,9 +32,9 @@ returns-clause-answered g c =
       | in-Ok-Some w ↦
           let is = rw w.in-Ok-Some.field-0-is at w.in-Ok-Some.ensures in
           let e = w.debug_file-exit.ensures in
-          rw w.exit-is (rw w.input-is (rw w.output-is (
+          rw w.exit-is (rw w.streams-is (
           session_answers opens g.F.Source.left g.F.Source.faults words (session_log words) _ _ _ _ _ _ _ _ _ _ is e.0
-          (rw w.file_name.ensures at e.1) e.2)))
-      | in-Err w ↦ rw w.exit-is (rw w.input-is (rw w.output-is (
-          memory_answers opens g.F.Source.left g.F.Source.faults words (session_log words) _ _ _ _)))
+          (rw w.file_name.ensures at e.1) e.2))
+      | in-Err w ↦ rw w.exit-is (rw w.streams-is (
+          memory_answers opens g.F.Source.left g.F.Source.faults words (session_log words) _ _ _ _))
     ]

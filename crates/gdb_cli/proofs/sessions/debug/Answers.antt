@@ -14,9 +14,9 @@ returns-in-Ok-false-clause-answered g c =
 
 pub returns-in-Err-audited_in-clause-answered : goal.returns-in-Err-audited_in-clause-answered
 returns-in-Err-audited_in-clause-answered g c =
-    declined c.args.which c.in-Err-audited_in.exit (g.F.Source.left c.args.recording.now)
-    (g.F.Source.left c.audited_in.new.source) (g.I.Source.left c.args.input.now) (g.I.Source.left c.greet.new.input)
-    (g.O.Sink.got c.args.output.now) (g.O.Sink.got c.greet.new.output) c.greet.new.line
+    declined g.C.Conversation.passed c.args.which c.in-Err-audited_in.exit (g.F.Source.left c.args.recording.now)
+    (g.F.Source.left c.audited_in.new.source) c.args.conversation.now c.greet.new.conversation
+    (g.C.Conversation.is_over c.greet.new.conversation) c.greet.new.line
     (rw c.in-Ok-true.field-0-test at (c.in-Ok-true.ensures.greeted first_wire c.in-Ok.ensures))
     c.in-Err-audited_in.ensures.declined
 
@@ -29,8 +29,7 @@ returns-in-Ok-converse-clause-answered g c =
     let greeted = rw c.in-Ok-true.field-0-test at (c.in-Ok-true.ensures.greeted first_wire c.in-Ok.ensures) in
     inr (record {
       line = c.greet.new.line;
-      behind = g.I.Source.left c.greet.new.input;
-      said = g.O.Sink.got c.greet.new.output;
+      behind = c.greet.new.conversation;
       greeted = greeted;
       findings = c.in-Ok-audited_in.audited;
       audited = c.in-Ok-audited_in.ensures.audited;

@@ -1,7 +1,7 @@
 use Rattle.std.proofs.Common.{◌≡◌, ◌∙◌, refl, sym, ap, subst, List, ℕ, true, false}
-use Rattle.std.specs.Io.KnownBytes.{Appends}
 use Rattle.gdb_packets.specs.Lines.{Shows, Wire}
 use Rattle.gdb_server.specs.Wires.{frames, last_frame, stops_acks}
+use Rattle.gdb_server.specs.Words.{saying}
 use Rattle.gdb_server.proofs.SessionLemmas.{shows_on, shows_stopped}
 use Rattle.gdb_server.proofs.hearing.answer.Goals as goal
 use Rattle.gdb_server.proofs.hearing.answer.Goals.{then-stops_acks, else-stops_acks}
@@ -20,8 +20,8 @@ returns-clause-said g c = λ wire s.
       answered = subst (λ (p : List ℕ). g.P.Partner.answers c.args.partner.now p c.answer.new.self made)
           c.payload.ensures c.in_ok-payloads.ensures;
       next_is = refl;
-      given = subst (λ (l : List ℕ). Appends (g.O.Sink.got c.args.output.now) (g.O.Sink.got c.write_all.new.sink) l)
-          said c.in_ok-write_all.ensures.all;
+      passed_is = subst (λ (l : List ℕ). g.C.Conversation.passed c.args.conversation.now (saying l)
+          c.say.new.self) said c.in_ok-say.ensures.said;
       shows = elim c.if-stops_acks.branch [
         | then-stops_acks w ↦
             let stops : stops_acks made.next ≡ true = sym c.stops_acks.ensures ∙ w.if-stops_acks.true in

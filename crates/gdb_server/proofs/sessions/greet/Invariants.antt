@@ -6,8 +6,7 @@ use Rattle.gdb_server.proofs.sessions.greet.Given as goal
 abbrev pub invariant-loop-count : goal.invariant-loop-count
 invariant-loop-count g l = record {
   waits : (wire : Wire) → Shows wire l.fn.line
-      → Waits wire l.line (g.I.Source.left l.fn.input) (g.I.Source.left l.input) (g.O.Sink.got l.fn.output)
-      (g.O.Sink.got l.output) l.count;
-  read : g.I.Source.faults l.input ≡ g.I.Source.faults l.fn.input;
-  written : g.O.Sink.faults l.output ≡ g.O.Sink.faults l.fn.output;
+      → Waits g.C.Conversation.passed g.C.Conversation.goes_on wire l.line l.fn.conversation l.conversation l.count;
+  read : g.C.Conversation.read_faults l.conversation ≡ g.C.Conversation.read_faults l.fn.conversation;
+  written : g.C.Conversation.write_faults l.conversation ≡ g.C.Conversation.write_faults l.fn.conversation;
 }

@@ -11,10 +11,10 @@ use Rattle.gdb_server.proofs.sessions.talk.Goals as goal
 pub loop-count-init : goal.loop-count-init
 loop-count-init g c = record {
   sits = λ wire s.
-      sits_first g.P.Partner.answers g.P.Partner.interrupts wire c.args.partner.now (payload_in c.args.line.now)
-      c.answer.new.partner c.answer.new.line c.in_ok-next.next (g.I.Source.left c.args.input.now)
-      (g.O.Sink.got c.args.output.now) (g.O.Sink.got c.answer.new.output) (c.in_ok-next.ensures.said wire s);
-  read = refl;
+      sits_first g.P.Partner.answers g.P.Partner.interrupts g.C.Conversation.passed g.C.Conversation.goes_on wire
+      c.args.partner.now (payload_in c.args.line.now) c.answer.new.partner c.answer.new.line c.in_ok-next.next
+      c.args.conversation.now c.answer.new.conversation (c.in_ok-next.ensures.said wire s);
+  read = c.in_ok-next.ensures.still_read;
   written = no_fault faults.WriteFault c.in_ok-next.next _ _ c.in_ok-next.ensures.no_write_fault;
 }
 
@@ -25,14 +25,14 @@ loop-count-preserved g c =
       sits = λ wire s.
           let t = c.loop-count.invariant.sits wire s in
           let hears = rw c.in-Some.is at (c.in_ok-hear.ensures.heard t.to.wire t.shows) in
-          sits_followed g.P.Partner.answers g.P.Partner.interrupts wire c.args.partner.now
-          (payload_in c.args.line.now) c.loop-count.partner c.follow.new.partner c.loop-count.line c.hear.new.line
-          c.follow.new.line c.loop-count.next c.in_ok-next-in-Some.next c.in-Some.told
-          (g.I.Source.left c.args.input.now) (g.I.Source.left c.loop-count.input) (g.I.Source.left c.hear.new.input)
-          (g.O.Sink.got c.args.output.now) (g.O.Sink.got c.loop-count.output) (g.O.Sink.got c.hear.new.output)
-          (g.O.Sink.got c.follow.new.output) c.loop-count.count t on hears
+          sits_followed g.P.Partner.answers g.P.Partner.interrupts g.C.Conversation.passed g.C.Conversation.goes_on
+          wire c.args.partner.now (payload_in c.args.line.now) c.loop-count.partner c.follow.new.partner
+          c.loop-count.line c.hear.new.line c.follow.new.line c.loop-count.next c.in_ok-next-in-Some.next
+          c.in-Some.told c.args.conversation.now c.loop-count.conversation c.hear.new.conversation
+          c.follow.new.conversation c.loop-count.count t on hears
           (c.in_ok-next-in-Some.ensures.followed (behind_byte t.to.wire hears.byte) hears.shows);
-      read = no_fault faults.ReadFault c.in_ok-hear.field-0 _ _ c.in_ok-hear.ensures.no_read_fault
+      read = c.in_ok-next-in-Some.ensures.still_read
+          ∙ no_fault faults.ReadFault c.in_ok-hear.field-0 _ _ c.in_ok-hear.ensures.no_read_fault
           ∙ c.loop-count.invariant.read;
       written = no_fault faults.WriteFault c.in_ok-next-in-Some.next _ _ c.in_ok-next-in-Some.ensures.no_write_fault
           ∙ no_fault faults.WriteFault c.in_ok-hear.field-0 _ _ c.in_ok-hear.ensures.no_write_fault
@@ -41,23 +41,23 @@ loop-count-preserved g c =
 
 pub returns-then-is_last-clause-talked : goal.returns-then-is_last-clause-talked
 returns-then-is_last-clause-talked g c = λ wire s.
-    talked_over g.P.Partner.answers g.P.Partner.interrupts wire c.args.partner.now (payload_in c.args.line.now)
-    c.loop-count.partner c.loop-count.line c.loop-count.next (g.I.Source.left c.args.input.now)
-    (g.I.Source.left c.loop-count.input) (g.O.Sink.got c.args.output.now) (g.O.Sink.got c.loop-count.output)
+    talked_over g.P.Partner.answers g.P.Partner.interrupts g.C.Conversation.passed g.C.Conversation.goes_on
+    (g.C.Conversation.is_over c.loop-count.conversation) wire c.args.partner.now (payload_in c.args.line.now)
+    c.loop-count.partner c.loop-count.line c.loop-count.next c.args.conversation.now c.loop-count.conversation
     c.loop-count.count (c.loop-count.invariant.sits wire s) (sym c.is_last.ensures ∙ c.if-is_last.true)
 
 pub returns-in-None-clause-talked : goal.returns-in-None-clause-talked
 returns-in-None-clause-talked g c = λ wire s.
     let t = c.loop-count.invariant.sits wire s in
     let hears = rw c.in-None.is at (c.in_ok-hear.ensures.heard t.to.wire t.shows) in
-    talked_out g.P.Partner.answers g.P.Partner.interrupts wire c.args.partner.now (payload_in c.args.line.now)
-    c.loop-count.partner c.loop-count.line c.hear.new.line c.loop-count.next (g.I.Source.left c.args.input.now)
-    (g.I.Source.left c.loop-count.input) (g.I.Source.left c.hear.new.input) (g.O.Sink.got c.args.output.now)
-    (g.O.Sink.got c.loop-count.output) (g.O.Sink.got c.hear.new.output) c.loop-count.count t hears
+    talked_out g.P.Partner.answers g.P.Partner.interrupts g.C.Conversation.passed g.C.Conversation.goes_on
+    (g.C.Conversation.is_over c.hear.new.conversation) wire c.args.partner.now (payload_in c.args.line.now)
+    c.loop-count.partner c.loop-count.line c.hear.new.line c.loop-count.next c.args.conversation.now
+    c.loop-count.conversation c.hear.new.conversation c.loop-count.count t hears.0 hears.1
 
 pub returns-clause-talked : goal.returns-clause-talked
 returns-clause-talked g c = λ wire s.
-    talked_no_more g.P.Partner.answers g.P.Partner.interrupts wire c.args.partner.now (payload_in c.args.line.now)
-    c.loop-count.partner c.loop-count.line c.loop-count.next (g.I.Source.left c.args.input.now)
-    (g.I.Source.left c.loop-count.input) (g.O.Sink.got c.args.output.now) (g.O.Sink.got c.loop-count.output)
+    talked_no_more g.P.Partner.answers g.P.Partner.interrupts g.C.Conversation.passed g.C.Conversation.goes_on
+    (g.C.Conversation.is_over c.loop-count.conversation) wire c.args.partner.now (payload_in c.args.line.now)
+    c.loop-count.partner c.loop-count.line c.loop-count.next c.args.conversation.now c.loop-count.conversation
     c.loop-count.count (c.loop-count.invariant.sits wire s) c.loop-count-test.false

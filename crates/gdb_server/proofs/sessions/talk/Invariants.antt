@@ -6,9 +6,8 @@ use Rattle.gdb_server.proofs.sessions.talk.Given as goal
 abbrev pub invariant-loop-count : goal.invariant-loop-count
 invariant-loop-count g l = record {
   sits : (wire : Wire) → Shows wire l.fn.line
-      → Sits g.P.Partner.answers g.P.Partner.interrupts wire l.fn.partner (payload_in l.fn.line) l.partner l.line l.next
-      (g.I.Source.left l.fn.input) (g.I.Source.left l.input) (g.O.Sink.got l.fn.output) (g.O.Sink.got l.output)
-      l.count;
-  read : g.I.Source.faults l.input ≡ g.I.Source.faults l.fn.input;
-  written : g.O.Sink.faults l.output ≡ g.O.Sink.faults l.fn.output;
+      → Sits g.P.Partner.answers g.P.Partner.interrupts g.C.Conversation.passed g.C.Conversation.goes_on wire
+      l.fn.partner (payload_in l.fn.line) l.partner l.line l.next l.fn.conversation l.conversation l.count;
+  read : g.C.Conversation.read_faults l.conversation ≡ g.C.Conversation.read_faults l.fn.conversation;
+  written : g.C.Conversation.write_faults l.conversation ≡ g.C.Conversation.write_faults l.fn.conversation;
 }
