@@ -1,5 +1,5 @@
-//! The debugger's program but for `main`: a session with a debugger on a recording, in a conversation, and the core file
-//! of a moment. The words of the latter are those of `rtr at`, which prints the same state.
+//! The debugger's program but for `main`: a session with a debugger on a recording, in a conversation, and the core
+//! file of a moment. The words of the latter are those of `rtr at`, which prints the same state.
 //!
 //! Proved: at `Done`, `debug` held a session by `gdb_session`'s definitions, and `write_core` gave the core file of the
 //! moment (clauses `answered`). These clauses stand one by one in docs/PROVED.md.
