@@ -46,8 +46,9 @@ function arrow(edge, there, kind, colour) {
   const dim = isFuture(edge[1]) && !touched ? " future" : "";
   const look = kind + (picked !== null && kind === "edge" ? (touched ? " picked" : states ? dim : " faint") : dim);
   const paint = colour ? ` style="stroke:${colour}"` : ' marker-end="url(#head)"';
-  return `<path class="${look}"${paint} d="M ${from.x + side} ${from.y} L ${to.x - side} ${to.y}">` +
-    `<title>${name(edge[0])} before ${name(edge[1])}${text(edge[2])}</title></path>`;
+  const way = `d="M ${from.x + side} ${from.y} L ${to.x - side} ${to.y}"`;
+  return `<g><title>${name(edge[0])} before ${name(edge[1])}${text(edge[2])}</title>` +
+    `<path class="near" ${way}/><path class="${look}"${paint} ${way}/></g>`;
 }
 
 function dot(number, { x, y }) {

@@ -20,7 +20,9 @@ STYLE = """
   .mark { fill: currentColor; stroke: #ffffff; stroke-width: 2; paint-order: stroke; }
   .ring { fill: #ffffff; stroke: currentColor; stroke-width: 1.6; }
   .edge { stroke: currentColor; stroke-width: 1.6; fill: none; } .head { fill: currentColor; }
-  .vector { fill: none; stroke-width: 5; opacity: .35; } .edge:hover, .vector:hover { stroke-width: 4; opacity: 1; }
+  .vector { fill: none; stroke-width: 5; opacity: .35; }
+  .near { fill: none; stroke: #ffffff; stroke-opacity: 0; stroke-width: 12; }
+  g:hover > .edge { stroke-width: 3; } g:hover > .vector { opacity: .7; }
   .value { font: 13px monospace; white-space: pre; } .does { font-weight: bold; }
   .count, .rest { fill-opacity: .62; font-size: 11px; } .note { font-style: italic; }
   .lost { fill: #c2410c; font-weight: bold; font-size: 11px; } .mark.lost { fill: #c2410c; }
@@ -196,10 +198,13 @@ class Picture:
         return self.lanes[at[0]].line, TOP + self.rows[at] * ROW
 
     def arrow(self, edge, kind, look, said=""):
+        """An arrow or a part of a band, which tells a pointer near it what it is."""
         (x, y), (u, v) = (self.place(it) for it in ((edge[0], edge[1]), (edge[2], edge[3])))
         side = 7 if u > x else -7
         told = html.escape(f"{edge[0]}:{edge[1]} before {edge[2]}:{edge[3]}{said}")
-        return f'<path class="{kind}"{look} d="M {x + side} {y} L {u - side} {v}"><title>{told}</title></path>'
+        way = f'd="M {x + side} {y} L {u - side} {v}"'
+        paths = f'<path class="near" {way}/><path class="{kind}"{look} {way}/>'
+        return f'<g class="{kind}s"><title>{told}</title>{paths}</g>'
 
     def orders(self, edge):
         """What an edge orders, behind a colon."""
