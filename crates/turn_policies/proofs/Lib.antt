@@ -1,0 +1,4 @@
+pub mod Finding
+pub mod Ranking
+pub mod SetMembers
+pub mod TurnSteps

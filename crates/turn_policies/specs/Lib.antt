@@ -1,0 +1,7 @@
+pub mod Listed
+pub mod Named
+pub mod Policies
+pub mod Ranked
+pub mod Straight
+pub mod TurnByTurn
+pub mod Walks

@@ -1,0 +1,11 @@
+-- What a policy is: who makes the next access, by what it has seen so far.
+use Rattle.std.specs.Prelude.{Bool}
+use Rattle.turn_lists.specs.declared.actor.Actor.{Actor}
+use Rattle.turn_policies.specs.declared.actor_set.ActorSet.{ActorSet}
+
+-- whom a policy in this state picks from those who may act, its state after the pick, and its state once the actor that
+-- it picked has acted and is known to go round or not
+pub record PolicyOf (S : Type 0) : Type 0 where
+  pub pick : S → ActorSet → Actor
+  pub after_pick : S → ActorSet → S
+  pub told : S → Actor → (goes_round : Bool) → S
