@@ -240,8 +240,8 @@ function go(position) {
 function step(way) {
   if (states) return go(time + way);
   const order = rowed().nodes.map(({ number }) => number), at = order.indexOf(picked);
-  const to = picked === null ? (way > 0 ? 0 : order.length - 1) : Math.min(Math.max(at + way, 0), order.length - 1);
-  if (order.length) pick(order[to]);
+  const from = at < 0 && way < 0 ? order.length : at;
+  if (order.length) pick(order[Math.min(Math.max(from + way, 0), order.length - 1)]);
 }
 
 function page(way) {
@@ -259,7 +259,8 @@ function follow(hash) {
 
 const KEYS = {
   ArrowDown: () => step(1), ArrowRight: () => step(1), ArrowUp: () => step(-1), ArrowLeft: () => step(-1),
-  Home: () => step(-Infinity), End: () => step(Infinity), PageUp: () => page(-1), PageDown: () => page(1),
+  Home: () => step(-Infinity), End: () => step(Infinity),
+  PageUp: () => (states ? step(-10) : page(-1)), PageDown: () => (states ? step(10) : page(1)),
   Escape: () => { if (!states) { picked = null; draw(); } },
 };
 
