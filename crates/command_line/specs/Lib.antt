@@ -1,0 +1,3 @@
+pub mod Uses
+pub mod Told
+pub mod Questions
