@@ -1,3 +1,4 @@
+-- Rule: what is told of words that mean nothing: fault_told
 -- What a person is told of words that mean nothing: which word is at fault and why, and how commands are used.
 use Rattle.std.specs.Prelude.{◌≡◌, ℕ, List, [], ◌∷◌, ◌++◌, Option, Some, None, codes, decimal, slice_get, if◌then◌else◌}
 use Rattle.rtr_types.specs.declared.params.TheConstants.{INSTRUCTIONS_MAX}

@@ -1,3 +1,4 @@
+-- Rule: how a command is used, in a line: use_line
 -- How each command is used: its name and just the options that it takes.
 use Rattle.std.specs.Prelude.{ℕ, List, [], ◌∷◌, ◌++◌, codes, flat_map, if◌then◌else◌}
 use Rattle.tool_words.specs.declared.command.Verb.{Verb}
