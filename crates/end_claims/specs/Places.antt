@@ -1,5 +1,5 @@
 -- Places that have a value at the end of a run.
-use Rattle.std.specs.Prelude.{ℕ, ◌&&◌, ◌==◌, Bool, false}
+use Rattle.std.specs.Prelude.{◌&&◌, ◌==◌, Bool, false}
 use Rattle.end_claims.specs.declared.claim.Place.{Place}
 use Rattle.end_claims.specs.declared.claim.Place.TheVariants.{Word, Register, Ended}
 

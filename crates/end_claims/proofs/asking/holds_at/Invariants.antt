@@ -1,5 +1,4 @@
 use Rattle.std.proofs.Common.{◌≡◌, drop, length, true}
-use Rattle.std.specs.List.{list_all}
 use Rattle.end_claims.specs.Meaning.{holds_at}
 use Rattle.end_claims.specs.Named.{are_named_within}
 use Rattle.end_claims.proofs.asking.holds_at.Given as goal

@@ -1,0 +1,4 @@
+pub mod Adding
+pub mod Rounds
+pub mod RowLemmas
+pub mod TableLemmas
