@@ -5,7 +5,7 @@ ghost use Rattle.log_codec.specs.Spelling.{spelling};
 ghost use Rattle.race_log.specs.Validity.{Valid};
 ghost use Rattle.run_outcome.specs.Outcomes.{outcome_of};
 ghost use Rattle.run_records.specs.Recordings.{recording_of};
-ghost use Rattle.replay_audit.specs.Audits.{EveryOrderAgrees, IsAuditOf};
+ghost use Rattle.replay_audit.specs.Audits.{EveryOrderAgrees, IsAuditOf, IsReplayOf};
 ghost use Rattle.replay_audit.specs.Determinate.{IsDeterminate, low_outcome};
 ghost use Rattle.replay_core.specs.Plans.{recorded_image};
 ghost use Rattle.rtr_types.specs.Parameters.{Fits};
@@ -35,9 +35,10 @@ use msi_run::run_image;
 use race_log::Recording;
 use recorder::record_image;
 use replay_audit::laws::replays_fit_their_plan;
-use replay_audit::{AuditFault, Audited, audit};
+use replay_audit::{AuditFault, Audited, audit, replayed};
 use rtr_types::{Params, Which};
 use run_outcome::laws::a_run_fits_its_image;
+use rv_core::Outcome;
 use schedule_pick::Schedule;
 use state_text::{Exit, check_text, logs_text, state_text};
 use std::alloc::{AllocError, Global};
@@ -250,11 +251,24 @@ fn replay(alloc: Global, recording: Recording, which: Which, loads: bool) -> Res
     ensures refused { IfErr result (AuditEnds which recording) }
 {
     replays_fit_their_plan();
-    let audited = audited(alloc, recording, which)?;
-    let (recording, outcome) = audited.into_parts();
+    let (recording, outcome) = replay_of(alloc, recording, which)?;
     let words = recording.params.words;
     let image = image(recording.into_image().into_vec(), words);
     Ok(state_text(alloc, &outcome, &image, loads)?)
+}
+
+/// The recording and the outcome of its log's low order, or how a command ends that needs it. It is refused where the
+/// audit is, and for its reason.
+fn replay_of(alloc: Global, recording: Recording, which: Which) -> Result<(Recording, Outcome), Exit>
+    requires { Valid recording }
+    ensures { MatchResult result
+        (λ parts. (parts.0 ≡ recording) × IsReplayOf which recording parts.1)
+        (AuditEnds which recording) }
+{
+    match replayed(alloc, recording, which) {
+        Ok(parts) => Ok(parts),
+        Err(fault) => Err(exit_of_audit(fault)),
+    }
 }
 
 /// The audit of the recording by one of its logs, or how a command ends that needs it. It is refused where the audit
