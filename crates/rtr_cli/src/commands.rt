@@ -259,7 +259,11 @@ fn replay(alloc: Global, recording: Recording, which: Which, loads: bool) -> Res
 
 /// The recording and the outcome of its log's low order, or how a command ends that needs it. It is refused where the
 /// audit is, and for its reason.
-fn replay_of(alloc: Global, recording: Recording, which: Which) -> Result<(Recording, Outcome), Exit>
+fn replay_of(
+    alloc: Global,
+    recording: Recording,
+    which: Which,
+) -> Result<(Recording, Outcome), Exit>
     requires { Valid recording }
     ensures { MatchResult result
         (λ parts. (parts.0 ≡ recording) × IsReplayOf which recording parts.1)
