@@ -12,7 +12,7 @@ use crate::log_clocks::LogClocks;
 use crate::trail::Trail;
 use clock_core::Clock;
 use race_log::Recording;
-use replay_core::{Advanced, LowOrder, Replay};
+use replay_core::{Advanced, LowOrder, Replay, Sourced};
 use rtr_types::{Access, Instr, Items, Which};
 use rv_core::Outcome;
 use std::alloc::Global;
@@ -240,19 +240,36 @@ fn follow(
         (λ _. HasFollowed trail.old.listed which recording.now replay.new.state trail.new.accesses trail.new.kept)
         (FollowRefuses trail.old.listed which recording.now) }
 {
+    let cores = tally.cores();
     while let Some(core) = tally.lowest() {
-        replay.make_room()?;
-        match replay.advance(core) {
-            Advanced::Short => {
-                let count = replay.count(core);
-                return Err(AuditFault::Short { core, count });
-            }
-            Advanced::Retired { access } => {
-                let next = tally.next(core);
-                trail.note(&next, tally.cores(), access)?;
-                tally.advance(core);
+        // The core goes on alone to a count, and an edge may lead to its next instruction only.
+        let until = tally.run(core);
+        let next = tally.next(core);
+        let mut sources = *next.sources;
+        let mut retired = next.at.count - 1;
+        while retired < until {
+            replay.make_room()?;
+            match replay.advance(core) {
+                Advanced::Short => {
+                    let count = replay.count(core);
+                    return Err(AuditFault::Short { core, count });
+                }
+                Advanced::Retired { access } => {
+                    retired += 1;
+                    let at = Instr {
+                        core,
+                        count: retired,
+                    };
+                    let noted = Sourced {
+                        at,
+                        sources: &sources,
+                    };
+                    trail.note(&noted, cores, access)?;
+                    sources = None;
+                }
             }
         }
+        tally.go_on(core, until);
     }
     if !replay.whole() {
         return Err(AuditFault::Stuck { cut: replay.cut() });

@@ -13,4 +13,5 @@ pub mod NextEdges
 pub mod AwaitedEdges
 pub mod LowCounts
 pub mod LowestReady
+pub mod LowestGoesOn
 pub mod LowRuns

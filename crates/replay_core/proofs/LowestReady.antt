@@ -134,13 +134,13 @@ pub low_is : (low : Option ℕ) (c : ℕ) → true ≡ option_eq nat_eq low (Som
 low_is None c e = absurd (cc)
 low_is (Some d) c e = let same : d ≡ c = grind (arith, nat_tests) in ap (λ (k : ℕ). Some k) same
 
-module _ (t u : Tallied) (c : ℕ) (until : List ℕ) (plan_is : u.plan ≡ t.plan)
-    (counts_is : u.counts ≡ slice_set t.counts c (count_of t.counts c + 1))
-    (here : count_of u.counts c ≡ count_of t.counts c + 1) (all : c ≤ length t.plan.totals)
+module _ (t u : Tallied) (c n : ℕ) (until : List ℕ) (plan_is : u.plan ≡ t.plan)
+    (counts_is : u.counts ≡ slice_set t.counts c n) (here : count_of u.counts c ≡ n) (up : count_of t.counts c ≤ n)
+    (all : c ≤ length t.plan.totals)
     (low : lowest_ready t.plan (count_of t.counts) ≡ Some c) (h : AreAwaited t c until) where
   else_is : (i : ℕ) → i ≢ c → count_of u.counts i ≡ count_of t.counts i
   else_is i ne = ap (λ (l : List ℕ). count_of l i) counts_is
-      ∙ get_or-set_other t.counts c i (count_of t.counts c + 1) 0 ne
+      ∙ get_or-set_other t.counts c i n 0 ne
 
   more : (i : ℕ) → count_of t.counts i ≤ count_of u.counts i
   more i = by (ℕ_discrete i c)
@@ -154,7 +154,7 @@ module _ (t u : Tallied) (c : ℕ) (until : List ℕ) (plan_is : u.plan ≡ t.pl
   awaited_still = record {
     each = λ d i a less m up.
         h.each d i a less
-        (subst (λ (n : ℕ). Among t.plan.edges (instr i a) (instr d (n + 1))) (else_is d (λ e. omega arith))
+        (subst (λ (m : ℕ). Among t.plan.edges (instr i a) (instr d (m + 1))) (else_is d (λ e. omega arith))
         (subst (λ (q : Plan). Among q.edges (instr i a) (next_of u.counts d)) plan_is m))
         (let k = more i in omega arith);
   }
@@ -181,7 +181,7 @@ module _ (t u : Tallied) (c : ℕ) (until : List ℕ) (plan_is : u.plan ≡ t.pl
             there : Contains u.plan.edges (record { from = from; to = instr d (count_of u.counts d + 1) })
             there = subst (λ (q : Plan). Contains q.edges
                 (record { from = from; to = instr d (count_of u.counts d + 1) })) (sym plan_is)
-                (subst (λ (n : ℕ). Contains t.plan.edges (record { from = from; to = instr d (n + 1) })) (sym same) has)
+                (subst (λ (m : ℕ). Contains t.plan.edges (record { from = from; to = instr d (m + 1) })) (sym same) has)
 
             now : from.count ≤ count_of u.counts from.core
             now = source_within u.plan.edges (count_of u.counts) d (count_of u.counts d + 1) ready.sourced from there
@@ -224,4 +224,4 @@ module _ (t u : Tallied) (c : ℕ) (until : List ℕ) (plan_is : u.plan ≡ t.pl
         let b : c + (length u.plan.totals - c) ≡ length u.plan.totals = omega arith in
         ap (λ (d : ℕ). lowest u.plan (count_of u.counts) d (length u.plan.totals - c)) (sym a)
         ∙ lowest_skip u.plan (count_of u.counts) c 0 (length u.plan.totals - c) (λ d le less. not_ready d (omega arith))
-        ∙ ap (λ (n : ℕ). lowest u.plan (count_of u.counts) 0 n) b
+        ∙ ap (λ (m : ℕ). lowest u.plan (count_of u.counts) 0 m) b

@@ -5,6 +5,7 @@ use Rattle.std.specs.Prelude.{slice_set}
 use Rattle.rtr_types.specs.declared.instr.Edge.{Edge}
 use Rattle.rtr_types.specs.declared.instr.Instr.{Instr}
 use Rattle.rtr_types.specs.declared.pairs.Which.{Which}
+use Rattle.clock_core.specs.Counts.{no_counts}
 use Rattle.clock_core.specs.Order.{Among}
 use Rattle.race_log.specs.declared.recording.Recording.{Recording}
 use Rattle.race_log.specs.Sources.{log_edges}
@@ -36,6 +37,21 @@ pub record IsOneMore (s : Tallied) (c : ℕ) (t : Tallied) : Type 0 where
   pub plan : t.plan ≡ s.plan
   pub counts : t.counts ≡ slice_set s.counts c (count_of s.counts c + 1)
   pub one_more : count_of t.counts c ≡ count_of s.counts c + 1
+
+-- core c has gone on to the count n
+pub record IsGoneOn (s : Tallied) (c n : ℕ) (t : Tallied) : Type 0 where
+  pub plan : t.plan ≡ s.plan
+  pub counts : t.counts ≡ slice_set s.counts c n
+  pub here : count_of t.counts c ≡ n
+
+-- the lowest core that is ready can go on to the count n: it stays the lowest until then, and its instructions after
+-- the next have no sources
+pub record IsRun (t : Tallied) (c n : ℕ) : Type 0 where
+  pub more : count_of t.counts c < n
+  pub within : n ≤ slice_index t.plan.totals c
+  pub lowest : (k : ℕ) → count_of t.counts c ≤ k → k < n →
+      lowest_ready t.plan (count_of (slice_set t.counts c k)) ≡ Some c
+  pub free : (k : ℕ) → count_of t.counts c + 1 < k → k ≤ n → AreSources t.plan.edges (instr c k) no_counts
 
 -- the sources that are wanted before core c's next instruction
 abbrev pub wanted_at : List (Option (List ℕ)) → ℕ → List ℕ

@@ -3,6 +3,7 @@ ghost use Rattle.std.specs.Prelude.{◌≡◌, ◌≢◌, ◌<◌, ◌≤◌, �
 ghost use Rattle.std.specs.Prelude.{None as NoneThere};
 ghost use Rattle.rtr_types.specs.declared.TheConstants.{CORES_MAX};
 ghost use Rattle.rtr_types.specs.declared.pairs.Which.{Which};
+ghost use Rattle.clock_core.specs.Counts.{no_counts};
 ghost use Rattle.race_log.specs.declared.recording.Recording.{Recording};
 ghost use Rattle.replay_core.specs.Plans.{plan_of};
 ghost use Rattle.replay_core.specs.Play.{instr};
@@ -85,6 +86,14 @@ impl Coming {
         ensures { IsTrue result → (self.now.from ≤ count) × (count < self.now.due) }
     {
         self.from <= count && count < self.due
+    }
+
+    /// The first count from this one on to which an edge may lead.
+    #[inline(always)]
+    fn free_to(&self, count: u32) -> u32
+        ensures { (n : ℕ) → count ≤ n → n < result → (self.now.from ≤ n) × (n < self.now.due) }
+    {
+        if self.from <= count { self.due } else { count }
     }
 
     /// The first edge from a core to this count or a later one, where it is known: there may be none.
@@ -236,6 +245,16 @@ impl<'a> Sources<'a> {
             which,
             coming,
         })
+    }
+
+    /// The first count from that of the instruction on to which an edge may lead on its core.
+    #[inline(always)]
+    pub fn free_to(&self, at: Instr) -> u32
+        requires { at.core < length self.now.totals }
+        ensures { (n : ℕ) → at.count ≤ n → n < result →
+            AreSources self.now.edges (instr at.core n) no_counts }
+    {
+        self.coming[at.core as usize].free_to(at.count)
     }
 
     /// Finds the sources of the instruction: none where no edge leads to it.

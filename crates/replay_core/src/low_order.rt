@@ -6,7 +6,7 @@ ghost use Rattle.race_log.specs.Validity.{Valid};
 ghost use Rattle.replay_core.specs.Plans.{plan_of};
 ghost use Rattle.replay_core.specs.Orders.{Full, lowest, lowest_ready};
 ghost use Rattle.replay_core.specs.Sources.{sources_in};
-ghost use Rattle.replay_core.specs.Tallies.{AreAwaited, IsNextInstr, IsOneMore, count_of};
+ghost use Rattle.replay_core.specs.Tallies.{AreAwaited, IsGoneOn, IsNextInstr, IsOneMore, IsRun, count_of};
 
 use crate::coming::PLACES;
 use crate::sourced::Sourced;
@@ -79,7 +79,19 @@ impl<'a> LowOrder<'a> {
         requires below { count_of self.old.counts core < slice_index self.old.plan.totals core }
         ensures { IsOneMore self.old core self.new }
     {
-        self.tally.advance(core);
+        let count = self.tally.next_count(core);
+        self.go_on(core, count);
+    }
+
+    /// As many places of the core as bring it to this count, which is at most its total.
+    #[inline(always)]
+    pub fn go_on(&mut self, core: u8, count: u32)
+        requires inside { core < length self.old.plan.totals }
+        requires up { count_of self.old.counts core ≤ count }
+        requires within { count ≤ slice_index self.old.plan.totals core }
+        ensures { IsGoneOn self.old core count self.new }
+    {
+        self.tally.go_on(core, count);
         if self.low == Some(core) {
             if self.tally.count(core) < self.until[core as usize] {
                 if self.tally.is_ready(core) {
@@ -93,12 +105,46 @@ impl<'a> LowOrder<'a> {
         self.low = lowest_from(&self.tally, 0, &mut self.until);
     }
 
+    /// The count to which the lowest core that is ready goes on. Up to there it stays the lowest, and no edge
+    /// leads to its instructions after the next one.
+    #[inline(always)]
+    pub fn run(&self, core: u8) -> u32
+        requires inside { core < length self.now.plan.totals }
+        requires below { count_of self.now.counts core < slice_index self.now.plan.totals core }
+        requires lowest { lowest_ready self.now.plan (count_of self.now.counts) ≡ Some core }
+        ensures { IsRun self.now core result }
+    {
+        let next = self.tally.next_count(core);
+        let free = self.tally.free_to(core);
+        let total = self.tally.total(core);
+        // There is a place for each core.
+        let _ = self.tally.count(core);
+        least_from(next, total, self.until[core as usize], free)
+    }
+
     /// Whether each core is at its total.
     pub fn whole(&self) -> bool
         ensures { IsTrue result ↔ Full self.now.plan (count_of self.now.counts) }
     {
         self.tally.whole()
     }
+}
+
+/// The least of a total, a count that is waited for, and the count before one that isn't free, or the next
+/// count, if that is greater.
+#[inline(always)]
+fn least_from(next: u32, total: u32, awaited: u32, free: u32) -> u32
+    ensures least { next ≤ result }
+    ensures most { next < result → (result ≤ total) × (result ≤ awaited) × (result < free) }
+{
+    let mut most = total;
+    if awaited < most {
+        most = awaited;
+    }
+    if free <= most {
+        most = free.saturating_sub(1);
+    }
+    if most < next { next } else { most }
 }
 
 /// The lowest core from `from` on that is ready. `until` has for each core a count at most the one that it

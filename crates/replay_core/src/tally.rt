@@ -2,13 +2,15 @@
 ghost use Rattle.std.specs.Prelude.{◌≡◌, ◌<◌, ◌≤◌, ◌+◌, ◌↔◌, ℕ, length, slice_index, replicate, IfOk};
 ghost use Rattle.std.specs.Prelude.{IsTrue};
 ghost use Rattle.rtr_types.specs.declared.TheConstants.{CORES_MAX};
+ghost use Rattle.rtr_types.specs.declared.params.TheConstants.{LIMIT_MAX};
+ghost use Rattle.clock_core.specs.Counts.{no_counts};
 ghost use Rattle.clock_core.specs.Order.{Among};
 ghost use Rattle.race_log.specs.Validity.{Valid};
 ghost use Rattle.replay_core.specs.Plans.{plan_of};
 ghost use Rattle.replay_core.specs.Play.{instr};
 ghost use Rattle.replay_core.specs.Orders.{Full, is_ready, is_sourced};
 ghost use Rattle.replay_core.specs.Sources.{AreSources, sources_in};
-ghost use Rattle.replay_core.specs.Tallies.{AreWanted, IsNextInstr, IsOneMore, count_of, next_of};
+ghost use Rattle.replay_core.specs.Tallies.{AreWanted, IsGoneOn, IsNextInstr, IsOneMore, count_of, next_of};
 
 use crate::coming::{PLACES, Sources};
 use crate::sourced::Sourced;
@@ -104,6 +106,19 @@ impl<'a> Tally<'a> {
         self.counts[core as usize]
     }
 
+    /// The count of the next instruction of a core below its total.
+    pub fn next_count(&self, core: u8) -> u32
+        requires inside { core < length self.now.plan.totals }
+        requires below { count_of self.now.counts core < slice_index self.now.plan.totals core }
+        ensures count { result ≡ count_of self.now.counts core + 1 }
+        ensures most { result ≤ LIMIT_MAX }
+        ensures place { core < length self.now.counts }
+    {
+        // What always holds of a tally: it has a place for each core of its recording.
+        let _ = &self.recording;
+        self.counts[core as usize] + 1
+    }
+
     /// One place more, of a core below its total.
     #[inline(always)]
     pub fn advance(&mut self, core: u8)
@@ -111,13 +126,45 @@ impl<'a> Tally<'a> {
         requires below { count_of self.old.counts core < slice_index self.old.plan.totals core }
         ensures { IsOneMore self.old core self.new }
     {
-        let count = self.counts[core as usize] + 1;
+        let count = self.next_count(core);
+        self.go_on(core, count);
+    }
+
+    /// As many places of the core as bring it to this count, which is at most its total.
+    #[inline(always)]
+    pub fn go_on(&mut self, core: u8, count: u32)
+        requires inside { core < length self.old.plan.totals }
+        requires within { count ≤ slice_index self.old.plan.totals core }
+        ensures { IsGoneOn self.old core count self.new }
+    {
+        // What always holds of a tally: it has a place for each core of its recording.
+        let _ = &self.recording;
         let next = Instr {
             core,
             count: count + 1,
         };
         self.counts[core as usize] = count;
         self.sources.find(next, &mut self.wanted[core as usize]);
+    }
+
+    /// The core's total.
+    pub fn total(&self, core: u8) -> u32
+        requires { core < length self.now.plan.totals }
+        ensures { result ≡ slice_index self.now.plan.totals core }
+    {
+        self.recording.totals.as_slice()[core as usize]
+    }
+
+    /// The first count, after that of the core's next instruction, to which an edge may lead.
+    #[inline(always)]
+    pub fn free_to(&self, core: u8) -> u32
+        requires inside { core < length self.now.plan.totals }
+        requires below { count_of self.now.counts core < slice_index self.now.plan.totals core }
+        ensures { (n : ℕ) → count_of self.now.counts core + 1 < n → n < result →
+            AreSources self.now.plan.edges (instr core n) no_counts }
+    {
+        let count = self.next_count(core) + 1;
+        self.sources.free_to(Instr { core, count })
     }
 
     /// Whether each core is at its total.

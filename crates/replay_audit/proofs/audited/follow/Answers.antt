@@ -1,14 +1,18 @@
--- Place by place: the trail so far is that of the low order's front, and a core that is ready goes on; where none is,
--- the front is all that there is.
-use Rattle.std.proofs.Common.{◌++◌, ◌∷◌, [], ◌∙◌, ap, length, refl, subst, sym}
+-- Run by run: the trail so far is that of the low order's front, and the lowest core that is ready goes on; where none
+-- is, the front is all that there is.
+use Rattle.std.proofs.Common.{◌≡◌, ◌+◌, ◌-◌, ◌++◌, ◌∷◌, [], ◌∙◌, ℕ, ap, arith, length, refl, subst, sym}
 use Rattle.std.specs.Prelude.{IsTrue}
+use Rattle.rtr_types.specs.declared.instr.Instr.{Instr}
 use Rattle.replay_core.specs.Plans.{Plan}
-use Rattle.replay_audit.proofs.LowAudit.{along_start, all_told, along_on, followed_by, in_plan}
-use Rattle.replay_audit.proofs.LowAudit.{leaves_open, passes, ready_here}
-use Rattle.replay_audit.proofs.LowAudit.{short_here, stuck, told_at}
-use Rattle.replay_audit.proofs.TallyAndTrail.{each_core, noted_next}
+use Rattle.replay_core.specs.Play.{instr}
+use Rattle.replay_core.specs.Sources.{AreSources, sources_in}
+use Rattle.replay_core.specs.Tallies.{Tallied, count_of}
+use Rattle.replay_core.proofs.LowestGoesOn.{gone_to}
+use Rattle.replay_core.proofs.LowCounts.{below_plan, inside_plan}
+use Rattle.replay_audit.proofs.LowAudit.{Along, all_told, along_on, along_start, followed_by, leaves_open, passes}
+use Rattle.replay_audit.proofs.LowAudit.{ready_here, short_here, stuck, told_at}
+use Rattle.replay_audit.proofs.LowestAlone.{gone_here, gone_is, gone_more, gone_same, run_smaller}
 use Rattle.replay_audit.proofs.TrailSteps.{trails_listed}
-use Rattle.replay_core.proofs.LowCounts.{below_plan, inside_plan, less_to_go}
 use Rattle.replay_audit.proofs.audited.follow.Goals as goal
 
 pub loop-core-init : goal.loop-core-init
@@ -26,74 +30,114 @@ loop-core-init c =
       refl,
     )
 
+-- ---- the lowest core that is ready goes on
+
+pub run-until-requires-clause-inside : goal.run-until-requires-clause-inside
+run-until-requires-clause-inside c =
+    inside_plan _ _ _ c.loop-core.invariant.1.followed.counted _ (sym c.lowest.ensures ∙ c.in-Some.is)
+
+pub run-until-requires-clause-below : goal.run-until-requires-clause-below
+run-until-requires-clause-below c =
+    below_plan _ _ _ c.loop-core.invariant.1.followed.counted _ (sym c.lowest.ensures ∙ c.in-Some.is)
+
+pub loop-retired-init : goal.loop-retired-init
+loop-retired-init c =
+    let i = c.loop-core.invariant in
+    let t = c.loop-core.tally in
+    let core = c.in-Some.core in
+    let next = c.next-next.ensures in
+    let count = ap (λ (x : Instr). x.count) next.at in
+    let before : c.next-next.result.at.count - 1 ≡ count_of t.counts core = omega arith in
+    let more = c.run-until.ensures.more in
+    record {
+      along = (
+        i.0,
+        subst (λ (x : Tallied). Along c.args.which c.args.recording.now i.0 x c.loop-core.replay c.loop-core.trail)
+            (gone_same t core (c.next-next.result.at.count - 1) before) i.1,
+        i.2,
+      );
+      from = omega arith;
+      to = omega arith;
+      sources = λ lt. subst (λ (n : ℕ). AreSources t.plan.edges (instr core (n + 1))
+          (sources_in c.next-next.result.sources.now)) (sym before) next.sources;
+    }
+
 -- ---- a place more
 
 pub advance-requires-clause-ready : goal.advance-requires-clause-ready
 advance-requires-clause-ready c =
-    ready_here c.requires.valid c.loop-core.invariant.1 (sym c.lowest.ensures ∙ c.in-Some.is) c.make_room.new.self
-    c.make_room.ensures.plan c.make_room.ensures.state
-
-pub count-count-requires : goal.count-count-requires
-count-count-requires c =
-    in_plan c.requires.valid c.loop-core.invariant.1 (sym c.lowest.ensures
-    ∙ c.in-Some.is) c.make_room.new.self c.make_room.ensures.plan c.make_room.ensures.state c.advance.new.self
-    c.advance.ensures.plan
+    let i = c.loop-retired.invariant in
+    let some = c.run-until.ensures.lowest c.loop-retired.retired i.from c.loop-retired-test.true in
+    ready_here c.requires.valid i.along.1 some c.make_room.new.self c.make_room.ensures.plan c.make_room.ensures.state
 
 pub returns-in-Short : goal.returns-in-Short
 returns-in-Short c =
-    short_here c.requires.valid c.loop-core.invariant.1 (sym c.lowest.ensures ∙ c.in-Some.is) c.make_room.new.self
-    c.make_room.ensures.plan c.make_room.ensures.state
-    c.in-Short.ensures.place c.count-count.ensures
-
-pub next-next-requires-clause-inside : goal.next-next-requires-clause-inside
-next-next-requires-clause-inside c = let i = c.loop-core.invariant.1.followed.counted in
-    inside_plan _ _ _ i _ (sym c.lowest.ensures ∙ c.in-Some.is)
-
-pub next-next-requires-clause-below : goal.next-next-requires-clause-below
-next-next-requires-clause-below c = let i = c.loop-core.invariant.1.followed.counted in
-    below_plan _ _ _ i _ (sym c.lowest.ensures ∙ c.in-Some.is)
-
-pub advance-requires-in-Retired-clause-inside : goal.advance-requires-in-Retired-clause-inside
-advance-requires-in-Retired-clause-inside c = let i = c.loop-core.invariant.1.followed.counted in
-    inside_plan _ _ _ i _ (sym c.lowest.ensures ∙ c.in-Some.is)
-
-pub advance-requires-in-Retired-clause-below : goal.advance-requires-in-Retired-clause-below
-advance-requires-in-Retired-clause-below c = let i = c.loop-core.invariant.1.followed.counted in
-    below_plan _ _ _ i _ (sym c.lowest.ensures ∙ c.in-Some.is)
-
-pub note-requires-clause-next : goal.note-requires-clause-next
-note-requires-clause-next c =
-    noted_next c.requires.valid c.loop-core.invariant.1.followed (sym c.lowest.ensures ∙ c.in-Some.is)
-    c.next-next.ensures.at
+    let i = c.loop-retired.invariant in
+    let some = c.run-until.ensures.lowest c.loop-retired.retired i.from c.loop-retired-test.true in
+    short_here c.requires.valid i.along.1 some c.make_room.new.self c.make_room.ensures.plan
+    c.make_room.ensures.state c.in-Short.ensures.place c.count-count.ensures
 
 pub note-requires-clause-access : goal.note-requires-clause-access
 note-requires-clause-access c =
-    let some = sym c.lowest.ensures ∙ c.in-Some.is in
-    let told = told_at c.requires.valid c.loop-core.invariant.1 some c.make_room.new.self c.make_room.ensures.plan
-    c.make_room.ensures.state
-    c.advance.new.self c.advance.ensures.plan c.in-Retired.ensures.place c.next-next.ensures.at in
+    let i = c.loop-retired.invariant in
+    let core = c.in-Some.core in
+    let some = c.run-until.ensures.lowest c.loop-retired.retired i.from c.loop-retired-test.true in
+    let at_is : instr core (c.loop-retired.retired + 1)
+    ≡ instr core (count_of (gone_to c.loop-core.tally core c.loop-retired.retired).counts core + 1) =
+    ap (λ (n : ℕ). instr core (n + 1)) (sym (gone_here c.loop-core.tally core c.loop-retired.retired i.along.1 some)) in
+    let told = told_at c.requires.valid i.along.1 some c.make_room.new.self c.make_room.ensures.plan
+    c.make_room.ensures.state c.advance.new.self c.advance.ensures.plan c.in-Retired.ensures.place at_is in
     all_told c.in-Retired.access told
 
-pub note-requires-clause-each : goal.note-requires-clause-each
-note-requires-clause-each c = each_core c.requires.valid c.loop-core.invariant.1.followed
+pub loop-retired-preserved : goal.loop-retired-preserved
+loop-retired-preserved c =
+    let i = c.loop-retired.invariant in
+    let t = c.loop-core.tally in
+    let core = c.in-Some.core in
+    let k = c.loop-retired.retired in
+    let before = c.loop-retired-test.true in
+    let from = i.from in
+    let some = c.run-until.ensures.lowest k from before in
+    let here = gone_here t core k i.along.1 some in
+    let trails = c.in_ok-note-in-Retired.ensures in
+    let cores = c.cores-cores.ensures.all
+    ∙ ap (λ (q : Plan). length q.totals) (c.requires.begins.tally_plan ∙ sym i.along.1.followed.counted.plan_is) in
+    record {
+      along = (
+        i.along.0 ++ core ∷ [],
+        along_on c.requires.valid i.along.1 some c.make_room.new.self c.make_room.ensures.plan
+            c.make_room.ensures.state c.advance.new.self c.advance.ensures.plan c.in-Retired.ensures.place
+            (ap (λ (n : ℕ). instr core (n + 1)) (sym here)) (gone_to t core (k + 1))
+            (sources_in c.loop-retired.sources) c.cores-cores.result c.note.new.self refl
+            (gone_more t core k (k + 1) (ap (λ (n : ℕ). n + 1) (sym here)))
+            (subst (λ (n : ℕ). AreSources t.plan.edges (instr core (n + 1)) (sources_in c.loop-retired.sources))
+            (sym here) (i.sources before))
+            cores trails,
+        trails_listed trails ∙ i.along.2,
+      );
+      from = omega arith;
+      to = omega arith;
+      sources = λ lt. c.run-until.ensures.free ((k + 1) + 1) (omega arith) (omega arith);
+    }
+
+-- ---- the core has gone on
 
 pub loop-core-smaller : goal.loop-core-smaller
 loop-core-smaller c =
-    less_to_go _ _ _ c.loop-core.invariant.1.followed.counted _
-    (sym c.lowest.ensures ∙ c.in-Some.is) _ c.advance-in-Retired.ensures.plan c.advance-in-Retired.ensures.counts
+    run_smaller c.loop-core.tally c.go_on.new.self c.in-Some.core c.run-until.result
+    (inside_plan _ _ _ c.loop-core.invariant.1.followed.counted _ (sym c.lowest.ensures ∙ c.in-Some.is))
+    c.run-until.ensures c.go_on.ensures
 
 pub loop-core-preserved : goal.loop-core-preserved
 loop-core-preserved c =
-    let i = c.loop-core.invariant in
-    let next = c.next-next.ensures in
-    let more = c.advance-in-Retired.ensures in (
-      i.0 ++ c.in-Some.core ∷ [],
-      along_on c.requires.valid i.1 (sym c.lowest.ensures
-          ∙ c.in-Some.is) c.make_room.new.self c.make_room.ensures.plan c.make_room.ensures.state c.advance.new.self
-          c.advance.ensures.plan
-          c.in-Retired.ensures.place next.at _ _ _ _ more.plan more.counts next.sources
-          (c.cores.ensures.all ∙ ap (λ (q : Plan). length q.totals) (sym more.plan)) c.in_ok-note-in-Retired.ensures,
-      trails_listed c.in_ok-note-in-Retired.ensures ∙ i.2,
+    let i = c.loop-retired.invariant in
+    let to = i.to in
+    let past = c.loop-retired-test.false in
+    let all : c.loop-retired.retired ≡ c.run-until.result = omega arith in (
+      i.along.0,
+      subst (λ (x : Tallied). Along c.args.which c.args.recording.now i.along.0 x c.loop-retired.replay
+          c.loop-retired.trail) (gone_is c.go_on.ensures all) i.along.1,
+      i.along.2,
     )
 
 -- ---- the end
