@@ -20,5 +20,5 @@ mod reading;
 pub use command::{Command, RunWords, Verb};
 pub use faults::{Fault, Why};
 pub use numerals::number_between;
-pub use options::{Name, THREADS_MAX};
+pub use options::{CORES_DEFAULT, LIMIT_DEFAULT, Name, THREADS_MAX, WORDS_DEFAULT, whole_blocks};
 pub use reading::{fault, meaning, what_words_mean_fits};

@@ -18,13 +18,13 @@ use rtr_types::{
 use trace_gen::Shape;
 
 /// The number of cores of a run whose words name none.
-pub(crate) const CORES_DEFAULT: u8 = 1;
+pub const CORES_DEFAULT: u8 = 1;
 
 /// The limit of a run whose words name none.
-pub(crate) const LIMIT_DEFAULT: u32 = 10_000;
+pub const LIMIT_DEFAULT: u32 = 10_000;
 
 /// The words of a memory whose words name none.
-pub(crate) const WORDS_DEFAULT: u32 = 16_384;
+pub const WORDS_DEFAULT: u32 = 16_384;
 
 /// The most threads of a replay.
 pub const THREADS_MAX: u32 = 8;
@@ -372,7 +372,7 @@ fn one_of<T: Copy>(text: &str, first: (&str, T), second: (&str, T)) -> Option<T>
 }
 
 /// The number of words of a memory: in range, and of whole blocks.
-fn whole_blocks(text: &str) -> Option<u32>
+pub fn whole_blocks(text: &str) -> Option<u32>
     ensures { result ≡ whole_blocks text.now }
 {
     let words = number_between(WORDS_MIN as u64, WORDS_MAX as u64, text)?;

@@ -1,0 +1,3 @@
+pub mod HexLines
+pub mod LineLemmas
+pub mod NumberLines
