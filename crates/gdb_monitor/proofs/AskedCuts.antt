@@ -13,12 +13,13 @@ use Rattle.rtr_types.specs.declared.pairs.Which.{Which}
 use Rattle.race_log.specs.declared.recording.Recording.{Recording}
 use Rattle.race_log.specs.Validity.{Valid}
 use Rattle.replay_audit.specs.Audits.{Findings, IsInstrOf}
-use Rattle.cut_replay.specs.ClosedCuts.{IsCutOf, IsLeastWith, count_in}
-use Rattle.cut_replay.proofs.Unique.{one_cut}
+use Rattle.cut_replay.specs.ClosedCuts.{IsCutOf, IsGreatestWithout, IsLeastWith, count_in}
+use Rattle.cut_replay.proofs.Unique.{one_cut, one_greatest}
 use Rattle.cut_moves.specs.Steps.{IsHull}
 use Rattle.debug_place.specs.Places.{Placed, cut_at}
 use Rattle.gdb_monitor.specs.declared.moves.Extreme.{Extreme}
-use Rattle.gdb_monitor.specs.Moves.{AreCounts, Comes, ComesWhere, GoesAround, GoesIfClosed, GoesTo, GoesToCut}
+use Rattle.gdb_monitor.specs.Moves.{AreCounts, BothComeNext, Comes, ComesWhere, GoesAround, GoesIfClosed, GoesTo}
+use Rattle.gdb_monitor.specs.Moves.{GoesToCut, GoesToDecision, IsDecision, decided_text}
 use Rattle.gdb_monitor.specs.Moves.{IsExtreme, IsOf, cut_with_counts}
 use Rattle.gdb_monitor.specs.Texts.{open_text}
 
@@ -50,6 +51,38 @@ module _ (a : Findings) (old : Placed) (run : IsOf a old) (new : Placed) (told :
       IsLeastWith a.which a.recording at to → Comes to new told → GoesTo at old new told
   goes_to at to r same there least comes = record {
     there = λ is. comes_there (λ w r c. IsLeastWith w r at c) to least comes;
+    missing = λ no. absurd (no (subst (λ (q : Recording). IsInstrOf q at) (same ∙ run.recording) there));
+  }
+
+  -- of the audited recording, by its own log
+  decided_there : (at other : Instr) (cut : Cut) → IsDecision old.which old.recording at other cut →
+      IsDecision a.which a.recording at other cut
+  decided_there at other cut is =
+      subst (λ (w : Which). IsDecision w a.recording at other cut) (sym run.which)
+      (subst (λ (r : Recording). IsDecision old.which r at other cut) (sym run.recording) is)
+
+  pub goes_to_decision : (at other : Instr) (to : Cut) (r : Recording) → r ≡ a.recording → IsInstrOf r at →
+      IsGreatestWithout a.which a.recording at to → BothComeNext to at other → Comes to new told →
+      GoesToDecision at other old new told
+  goes_to_decision at other to r same there greatest both comes = record {
+    there = λ cut is decision. comes_there (λ w r c. IsDecision w r at other c) to
+        (record { greatest = greatest; both = both }) comes;
+    decided = λ is none. absurd (none to
+        (subst (λ (q : Recording). IsDecision old.which q at other to) run.recording
+        (subst (λ (w : Which). IsDecision w a.recording at other to) run.which
+        (record { greatest = greatest; both = both }))));
+    missing = λ no. absurd (no (subst (λ (q : Recording). IsInstrOf q at) (same ∙ run.recording) there));
+  }
+
+  pub goes_nowhere : (at other : Instr) (to : Cut) (r : Recording) → r ≡ a.recording → IsInstrOf r at →
+      IsGreatestWithout a.which a.recording at to → (BothComeNext to at other → ⊥) → new ≡ old → told ≡ decided_text →
+      GoesToDecision at other old new told
+  goes_nowhere at other to r same there greatest not stays is = record {
+    there = λ cut _ decision.
+        let d = decided_there at other cut decision in
+        absurd (not (subst (λ (c : Cut). BothComeNext c at other)
+        (one_greatest a.which a.recording at cut to d.greatest greatest) d.both));
+    decided = λ _ none. record { place = stays; told_is = is };
     missing = λ no. absurd (no (subst (λ (q : Recording). IsInstrOf q at) (same ∙ run.recording) there));
   }
 

@@ -10,7 +10,7 @@ use Rattle.replay_audit.specs.Audits.{Findings, IsInstrOf}
 use Rattle.race_queries.specs.declared.conflicts.Conflicts.{Conflicts}
 use Rattle.race_queries.specs.Conflicts.{conflicts_at}
 use Rattle.race_queries.specs.Queries.{AreEdgesInto, AreEdgesOutOf, AreReadsSince, IsLastWrite, NoWriteIn, accesses_to}
-use Rattle.race_queries.specs.Queries.{is_held}
+use Rattle.race_queries.specs.Queries.{is_held, loads_behind}
 use Rattle.gdb_monitor.specs.declared.edges.End.{End}
 use Rattle.gdb_monitor.specs.declared.edges.End.TheVariants.{Source, Target}
 use Rattle.gdb_monitor.specs.Instrs.{instr_text, row_text}
@@ -44,10 +44,11 @@ pub record AreRowsTold (a : Findings) (list : List Access) (told : List ℕ) : T
   pub are : ArePcs a.which a.recording pcs
   pub told_is : told ≡ rows_text pcs list
 
--- `readers ADDR`: the loads of the word in the cut since that write
+-- `readers ADDR`: the loads of the word in the cut since that write, in the order of the audit's accesses
 pub record AreReadersTold (a : Findings) (cut : Cut) (word : ℕ) (told : List ℕ) : Type 0 where
   pub list : List Access
   pub reads : AreReadsSince a cut word list
+  pub order : list ≡ loads_behind cut word [] a.accesses
   pub none : length list ≡ 0 → told ≡ line (codes "no read since the last write")
   pub some : 1 ≤ length list → AreRowsTold a list told
 

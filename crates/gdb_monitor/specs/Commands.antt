@@ -7,7 +7,7 @@ use Rattle.rtr_types.specs.declared.instr.Instr.{Instr}
 use Rattle.gdb_monitor.specs.declared.commands.Command.{Command}
 use Rattle.gdb_monitor.specs.declared.commands.Command.TheVariants.{Cut, GoTo, GoToCut, Earliest, Latest, Edges}
 use Rattle.gdb_monitor.specs.declared.commands.Command.TheVariants.{Writer, Readers, History, Conflicts}
-use Rattle.gdb_monitor.specs.declared.commands.Command.TheVariants.{Order, Lead, Unknown}
+use Rattle.gdb_monitor.specs.declared.commands.Command.TheVariants.{Decision, Order, Lead, Unknown}
 use Rattle.gdb_monitor.specs.Numbers.{core_of, count_of, named_instr, word_of}
 use Rattle.gdb_monitor.specs.Words.{words_of}
 
@@ -50,6 +50,14 @@ order_of (word ∷ other ∷ []) =
     option_and_then (λ x. option_map (λ y. Order x y) (named_instr other)) (named_instr word)
 order_of (word ∷ other ∷ more ∷ rest) = None
 
+-- `decision C:N C:N`
+abbrev pub decision_of : List (List ℕ) → Option Command
+decision_of [] = None
+decision_of (word ∷ []) = None
+decision_of (word ∷ other ∷ []) =
+    option_and_then (λ x. option_map (λ y. Decision x y) (named_instr other)) (named_instr word)
+decision_of (word ∷ other ∷ more ∷ rest) = None
+
 -- `lead C` and `lead all`
 abbrev pub leader_of : List ℕ → Option Command
 leader_of word =
@@ -58,13 +66,14 @@ leader_of word =
 abbrev pub lead_of : List (List ℕ) → Option Command
 lead_of arguments = option_and_then leader_of (only arguments)
 
--- the commands that say where the place is, or move it, `order` and `lead`
+-- the commands that say where the place is, or move it, `order`, `decision` and `lead`
 abbrev pub place_named : (name : List ℕ) → (arguments : List (List ℕ)) → Option Command
 place_named name arguments =
     if bytes_eq name (codes "cut") then cut_of arguments else
     if bytes_eq name (codes "earliest") then option_map Earliest (one_core arguments) else
     if bytes_eq name (codes "latest") then option_map Latest (one_core arguments) else
     if bytes_eq name (codes "order") then order_of arguments else
+    if bytes_eq name (codes "decision") then decision_of arguments else
     if bytes_eq name (codes "lead") then lead_of arguments else None
 
 -- the commands that ask for a word or an instruction of the run

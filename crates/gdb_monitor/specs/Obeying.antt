@@ -7,11 +7,11 @@ use Rattle.debug_place.specs.Places.{Placed, cut_at}
 use Rattle.gdb_monitor.specs.declared.commands.Command.{Command}
 use Rattle.gdb_monitor.specs.declared.commands.Command.TheVariants.{Cut, GoTo, GoToCut, Earliest, Latest, Edges}
 use Rattle.gdb_monitor.specs.declared.commands.Command.TheVariants.{Writer, Readers, History, Conflicts}
-use Rattle.gdb_monitor.specs.declared.commands.Command.TheVariants.{Order, Lead, Unknown}
+use Rattle.gdb_monitor.specs.declared.commands.Command.TheVariants.{Decision, Order, Lead, Unknown}
 use Rattle.gdb_monitor.specs.declared.moves.Extreme.TheVariants as extremes
 use Rattle.gdb_monitor.specs.Asking.{AreConflictsTold, AreEdgesTold, AreReadersTold, IsHistoryTold, IsWriterTold}
 use Rattle.gdb_monitor.specs.Leading.{lead_told}
-use Rattle.gdb_monitor.specs.Moves.{GoesAround, GoesTo, GoesToCut, IsOf, Refuses, Tells}
+use Rattle.gdb_monitor.specs.Moves.{GoesAround, GoesTo, GoesToCut, GoesToDecision, IsOf, Refuses, Tells}
 use Rattle.gdb_monitor.specs.Ordering.{IsOrderTold}
 use Rattle.gdb_monitor.specs.Texts.{here_text, usage_text}
 
@@ -44,5 +44,6 @@ Obeys (Readers word) old new told = Asks (Readers word) old new told
 Obeys (History word) old new told = Asks (History word) old new told
 Obeys (Conflicts at) old new told = Asks (Conflicts at) old new told
 Obeys (Order at other) old new told = (new ≡ old) × IsOrderTold at other old told
+Obeys (Decision at other) old new told = GoesToDecision at other old new told
 Obeys (Lead core) old new told = Tells old new told (lead_told core old.recording.params.cores)
 Obeys Unknown old new told = Refuses old new told

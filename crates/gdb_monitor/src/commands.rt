@@ -3,7 +3,7 @@ ghost use Rattle.std.specs.Prelude.{◌≡◌, IfOk};
 ghost use Rattle.std.specs.Option.{option_map};
 ghost use Rattle.gdb_monitor.specs.Commands.{command_of, counts_of, cut_of, goto_of, meaning, named, one_core, only};
 ghost use Rattle.gdb_monitor.specs.Commands.{lead_of, leader_of, one_instr, one_word, order_of, place_named};
-ghost use Rattle.gdb_monitor.specs.Commands.{run_named};
+ghost use Rattle.gdb_monitor.specs.Commands.{decision_of, run_named};
 
 use crate::numbers::{core_of, count_of, named_instr, word_of};
 use crate::words::words_of;
@@ -36,6 +36,8 @@ pub enum Command {
     Conflicts(Instr),
     /// `order C:N C:N`: which of the two instructions comes before the other.
     Order(Instr, Instr),
+    /// `decision C:N C:N`: to a cut at which both instructions come next.
+    Decision(Instr, Instr),
     /// `lead C` and `lead all`: all cores go on, and back, by this core alone, or each goes.
     Lead(Option<u8>),
     /// Every other text.
@@ -71,7 +73,7 @@ fn named(name: &[u8], arguments: &[Items<u8>]) -> Option<Command>
     }
 }
 
-/// The commands that say where the place is, or move it, `order` and `lead`.
+/// The commands that say where the place is, or move it, `order`, `decision` and `lead`.
 fn place_named(name: &[u8], arguments: &[Items<u8>]) -> Option<Command>
     ensures { result ≡ place_named name.now arguments.now }
 {
@@ -83,6 +85,8 @@ fn place_named(name: &[u8], arguments: &[Items<u8>]) -> Option<Command>
         one_core(arguments).map(Command::Latest)
     } else if is(name, "order") {
         order_of(arguments)
+    } else if is(name, "decision") {
+        decision_of(arguments)
     } else if is(name, "lead") {
         lead_of(arguments)
     } else {
@@ -138,6 +142,20 @@ fn order_of(arguments: &[Items<u8>]) -> Option<Command>
             let at = named_instr(at.as_slice())?;
             let other = named_instr(other.as_slice())?;
             Some(Command::Order(at, other))
+        }
+        _ => None,
+    }
+}
+
+/// `decision` with two instructions.
+fn decision_of(arguments: &[Items<u8>]) -> Option<Command>
+    ensures { result ≡ decision_of arguments.now }
+{
+    match arguments {
+        [at, other] => {
+            let at = named_instr(at.as_slice())?;
+            let other = named_instr(other.as_slice())?;
+            Some(Command::Decision(at, other))
         }
         _ => None,
     }

@@ -11,8 +11,8 @@ pub fn one_pc()
     ensures { OnePcLaw }
 {}
 
-/// How many bytes of a text one payload has at most, as a number. Two digits for each, behind one letter, are within the
-/// longest payload.
+/// How many bytes of a text one payload has at most, as a number. Two digits for each, behind one letter, are within
+/// the longest payload.
 pub fn sizes_law()
     ensures frame { FRAME_MAX ≡ frame_max }
     ensures fits { 1 + 2 * FRAME_MAX ≤ PAYLOAD_MAX }

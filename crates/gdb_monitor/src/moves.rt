@@ -4,11 +4,11 @@ ghost use Rattle.race_log.specs.Validity.{Valid};
 ghost use Rattle.cut_replay.specs.ClosedCuts.{IsClosed, IsCutOf};
 ghost use Rattle.debug_place.specs.Places.{IsKept, cut_at};
 ghost use Rattle.gdb_monitor.specs.Moves.{AreCounts, Comes, GoesAround, GoesIfClosed, GoesTo, GoesToCut, IsExtreme};
-ghost use Rattle.gdb_monitor.specs.Moves.{IsOf, cut_with_counts};
+ghost use Rattle.gdb_monitor.specs.Moves.{BothComeNext, ComesNext, GoesToDecision, IsOf, cut_with_counts};
 
-use crate::texts::{Told, cut_text, open_text, usage};
+use crate::texts::{Told, cut_text, line, open_text, usage};
 use cut_moves::{earliest, hull, latest};
-use cut_replay::{cut_with, has_instr};
+use cut_replay::{cut_with, cut_without, has_instr};
 use debug_place::Place;
 use race_log::Recording;
 use replay_audit::Audited;
@@ -42,6 +42,48 @@ pub(crate) fn go_to(alloc: Global, audited: &Audited, place: &mut Place, at: Ins
     }
     let to = cut_with(audited, at)?;
     go(alloc, place, &to)
+}
+
+/// To the greatest closed cut without an instruction, if both it and another one come next there: the order of the two
+/// was still open. Every edge of a least log is such a pair.
+pub(crate) fn go_to_decision(
+    alloc: Global,
+    audited: &Audited,
+    place: &mut Place,
+    at: Instr,
+    other: Instr,
+) -> Told
+    requires { IsOf audited.now place.old }
+    ensures kept { IsKept place.old place.new }
+    ensures ok { IfOk result (GoesToDecision at other place.old place.new) }
+    ensures err { OnErr result (place.new ≡ place.old) }
+{
+    if !has_instr(audited.recording(), at) {
+        return usage(alloc);
+    }
+    let to = cut_without(audited, at)?;
+    if both_come_next(&to, at, other) {
+        go(alloc, place, &to)
+    } else {
+        line(alloc, "no decision: the log says more of their order")
+    }
+}
+
+/// Whether both instructions are the next ones of their cores.
+fn both_come_next(cut: &Cut, at: Instr, other: Instr) -> bool
+    ensures { IsTrue result ↔ BothComeNext cut.now at other }
+{
+    comes_next(cut, at) && comes_next(cut, other)
+}
+
+/// Whether the instruction is the next one of its core.
+fn comes_next(cut: &Cut, at: Instr) -> bool
+    ensures { IsTrue result ↔ ComesNext cut.now at }
+{
+    match cut.counts.get(at.core as usize) {
+        Some(count) => *count as u64 + 1 == at.count as u64,
+        None => at.count == 1,
+    }
 }
 
 /// The first or the last of the closed cuts in which a core stands where it does.

@@ -9,7 +9,7 @@ use crate::commands::Command;
 use crate::conflicts::conflicts_told;
 use crate::edges::edges_told;
 use crate::leading::lead_told;
-use crate::moves::{Extreme, go_around, go_to, go_to_cut};
+use crate::moves::{Extreme, go_around, go_to, go_to_cut, go_to_decision};
 use crate::ordering::order_told;
 use crate::texts::{cut_text, usage};
 use debug_place::Place;
@@ -43,6 +43,7 @@ pub fn obey(
         Command::History(_) => ask(alloc, audited, place, command),
         Command::Conflicts(_) => ask(alloc, audited, place, command),
         Command::Order(at, other) => order_told(alloc, audited, place, *at, *other),
+        Command::Decision(at, other) => go_to_decision(alloc, audited, place, *at, *other),
         Command::Lead(core) => lead_told(alloc, *core, place.cores()),
         Command::Unknown => usage(alloc),
     }

@@ -2,3 +2,4 @@ pub mod Writes
 pub mod Edges
 pub mod AccessLemmas
 pub mod ConflictLemmas
+mod LoadsBehind

@@ -1,8 +1,8 @@
 -- Rule: the last write of a word in a cut, the loads since: IsLastWrite, IsReadSince
 -- What is asked of the accesses and the log of an audited recording. The accesses are those of the low order; every
 -- whole replay order has the same ones, with the same values.
-use Rattle.std.specs.Prelude.{◌≡◌, ◌↔◌, ◌⊎◌, ℕ, ◌<◌, Bool, true, not, ◌&&◌, nat_eq, nat_le, List, [], ◌∷◌}
-use Rattle.std.specs.Prelude.{filter}
+use Rattle.std.specs.Prelude.{◌≡◌, ◌↔◌, ◌⊎◌, ℕ, ◌<◌, Bool, true, not, ◌&&◌, nat_eq, nat_le, List, [], ◌∷◌, ◌++◌}
+use Rattle.std.specs.Prelude.{filter, if◌then◌else◌}
 use Rattle.rtr_types.specs.Accesses.{is_write}
 use Rattle.rtr_types.specs.declared.access.Access.{Access}
 use Rattle.rtr_types.specs.declared.cut.Cut.{Cut}
@@ -40,6 +40,14 @@ is_write_of cut word access = nat_eq access.word word && (is_write access.kind &
 -- the access reads the word and doesn't write it, and is in the cut
 abbrev pub is_load_of : Cut → (word : ℕ) → Access → Bool
 is_load_of cut word access = nat_eq access.word word && (not (is_write access.kind) && is_held cut access.at)
+
+-- the loads of the word in the cut that stand behind its last write in the cut, in the list's order; before these
+-- accesses those were found
+abbrev pub loads_behind : Cut → (word : ℕ) → (found : List Access) → List Access → List Access
+loads_behind cut word found [] = found
+loads_behind cut word found (access ∷ rest) =
+    loads_behind cut word (if is_write_of cut word access then [] else
+    if is_load_of cut word access then found ++ access ∷ [] else found) rest
 
 -- a write of the word among these, in the cut
 pub record IsWriteIn (list : List Access) (cut : Cut) (word : ℕ) (access : Access) : Type 0 where

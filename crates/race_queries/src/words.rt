@@ -1,7 +1,7 @@
 //! Who reads and writes a word.
-ghost use Rattle.std.specs.Prelude.{◌≡◌, ◌++◌, IfOk, MatchOption, OnOk, drop, filter, length};
+ghost use Rattle.std.specs.Prelude.{[], ◌≡◌, ◌++◌, IfOk, MatchOption, OnOk, drop, filter, length};
 ghost use Rattle.race_queries.specs.Queries.{AreReadsSince, IsLastWrite, NoWriteIn, accesses_to, is_held};
-ghost use Rattle.race_queries.specs.Queries.{is_load_of, is_write_of};
+ghost use Rattle.race_queries.specs.Queries.{is_load_of, is_write_of, loads_behind};
 ghost use Rattle.race_queries.specs.Places.{IsLastPlace};
 
 use replay_audit::Audited;
@@ -21,14 +21,16 @@ pub fn last_write(audited: &Audited, cut: &Cut, word: u32) -> Option<Access>
 }
 
 /// The loads of the word in the cut since the last write of it in the cut: those to which each write of the word in
-/// the cut leads. Where there is none, all loads of the word in the cut.
+/// the cut leads. Where there is none, all loads of the word in the cut. They stand in the order of the audit's
+/// accesses.
 pub fn reads_since(
     alloc: Global,
     audited: &Audited,
     cut: &Cut,
     word: u32,
 ) -> Result<Items<Access>, AllocError>
-    ensures { IfOk result (AreReadsSince audited.now cut.now word) }
+    ensures reads { IfOk result (AreReadsSince audited.now cut.now word) }
+    ensures order { IfOk result (λ list. list ≡ loads_behind cut.now word [] audited.now.accesses) }
 {
     // The audit passed, so the log orders each write and each load of one word.
     let _ = audited.recording();

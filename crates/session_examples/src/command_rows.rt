@@ -16,10 +16,10 @@ macro_rules! told {
 /// What a command is told that isn't known.
 pub const USAGE: &str =
     "rtr_gdb: monitor cut | goto N .. | goto C:N | earliest C | latest C | lead C | lead all | \
-edges C:N | writer ADDR | readers ADDR | history ADDR | conflicts C:N | order C:N C:N\n";
+edges C:N | writer ADDR | readers ADDR | history ADDR | conflicts C:N | order C:N C:N | decision C:N C:N\n";
 
 /// Where the place is and goes, what comes before what, and what is asked on the way.
-pub static PLACES: [Told; 18] = [
+pub static PLACES: [Told; 20] = [
     told!("cut" => "cut 32 26 32 26\n"),
     told!("edges 2:33" => "2:33 pc 00000098 load 000010f8 00000001\n"),
     told!("conflicts 2:33" =>
@@ -39,13 +39,15 @@ pub static PLACES: [Told; 18] = [
     told!("readers 4344" =>
         "2:155 pc 00000098 load 000010f8 0000000d\n\
         1:174 pc 0000008c load 000010f8 0000000d\n"),
+    told!("decision 2:35 3:29" => "cut 36 36 34 28\n"),
+    told!("decision 2:35 0:36" => "no decision: the log says more of their order\n"),
     told!("goto 0 0 33 0" => "cut 0 0 33 0\n"),
     told!("goto 37 0 0 0" => "rtr_gdb: not closed; the least closed cut that contains it is 37 37 35 29\n"),
     told!(" cut " => "cut 0 0 33 0\n"),
 ];
 
 /// Commands that aren't known, or that name what isn't there.
-pub static UNKNOWN: [&str; 20] = [
+pub static UNKNOWN: [&str; 22] = [
     "",
     "nonsense",
     "cut 1",
@@ -61,6 +63,8 @@ pub static UNKNOWN: [&str; 20] = [
     "latest 256",
     "order 0:1",
     "order 0:1 4:1",
+    "decision 0:1",
+    "decision 0:0 1:1",
     "edges 0:0",
     "conflicts 2:195",
     "writer 0X10f8",

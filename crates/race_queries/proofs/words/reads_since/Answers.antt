@@ -4,6 +4,7 @@ use Rattle.race_queries.specs.Places.{IsLastPlace}
 use Rattle.race_queries.specs.Queries.{is_load_of, IsAudited, NoWriteIn}
 use Rattle.std.specs.Prelude.{drop, filter}
 use Rattle.race_queries.proofs.Writes.{IsSince, reads_since_is, since_last, since_none}
+use Rattle.race_queries.proofs.LoadsBehind.{loads_are}
 use Rattle.race_queries.proofs.words.reads_since.Goals as goal
 use Rattle.race_queries.proofs.words.reads_since.Goals.{in-Some, in-None}
 
@@ -11,15 +12,15 @@ if_ok : {A E : Type 0} {P Q : A → Type 0} (o : Result A E) → IfOk o P → ((
 if_ok (Ok a) h f = f a h
 if_ok (Err e) h f = tt
 
-pub returns : goal.returns
-returns c =
+-- where the loads begin that were looked for
+begins : (c : goal.After-loads_from) → (audited : IsAudited c.args.audited.now) →
+    IsSince c.args.audited.now audited c.args.cut.now c.args.word c.match-last_place.from
+begins c audited =
     let a = c.args.audited.now in
     let cut = c.args.cut.now in
     let word = c.args.word in
-    let audited : IsAudited a =
-    record { valid = c.recording.ensures.valid; passed = c.accesses-list.ensures.passed } in
     let same = c.accesses-list.ensures.accesses in
-    let since : IsSince a audited cut word c.match-last_place.from = elim c.match-last_place.branch [
+    elim c.match-last_place.branch [
       | in-Some w ↦
           subst (λ (n : ℕ). IsSince a audited cut word n) (sym w.from-is)
           (since_last a audited cut word w.in-Some.place
@@ -27,7 +28,29 @@ returns c =
       | in-None w ↦
           subst (λ (n : ℕ). IsSince a audited cut word n) (sym w.from-is)
           (since_none a audited cut word (subst (λ (l : List Access). NoWriteIn l cut word) same w.in-None.ensures))
-    ] in
+    ]
+
+pub returns-clause-reads : goal.returns-clause-reads
+returns-clause-reads c =
+    let a = c.args.audited.now in
+    let cut = c.args.cut.now in
+    let word = c.args.word in
+    let audited : IsAudited a =
+    record { valid = c.recording.ensures.valid; passed = c.accesses-list.ensures.passed } in
+    let same = c.accesses-list.ensures.accesses in
     if_ok c.loads_from.result c.loads_from.ensures (λ list is.
-    reads_since_is a audited cut word c.match-last_place.from since list
+    reads_since_is a audited cut word c.match-last_place.from (begins c audited) list
     (is ∙ ap (λ (l : List Access). filter (is_load_of cut word) (drop c.match-last_place.from l)) same))
+
+pub returns-clause-order : goal.returns-clause-order
+returns-clause-order c =
+    let a = c.args.audited.now in
+    let cut = c.args.cut.now in
+    let word = c.args.word in
+    let audited : IsAudited a =
+    record { valid = c.recording.ensures.valid; passed = c.accesses-list.ensures.passed } in
+    let since = begins c audited in
+    let same = c.accesses-list.ensures.accesses in
+    if_ok c.loads_from.result c.loads_from.ensures (λ list is.
+    is ∙ ap (λ (l : List Access). filter (is_load_of cut word) (drop c.match-last_place.from l)) same
+    ∙ sym (loads_are cut word a.accesses c.match-last_place.from since.none since.last))
