@@ -1,10 +1,11 @@
 //! What is asked of the word that three cores hand on.
 use crate::recordings::{cut_of, three};
 use cut_replay::has_instr;
+use log_codec::read;
 use race_queries::{
     conflicts_of, edges_into, edges_out_of, history, last_write, leads_to, reads_since,
 };
-use replay_audit::Audited;
+use replay_audit::{Audited, audit};
 use row_texts::Counts;
 use rtr_types::{Access, Instr, Which};
 use std::alloc::{AllocError, Global};
@@ -87,6 +88,23 @@ fn histories(rt: HostRuntime) -> Result<(), Fail> {
     ];
     assert!(rt; are_at(list.as_slice(), &all));
     assert!(rt; history(rt.alloc(), &audited, 17)?.len() == 0);
+    Ok(())
+}
+
+/// One core that loads word 16 and jumps back, till it has retired 10,000 instructions.
+const LOADS_ALONE: [u8; 19] = [
+    0x52, 0x54, 0x52, 2, 1, 0x90, 0x4e, 32, 8, 0x83, 0x22, 0, 4, 0x6f, 0xf0, 0xdf, 0xff, 0x90, 0x4e,
+];
+
+// Every second instruction is an access to the word.
+#[test]
+fn a_history_of_5000_accesses(rt: HostRuntime) -> Result<(), Fail> {
+    let recording = read(rt.alloc(), &LOADS_ALONE)?;
+    let audited = audit(rt.alloc(), recording, Which::Reduced)?;
+    let list = history(rt.alloc(), &audited, 16)?;
+    assert!(rt; list.len() == 5_000);
+    let last = list.as_slice().last();
+    assert!(rt; last.map(|access| access.at) == Some(instr(0, 9_999)));
     Ok(())
 }
 

@@ -1,8 +1,8 @@
-//! The core file of three cores at the end of their run.
+//! The core file of three cores at the end of their run, and that of the largest memory.
 use crate::recordings::three;
 use core_file::core_file;
 use rtr_types::{CORES_MAX, Items, WORDS_MAX, Which};
-use rv_core::Outcome;
+use rv_core::{Core, Outcome};
 use std::alloc::{AllocError, Global};
 use std::test::Fail;
 
@@ -47,5 +47,34 @@ fn core_of_three(rt: HostRuntime) -> Result<(), Fail> {
     assert!(rt; (word_at(bytes, 208), word_at(bytes, 236)) == (Some(0x20), Some(7)));
     assert!(rt; word_at(bytes, 116 + 3 * 224 + 64) == Some(2));
     assert!(rt; sum_of(bytes) == SUM);
+    Ok(())
+}
+
+/// One core before its first instruction, over a memory of so many words, each of which has its index.
+fn opened(alloc: Global, words: u32) -> Result<Outcome, AllocError> {
+    let mut memory = Items::new(alloc);
+    for word in 0..words {
+        memory.push(word)?;
+    }
+    let mut cores = Items::new(alloc);
+    cores.push(Core::new(0, 1))?;
+    Ok(Outcome {
+        cores,
+        words: memory,
+        loads: Items::new(alloc),
+    })
+}
+
+// A memory of 1 MiB: its words stand behind the core's note, the last of them at the file's end.
+#[test]
+fn core_of_the_largest_memory(rt: HostRuntime) -> Result<(), Fail> {
+    let outcome = opened(rt.alloc(), WORDS_MAX)?;
+    let Some(file) = made(rt.alloc(), &outcome, 0)? else {
+        return Ok(assert!(rt; false));
+    };
+    let bytes = file.as_slice();
+    assert!(rt; bytes.len() == 1_048_916);
+    assert!(rt; word_at(bytes, 340 + 4 * 100_000) == Some(100_000));
+    assert!(rt; word_at(bytes, 1_048_912) == Some(262_143));
     Ok(())
 }

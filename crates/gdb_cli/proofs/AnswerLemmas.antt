@@ -3,7 +3,8 @@ use Rattle.std.proofs.Common.{◌≡◌, ◌≤◌, List, ℕ, length, refl, sub
 use Rattle.std.specs.Prelude.{Option, Some, None}
 use Rattle.std.specs.Io.KnownBytes.{Consumes, IsAtEnd, Keeps}
 use Rattle.rtr_cli.specs.Answers.{Answers as AnswersCommand, IsRead, IsTaken, one_more}
-use Rattle.rtr_cli.specs.Commands.{Refuses, file_bytes_max, most_of}
+use Rattle.rtr_cli.specs.Inputs.{file_bytes_max, most_of}
+use Rattle.rtr_cli.specs.Commands.{Refuses}
 use Rattle.rtr_cli.proofs.RefusalLemmas.{none_taken, refused_answers}
 use Rattle.state_text.specs.declared.exit.Exit.{Exit}
 use Rattle.state_text.specs.declared.exit.Exit.TheVariants as exits

@@ -11,7 +11,8 @@ use Rattle.replay_audit.specs.Audits.{Findings, IsAuditOf, IsInstrOf}
 use Rattle.replay_audit.specs.Laws.{OutcomeFits, ReplayFitsLaw}
 use Rattle.replay_core.specs.Plans.{plan_of}
 use Rattle.replay_core.specs.Play.{played}
-use Rattle.rtr_cli.specs.Commands.{IsCutAt, SpellsSome}
+use Rattle.rtr_cli.specs.Inputs.{SpellsSome}
+use Rattle.rtr_cli.specs.Cuts.{IsCutAt}
 use Rattle.rtr_cli.proofs.CutLemmas.{one_cut}
 use Rattle.rtr_types.specs.declared.TheConstants.{CORES_MAX}
 use Rattle.rtr_types.specs.declared.cut.Cut.{Cut}

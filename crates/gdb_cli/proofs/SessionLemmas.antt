@@ -9,7 +9,8 @@ use Rattle.gdb_session.specs.Seats.{Begins, Seat, interrupted}
 use Rattle.replay_audit.specs.Audits.{Findings}
 use Rattle.rtr_types.specs.declared.pairs.Which.{Which}
 use Rattle.rtr_cli.specs.Answers.{Answers as AnswersCommand, IsTaken}
-use Rattle.rtr_cli.specs.Commands.{Refuses, most_of}
+use Rattle.rtr_cli.specs.Inputs.{most_of}
+use Rattle.rtr_cli.specs.Commands.{Refuses}
 use Rattle.rtr_cli.specs.Completeness.{Accepts, EndsWell, HasLeft}
 use Rattle.rtr_cli.proofs.CompletenessLemmas.{lacks_memory}
 use Rattle.rtr_cli.proofs.RefusalLemmas.{refused_answers}

@@ -2,7 +2,8 @@
 use Rattle.std.specs.Prelude.{◌≡◌, ℕ, ◌⊎◌, List, Option, Some, None}
 use Rattle.std.specs.Io.KnownBytes.{Appends, Keeps}
 use Rattle.rtr_cli.specs.Answers.{Answers as AnswersCommand, IsTaken, Tells}
-use Rattle.rtr_cli.specs.Commands.{Promised, most_of}
+use Rattle.rtr_cli.specs.Inputs.{most_of}
+use Rattle.rtr_cli.specs.Promises.{Promised}
 use Rattle.rtr_cli.specs.Completeness.{Accepts, EndsWell, HasLeft, IsFaultless}
 use Rattle.rtr_io.specs.Faults.{HasRisen}
 use Rattle.rtr_io.specs.Moved.{GivesPart}

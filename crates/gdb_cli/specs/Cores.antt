@@ -6,7 +6,8 @@ use Rattle.cut_replay.specs.CutStates.{IsStateAt}
 use Rattle.log_codec.specs.Reading.{whole_at}
 use Rattle.race_log.specs.declared.recording.Recording.{Recording}
 use Rattle.replay_audit.specs.Audits.{IsInstrOf}
-use Rattle.rtr_cli.specs.Commands.{IsCutAt, SpellsSome}
+use Rattle.rtr_cli.specs.Inputs.{SpellsSome}
+use Rattle.rtr_cli.specs.Cuts.{IsCutAt}
 use Rattle.rtr_types.specs.declared.cut.Cut.{Cut}
 use Rattle.rv_core.specs.declared.outcome.Outcome.{Outcome}
 use Rattle.tool_words.specs.declared.command.Command.{Command}

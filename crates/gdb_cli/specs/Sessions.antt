@@ -14,7 +14,8 @@ use Rattle.log_codec.specs.Reading.{whole_at}
 use Rattle.replay_audit.specs.Audits.{Findings, IsAuditOf}
 use Rattle.rtr_types.specs.declared.pairs.Which.{Which}
 use Rattle.rtr_cli.specs.Answers.{Answers as AnswersCommand, IsTaken, IsTakenUpTo, one_more}
-use Rattle.rtr_cli.specs.Commands.{Promised, SpellsSome, most_of}
+use Rattle.rtr_cli.specs.Inputs.{SpellsSome, most_of}
+use Rattle.rtr_cli.specs.Promises.{Promised}
 use Rattle.state_text.specs.declared.exit.Exit.{Exit}
 use Rattle.state_text.specs.declared.exit.Exit.TheVariants as exits
 use Rattle.tool_words.specs.declared.command.Command.{Command}

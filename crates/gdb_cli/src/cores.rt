@@ -1,7 +1,10 @@
 //! The core file of a moment.
 ghost use Rattle.std.specs.Prelude.{IfErr, IfOk, OnOk};
 ghost use Rattle.race_log.specs.Validity.{Valid};
-ghost use Rattle.rtr_cli.specs.Commands.{AtEnds, IsReplayed, Promised, Refuses};
+ghost use Rattle.rtr_cli.specs.Replays.{IsReplayed};
+ghost use Rattle.rtr_cli.specs.Cuts.{AtEnds};
+ghost use Rattle.rtr_cli.specs.Commands.{Refuses};
+ghost use Rattle.rtr_cli.specs.Promises.{Promised};
 ghost use Rattle.gdb_cli.specs.Cores.{IsCoreAt, MakesCore, printed_by};
 
 use crate::words::Moment;

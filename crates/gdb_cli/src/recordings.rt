@@ -2,7 +2,9 @@
 ghost use Rattle.std.specs.Prelude.{ℕ, IfErr, IfOk, IsErrOf, List, OnOk};
 ghost use Rattle.log_codec.specs.Reading.{whole_at};
 ghost use Rattle.replay_audit.specs.Audits.{IsAuditOf};
-ghost use Rattle.rtr_cli.specs.Commands.{Promised, Refuses, SpellsSome, most_of};
+ghost use Rattle.rtr_cli.specs.Inputs.{SpellsSome, most_of};
+ghost use Rattle.rtr_cli.specs.Commands.{Refuses};
+ghost use Rattle.rtr_cli.specs.Promises.{Promised};
 ghost use Rattle.rtr_cli.specs.Completeness.{Accepts, EndsWell, HasLeft, IsFaultless};
 ghost use Rattle.rtr_io.specs.Faults.{HasRisen, IsUnlessFault};
 ghost use Rattle.gdb_cli.specs.Sessions.{Declines, IsAudited, replayed_by};

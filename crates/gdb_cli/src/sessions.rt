@@ -1,7 +1,7 @@
 //! A debugger's session on a recording.
 ghost use Rattle.std.specs.Prelude.{◌≡◌, ◌⊎◌, ℕ, IsErrOf, List, OnOk};
 ghost use Rattle.gdb_packets.specs.Lines.{Shows, Wire, payload_in};
-ghost use Rattle.rtr_cli.specs.Commands.{most_of};
+ghost use Rattle.rtr_cli.specs.Inputs.{most_of};
 ghost use Rattle.rtr_cli.specs.Completeness.{Accepts, EndsWell, HasLeft, IsFaultless};
 ghost use Rattle.rtr_io.specs.Faults.{HasRisen, IsUnlessFault};
 ghost use Rattle.gdb_cli.specs.Sessions.{Converses, Debugs, replayed_by};

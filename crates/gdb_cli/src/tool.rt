@@ -1,7 +1,7 @@
 //! From words and an input to a core file, a report and a way to end.
 ghost use Rattle.std.specs.Prelude.{◌≡◌, ◌⊎◌, ℕ, List, Some, map, string_bytes};
 ghost use Rattle.rtr_cli.specs.Answers.{Tells};
-ghost use Rattle.rtr_cli.specs.Commands.{most_of};
+ghost use Rattle.rtr_cli.specs.Inputs.{most_of};
 ghost use Rattle.rtr_cli.specs.Completeness.{Accepts, EndsWell, HasLeft, IsFaultless};
 ghost use Rattle.rtr_io.specs.Faults.{HasRisen};
 ghost use Rattle.state_text.specs.Exits.{fault_line};

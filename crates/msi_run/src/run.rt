@@ -1,8 +1,11 @@
 //! The run of an image.
 ghost use Rattle.std.specs.Prelude.{◌≡◌, IfOk};
 ghost use Rattle.run_steps.specs.Ways.{IsSetUp};
+ghost use Rattle.machine_bound.specs.Ends.{end_of};
 ghost use Rattle.machine_plain.specs.Plain.{plain};
+ghost use Rattle.msi_state.specs.Runs.{IsRunEnd};
 ghost use Rattle.run_outcome.specs.Outcomes.{StandsAt, outcome_of};
+ghost use Rattle.schedule_pick.specs.Choices.{choice_at};
 
 use access_times::{NoCarry, NoRider};
 use image_mem::Image;
@@ -25,10 +28,13 @@ pub struct Ran {
 /// Runs the image on the machine to its end, under the schedule. Nothing rides on copies and messages, and
 /// no log is made. The only refusal is want of memory.
 ///
-/// The outcome is one function of image, parameters and schedule: that of the run which the recorder records.
+/// The outcome is one function of image, parameters and schedule: that of the run which the recorder records, taken where
+/// the run ends, each core's program being done.
 pub fn run_image(alloc: Global, image: Image, params: Params, schedule: Schedule) -> Made<Ran>
     requires { IsSetUp image params }
     ensures outcome { IfOk result (λ ran. ran.outcome ≡ outcome_of image params schedule) }
+    ensures ended { IfOk result (λ ran. IsRunEnd image params (choice_at schedule)
+        (end_of image params (choice_at schedule))) }
     ensures image { IfOk result (λ ran. ran.image ≡ image) }
 {
     let clerk = LoadClerk::new(alloc, params.cores)?;

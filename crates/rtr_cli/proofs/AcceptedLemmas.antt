@@ -39,8 +39,11 @@ use Rattle.tool_words.specs.declared.command.Command.TheVariants.{Soak, At, Thin
 use Rattle.vector_reduce.specs.Answers.{IsTooMany, IsNotShown as IsNotNeededShown}
 use Rattle.vector_reduce.specs.Reading.{thinned_at}
 use Rattle.vector_reduce.proofs.ThinnedLog.{few_not_many}
-use Rattle.rtr_cli.specs.Commands.{AuditFails, IsAbsent, IsFaulty, IsNotLeast, IsNotNeeded, IsNotShown, IsTooLong}
-use Rattle.rtr_cli.specs.Commands.{IsUnread, Overflows, TsoStops, image_of, loaded}
+use Rattle.rtr_cli.specs.Inputs.{image_of, loaded}
+use Rattle.rtr_cli.specs.Certificates.{IsNotLeast}
+use Rattle.rtr_cli.specs.Buffers.{TsoStops}
+use Rattle.rtr_cli.specs.Commands.{AuditFails, IsAbsent, IsFaulty, IsNotNeeded, IsNotShown, IsTooLong, IsUnread}
+use Rattle.rtr_cli.specs.Commands.{Overflows}
 use Rattle.tso_codec.specs.Reading.{tso_at}
 use Rattle.rtr_cli.specs.Completeness.{Accepts, AcceptedIsNotRefused, IsOfBuffers, IsOfCertify, IsOfRecord}
 use Rattle.rtr_cli.specs.Completeness.{IsOfRecordWith, IsOfRecordWithFew, IsOfThin}

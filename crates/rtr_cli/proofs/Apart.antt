@@ -10,7 +10,8 @@ use Rattle.tool_words.specs.declared.command.Command.TheVariants.{TsoRecord, Tso
 use Rattle.tso_codec.proofs.Others.{no_other, none_of_others}
 use Rattle.tso_codec.specs.Spelling.{tso_magic}
 use Rattle.vector_reduce.specs.Reading.{front_two_at, parts_at as thin_parts_at, thinned_at}
-use Rattle.rtr_cli.specs.Commands.{IsUnread, ReadsEarlier, VersionsAreApart}
+use Rattle.rtr_cli.specs.Commands.{IsUnread}
+use Rattle.rtr_cli.specs.Laws.{ReadsEarlier, VersionsAreApart}
 
 no_certificate : (rest : List ℕ) → certificate_at (tso_magic ++ rest) ≡ Err HEADER
 unfolding version_at header_at front_at certificate_parts_at certificate_at

@@ -15,8 +15,9 @@ use Rattle.tso_codec.specs.declared.recording.TsoRecording.{TsoRecording}
 use Rattle.tso_codec.specs.Validity.{IsTso, plain_of}
 use Rattle.tso_replay.specs.Replays.{TsoRefuses, TsoReplays, tso_given, tso_plan}
 use Rattle.replay_audit.proofs.PlaySizes.{valued_fits}
-use Rattle.tso_replay.proofs.ToldReplays.{least_replays, ordered_agree}
-use Rattle.rtr_cli.specs.Commands.{IsTsoReplayed, TsoEnds, TsoStops, exit_of_replay, tso_outcome}
+use Rattle.tso_replay.proofs.ToldReplays.{ordered_agree}
+use Rattle.told_plays.proofs.Replays.{least_replays}
+use Rattle.rtr_cli.specs.Buffers.{IsTsoReplayed, TsoEnds, TsoStops, exit_of_replay, tso_outcome}
 use Rattle.rtr_cli.specs.Completeness.{IsOfBuffers}
 
 -- what is replayed is an outcome over the recording's image

@@ -11,28 +11,30 @@ use Rattle.replay_core.specs.Plans.{recorded_image}
 use Rattle.state_text.specs.States.{IsOutcomeOf, state_lines}
 use Rattle.state_text.specs.declared.exit.Exit.TheVariants as exits
 use Rattle.tool_words.specs.declared.command.RunWords.{RunWords}
-use Rattle.tool_words.specs.declared.command.Command.TheVariants.{TsoRecord, TsoReplay}
+use Rattle.tool_words.specs.declared.command.Command.TheVariants.{TsoRecord, TsoReplay, TsoRun}
 use Rattle.tso_recordings.specs.Schedules.{tso_recording_of}
 use Rattle.tso_recordings.proofs.LoggedLoads.{logged_law}
 use Rattle.tso_recordings.proofs.Schedules.{held as run_held, replayed as run_replayed}
 use Rattle.tso_bound.specs.Ends.{end_of}
-use Rattle.tso_bound.proofs.RunEnds.{end_done, run_ends}
+use Rattle.tso_bound.proofs.RunEnds.{end_done}
 use Rattle.tso_codec.specs.declared.recording.TsoRecording.{TsoRecording}
 use Rattle.tso_codec.specs.Reading.{tso_at}
 use Rattle.tso_codec.specs.Spelling.{tso_spelling}
 use Rattle.tso_codec.specs.Validity.{plain_of}
 use Rattle.tso_codec.proofs.RecordingLaws.{spelled_is_read}
-use Rattle.told_plays.specs.Plays.{tellings_of}
+use Rattle.told_plays.specs.Replays.{IsToldRun}
 use Rattle.tso_outcome.specs.Outcomes.{tso_outcome_of}
+use Rattle.tso_outcome.proofs.RunPlaces.{run_ends_so}
 use Rattle.tso_recordings.specs.Recordings.{CanRun}
 use Rattle.tso_recordings.proofs.ReplayedRuns.{run_told_so}
-use Rattle.tso_replay.specs.Laws.{IsToldRun}
 use Rattle.tso_replay.specs.Replays.{tso_given, tso_plan}
 use Rattle.replay_audit.proofs.PlaySizes.{valued_fits}
 use Rattle.tso_state.specs.Runs.{all_told}
 use Rattle.tso_words.proofs.ByteWords.{opens_small}
-use Rattle.rtr_cli.specs.Commands.{KeepsTsoRun, Makes, Promised, SpellsSome, image_of, tso_outcome}
-use Rattle.rtr_cli.specs.Commands.{tso_replay_lines}
+use Rattle.rtr_cli.specs.Inputs.{SpellsSome, image_of}
+use Rattle.rtr_cli.specs.Buffers.{tso_outcome, tso_replay_lines}
+use Rattle.rtr_cli.specs.Commands.{Makes}
+use Rattle.rtr_cli.specs.Promises.{KeepsTsoRun, Promised}
 use Rattle.rtr_cli.specs.Completeness.{Accepts, IsOfBuffers}
 use Rattle.rtr_cli.proofs.AcceptedLemmas.{accepted_is_not_refused}
 
@@ -60,8 +62,8 @@ module _ (params : Params) (bytes : List ℕ) (schedule : Choices) (can : CanRun
 
   -- and it is one of a run
   told : IsToldRun (tso_recording_of (image_of params bytes) params schedule)
-      (tellings_of (all_told (image_of params bytes) params (choice_at schedule)
-      (end_of (image_of params bytes) params (choice_at schedule))))
+      (all_told (image_of params bytes) params (choice_at schedule)
+      (end_of (image_of params bytes) params (choice_at schedule)))
       (tso_outcome_of (image_of params bytes) params schedule)
   unfolding tso_recording_of tso_outcome_of
   told = run_told_so (image_of params bytes) params (choice_at schedule)
@@ -72,8 +74,8 @@ module _ (params : Params) (bytes : List ℕ) (schedule : Choices) (can : CanRun
   pub of_run : IsOfBuffers (tso_recording_of (image_of params bytes) params schedule)
   of_run = record {
     valid = (run_held (image_of params bytes) params schedule can).valid;
-    list = tellings_of (all_told (image_of params bytes) params (choice_at schedule)
-        (end_of (image_of params bytes) params (choice_at schedule)));
+    list = all_told (image_of params bytes) params (choice_at schedule)
+        (end_of (image_of params bytes) params (choice_at schedule));
     outcome = tso_outcome_of (image_of params bytes) params schedule;
     told = told;
   }
@@ -129,8 +131,7 @@ keeps_tso_run params choices seed bytes can =
     let r : TsoRecording = tso_recording_of (image_of params bytes) params schedule in
     let read : tso_at (tso_spelling r) ≡ Ok r = read_back params bytes schedule can in
     record {
-      ended = run_ends (image_of params bytes) params (choice_at schedule)
-          (record { cores = can.fits.cores; limit = omega (arith, can.fits.limit) });
+      ended = run_ends_so (image_of params bytes) params schedule can.fits;
       held = run_held (image_of params bytes) params schedule can;
       logged = logged_law (image_of params bytes) params schedule can.fits;
       read_back = read;
@@ -152,6 +153,12 @@ pub tso_record_promised : (run : RunWords) (input : List ℕ) → Fits run.param
     → ((i : ℕ) → slice_index input i < 256) → Promised (TsoRecord run) input
 tso_record_promised run input fits room small =
     keeps_tso_run run.params run.choices run.seed input (can_run run.params input fits room small)
+
+-- and that of `tsorun`
+pub tso_run_promised : (run : RunWords) (loads : Bool) (input : List ℕ) → Fits run.params →
+    Promised (TsoRun run loads) input
+tso_run_promised run loads input fits =
+    run_ends_so (image_of run.params input) run.params (choices_of run.choices run.seed) fits
 
 -- what `tsorun` prints is text of an outcome over the image
 pub tso_run_fits : (params : Params) (schedule : Choices) (bytes : List ℕ) → Fits params → length bytes ≤ 4 *

@@ -10,7 +10,11 @@ use Rattle.certificate_codec.specs.Spelling.{spelling}
 use Rattle.certificate_codec.proofs.CertificateLaws.{spelled_is_read, written_spells}
 use Rattle.min_certificate.specs.Laws.{IsLeastIn}
 use Rattle.tool_words.specs.declared.command.Command.TheVariants.{Certify, Check}
-use Rattle.rtr_cli.specs.Commands.{CertifiedIsAccepted, IsCertified, Makes, Promised, SpellsSome}
+use Rattle.rtr_cli.specs.Inputs.{SpellsSome}
+use Rattle.rtr_cli.specs.Certificates.{IsCertified}
+use Rattle.rtr_cli.specs.Commands.{Makes}
+use Rattle.rtr_cli.specs.Promises.{Promised}
+use Rattle.rtr_cli.specs.Laws.{CertifiedIsAccepted}
 use Rattle.rtr_cli.specs.Completeness.{Accepts, IsOfCertify}
 use Rattle.rtr_cli.proofs.ReasonLemmas.{both_said}
 use Rattle.rtr_cli.proofs.AcceptedLemmas.{accepted_is_not_refused}

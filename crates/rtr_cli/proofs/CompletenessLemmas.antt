@@ -24,9 +24,10 @@ use Rattle.vector_reduce.specs.Answers.{AreFew}
 use Rattle.vector_reduce.specs.Laws.{SpelledIsRead}
 use Rattle.vector_reduce.specs.Reading.{thinned_at}
 use Rattle.rtr_cli.specs.Answers.{IsTaken}
-use Rattle.rtr_cli.specs.Commands.{Refuses, SpellsSome, file_bytes_max, image_of, loaded, most_of, recorded_bytes}
-use Rattle.rtr_cli.specs.Commands.{recording_of_bytes}
-use Rattle.rtr_cli.specs.Commands.{IsThinnedTo, run_bytes_max, unless_faulty}
+use Rattle.rtr_cli.specs.Inputs.{SpellsSome, file_bytes_max, image_of, loaded, most_of, run_bytes_max, unless_faulty}
+use Rattle.rtr_cli.specs.Runs.{recorded_bytes, recording_of_bytes}
+use Rattle.rtr_cli.specs.Thinnings.{IsThinnedTo}
+use Rattle.rtr_cli.specs.Commands.{Refuses}
 use Rattle.rtr_cli.specs.Completeness.{Accepts, EndsWell, HasLeft, IsOfRecord, IsOfThin, RecordingIsAccepted}
 use Rattle.rtr_cli.specs.Completeness.{WrittenIsAccepted}
 use Rattle.rtr_cli.proofs.AcceptedLemmas.{accepted_is_not_refused}

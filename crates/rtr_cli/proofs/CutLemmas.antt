@@ -17,7 +17,8 @@ use Rattle.state_text.specs.Cuts.{cut_state_lines}
 use Rattle.state_text.specs.States.{IsOutcomeOf}
 use Rattle.state_text.specs.declared.exit.Exit.{Exit}
 use Rattle.state_text.specs.declared.exit.Exit.TheVariants as exits
-use Rattle.rtr_cli.specs.Commands.{AtEnds, AuditEnds, IsCutAt, IsReplayed, IsToldAt}
+use Rattle.rtr_cli.specs.Replays.{AuditEnds, IsReplayed}
+use Rattle.rtr_cli.specs.Cuts.{AtEnds, IsCutAt, IsToldAt}
 
 -- what a replay order plays to is an outcome over the recording's image
 pub state_fits : ReplayFitsLaw → (which : Which) (r : Recording) (image : Contents) (cut : Cut) (outcome : Outcome)

@@ -22,7 +22,9 @@ use Rattle.tool_words.specs.declared.command.Command.TheVariants.{Gen, Soak, At,
 use Rattle.tool_words.specs.declared.command.Command.TheVariants.{TsoRecord, TsoRun, TsoReplay}
 use Rattle.rtr_cli.specs.declared.joint.Asked.{Asked}
 use Rattle.rtr_cli.specs.Answers.{Answers, IsRead}
-use Rattle.rtr_cli.specs.Commands.{IsReplayed, Refuses, SpellsSome, file_bytes_max, most_of}
+use Rattle.rtr_cli.specs.Inputs.{SpellsSome, file_bytes_max, most_of}
+use Rattle.rtr_cli.specs.Replays.{IsReplayed}
+use Rattle.rtr_cli.specs.Commands.{Refuses}
 use Rattle.rtr_cli.specs.Completeness.{MakesWhole}
 use Rattle.rtr_cli.specs.Joints.{ClosesWith, PrintsJoint, PrintsSome, asked_by, command_of, joint_lines}
 

@@ -5,7 +5,8 @@ use Rattle.log_codec.specs.declared.version.Version.TheVariants.{Two}
 use Rattle.log_codec.specs.Reading.{whole_at}
 use Rattle.log_codec.specs.Spelling.{spelling}
 use Rattle.log_codec.proofs.RecordingLaws.{read_and_spelled, spelled_is_read}
-use Rattle.rtr_cli.specs.Commands.{MigratedReadsTheSame, NewestStays, SpellsSome}
+use Rattle.rtr_cli.specs.Inputs.{SpellsSome}
+use Rattle.rtr_cli.specs.Laws.{MigratedReadsTheSame, NewestStays}
 
 pub migrated_reads_the_same : MigratedReadsTheSame
 migrated_reads_the_same input out are made = by (whole_at input) refl made

@@ -15,9 +15,14 @@ use Rattle.vector_reduce.specs.declared.thinned.Thinned.{Thinned}
 use Rattle.vector_reduce.specs.Reading.{thinned_at}
 use Rattle.certificate_codec.specs.Reading.{certificate_at}
 use Rattle.state_text.specs.Logs.{logs_lines}
-use Rattle.rtr_cli.specs.Commands.{IsCertified, IsThinnedTo, IsToldAt, MakesOne, SpellsSome, checked_lines, loaded}
-use Rattle.rtr_cli.specs.Commands.{recorded_bytes, tso_replay_lines}
-use Rattle.rtr_cli.specs.Commands.{replay_lines, run_lines, thin_checked_lines, thinned_bytes}
+use Rattle.rtr_cli.specs.Inputs.{SpellsSome, loaded}
+use Rattle.rtr_cli.specs.Replays.{replay_lines}
+use Rattle.rtr_cli.specs.Runs.{recorded_bytes, run_lines}
+use Rattle.rtr_cli.specs.Cuts.{IsToldAt}
+use Rattle.rtr_cli.specs.Certificates.{IsCertified, checked_lines}
+use Rattle.rtr_cli.specs.Thinnings.{IsThinnedTo, thin_checked_lines, thinned_bytes}
+use Rattle.rtr_cli.specs.Buffers.{tso_replay_lines}
+use Rattle.rtr_cli.specs.Laws.{MakesOne}
 use Rattle.rtr_cli.proofs.CutLemmas.{one_text}
 use Rattle.rtr_cli.proofs.OneCertificate.{one_certificate}
 use Rattle.rtr_cli.proofs.OneThinning.{one_thinned}

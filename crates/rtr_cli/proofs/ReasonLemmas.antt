@@ -8,8 +8,9 @@ use Rattle.min_certificate.specs.declared.answers.CheckFailure.{CheckFailure}
 use Rattle.state_text.specs.declared.exit.Exit.{Exit}
 use Rattle.state_text.specs.declared.exit.Exit.TheVariants as exits
 use Rattle.tool_words.specs.declared.command.Command.{Command}
+use Rattle.rtr_cli.specs.Inputs.{SpellsSome}
 use Rattle.rtr_cli.specs.Commands.{AuditFails, IsAbsent, IsFaulty, IsNotNeeded, IsTooLong, IsNotShown, IsUnread}
-use Rattle.rtr_cli.specs.Commands.{Overflows, Refuses, SpellsSome}
+use Rattle.rtr_cli.specs.Commands.{Overflows, Refuses}
 
 -- there is none for this command and this input
 pub record HasNoReason (command : Command) (input : List ℕ) : Type 0 where

@@ -1,5 +1,5 @@
 -- What a recording has of its run.
-use Rattle.std.proofs.Common.{◌≡◌, ◌∙◌, refl, sym, ap, subst, ℕ, ◌*◌, ◌≤◌, List, length, Result, Ok, arith}
+use Rattle.std.proofs.Common.{◌≡◌, ◌∙◌, refl, sym, ap, subst, Bool, ℕ, ◌*◌, ◌≤◌, List, length, Result, Ok, arith}
 use Rattle.image_mem.specs.Contents.{Contents}
 use Rattle.rtr_types.specs.Parameters.{Fits}
 use Rattle.rtr_types.specs.declared.pairs.Which.{Which}
@@ -25,8 +25,11 @@ use Rattle.state_text.specs.declared.exit.Exit.{Exit}
 use Rattle.state_text.specs.declared.exit.Exit.TheVariants as exits
 use Rattle.tool_words.specs.declared.command.RunWords.{RunWords}
 use Rattle.image_elf.specs.declared.elf_fault.ElfFault.{ElfFault}
-use Rattle.tool_words.specs.declared.command.Command.TheVariants.{Certify, Record, Replay}
-use Rattle.rtr_cli.specs.Commands.{AuditEnds, KeepsRun, Promised, SpellsSome, image_of, loaded, replay_lines}
+use Rattle.tool_words.specs.declared.command.Command.TheVariants.{Certify, Record, Replay, Run}
+use Rattle.rtr_cli.specs.Inputs.{SpellsSome, image_of, loaded}
+use Rattle.rtr_cli.specs.Replays.{AuditEnds, replay_lines}
+use Rattle.rtr_cli.specs.Runs.{RunEnds}
+use Rattle.rtr_cli.specs.Promises.{KeepsRun, Promised}
 use Rattle.rtr_cli.specs.Completeness.{IsOfRecord}
 use Rattle.rtr_cli.proofs.AcceptedLemmas.{accepted_is_not_refused}
 
@@ -87,6 +90,15 @@ record_promised run input bytes is fits room =
     subst (λ (read : Result (List ℕ) ElfFault). SpellsSome read (λ b. KeepsRun run.params run.choices run.seed b))
     (sym is)
     (keeps_run run.params run.choices run.seed bytes fits room)
+
+-- what `run` prints is taken where the run ends
+pub run_promised : (run : RunWords) (loads : Bool) (input bytes : List ℕ) → loaded run input ≡ Ok bytes →
+    Fits run.params → Promised (Run run loads) input
+run_promised run loads input bytes is fits =
+    subst (λ (read : Result (List ℕ) ElfFault). SpellsSome read
+    (λ b. RunEnds (image_of run.params b) run.params (choice_at (choices_of run.choices run.seed)))) (sym is)
+    (run_ends (image_of run.params bytes) run.params (choice_at (choices_of run.choices run.seed))
+    (record { cores = fits.cores; limit = omega (arith, fits.limit) }))
 
 -- ---- a run's recording in an audit
 

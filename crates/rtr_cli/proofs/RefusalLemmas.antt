@@ -13,7 +13,11 @@ use Rattle.tool_words.specs.declared.command.Command.{Command}
 use Rattle.tool_words.specs.declared.command.Command.TheVariants.{Record, Run, Soak}
 use Rattle.tool_words.specs.declared.command.RunWords.{RunWords}
 use Rattle.rtr_cli.specs.Answers.{Answers, IsTaken, IsTakenUpTo, one_more}
-use Rattle.rtr_cli.specs.Commands.{Ends, IsWithin, LoadEnds, Refuses, SoakEnds, exit_of_audit, most_of}
+use Rattle.rtr_cli.specs.Inputs.{IsWithin, most_of}
+use Rattle.rtr_cli.specs.Replays.{Ends, exit_of_audit}
+use Rattle.rtr_cli.specs.Runs.{LoadEnds}
+use Rattle.rtr_cli.specs.Soaks.{SoakEnds}
+use Rattle.rtr_cli.specs.Commands.{Refuses}
 
 -- what was taken is at most one byte more than what is taken
 pub taken_up_to : (most : Option ℕ) (old new : Option (List ℕ)) (bytes : List ℕ) → IsTaken most old new bytes

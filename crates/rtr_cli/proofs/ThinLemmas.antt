@@ -16,8 +16,10 @@ use Rattle.vector_reduce.specs.Answers.{IsThinningOf, IsTooMany}
 use Rattle.state_text.specs.declared.exit.Exit.{Exit}
 use Rattle.state_text.specs.declared.exit.Exit.TheVariants as exits
 use Rattle.tool_words.specs.declared.command.Command.TheVariants.{Replay}
-use Rattle.rtr_cli.specs.Commands.{AuditEnds, CheckThinEnds, IsThinnedTo, SpellsSome, ThinEnds, ThinnedIsReplayed}
-use Rattle.rtr_cli.specs.Commands.{exit_of_audit, thinned_bytes}
+use Rattle.rtr_cli.specs.Inputs.{SpellsSome}
+use Rattle.rtr_cli.specs.Replays.{AuditEnds, exit_of_audit}
+use Rattle.rtr_cli.specs.Thinnings.{CheckThinEnds, IsThinnedTo, ThinEnds, thinned_bytes}
+use Rattle.rtr_cli.specs.Laws.{ThinnedIsReplayed}
 use Rattle.rtr_cli.proofs.AcceptedLemmas.{determinate_not_audited}
 use Rattle.rtr_cli.proofs.ReasonLemmas.{HasNoReason, both_said, is_read, memory_alone}
 

@@ -8,7 +8,9 @@ use Rattle.rtr_io.specs.Moved.{GivesPart, TakesAtMost, TakesJust}
 use Rattle.state_text.specs.declared.exit.Exit.{Exit}
 use Rattle.state_text.specs.declared.exit.Exit.TheVariants as exits
 use Rattle.tool_words.specs.declared.command.Command.{Command}
-use Rattle.rtr_cli.specs.Commands.{Makes, Overflows, Promised, Refuses, most_of}
+use Rattle.rtr_cli.specs.Inputs.{most_of}
+use Rattle.rtr_cli.specs.Commands.{Makes, Overflows, Refuses}
+use Rattle.rtr_cli.specs.Promises.{Promised}
 
 -- the input was read to its end, and these bytes were its rest; there are at most `most` of them
 pub record IsRead (most : ℕ) (old new : Option (List ℕ)) (bytes : List ℕ) : Type 0 where

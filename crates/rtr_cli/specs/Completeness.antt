@@ -28,13 +28,15 @@ use Rattle.rv_core.specs.declared.outcome.Outcome.{Outcome}
 use Rattle.tso_codec.specs.declared.recording.TsoRecording.{TsoRecording}
 use Rattle.tso_codec.specs.Reading.{tso_at}
 use Rattle.tso_codec.specs.Validity.{IsTso}
-use Rattle.tso_replay.specs.Laws.{IsToldRun}
-use Rattle.tso_replay.specs.Told.{Telling}
+use Rattle.tso_state.specs.Events.{Told}
+use Rattle.told_plays.specs.Replays.{IsToldRun}
 use Rattle.vector_reduce.specs.declared.thinned.Thinned.{Thinned}
 use Rattle.vector_reduce.specs.Answers.{AreFew, IsThinningOf}
 use Rattle.vector_reduce.specs.Reading.{thinned_at}
-use Rattle.rtr_cli.specs.Commands.{Makes, Promised, Refuses, SpellsSome, loaded, most_of, recording_of_bytes}
-use Rattle.rtr_cli.specs.Commands.{run_bytes_max}
+use Rattle.rtr_cli.specs.Inputs.{SpellsSome, loaded, most_of, run_bytes_max}
+use Rattle.rtr_cli.specs.Runs.{recording_of_bytes}
+use Rattle.rtr_cli.specs.Commands.{Makes, Refuses}
+use Rattle.rtr_cli.specs.Promises.{Promised}
 
 -- the recording is one that `record` makes: that of a run of an image that the memory holds, within the limits
 pub record IsOfRecord (r : Recording) : Type 0 where
@@ -68,7 +70,7 @@ pub record IsOfCertify (c : Certificate) : Type 0 where
 -- words, and the log is the least set of their accesses
 pub record IsOfBuffers (r : TsoRecording) : Type 0 where
   pub valid : IsTso r
-  pub list : List Telling
+  pub list : List Told
   pub outcome : Outcome
   pub told : IsToldRun r list outcome
 

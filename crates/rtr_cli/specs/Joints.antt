@@ -12,7 +12,7 @@ use Rattle.tool_words.specs.declared.command.Command.TheVariants.{Gen, Soak, At,
 use Rattle.tool_words.specs.declared.command.Command.TheVariants.{TsoRecord, TsoRun, TsoReplay}
 use Rattle.rtr_cli.specs.declared.joint.Asked.{Asked}
 use Rattle.rtr_cli.specs.Answers.{IsRead}
-use Rattle.rtr_cli.specs.Commands.{SpellsSome, file_bytes_max}
+use Rattle.rtr_cli.specs.Inputs.{SpellsSome, file_bytes_max}
 
 -- the replay on several threads that a command asks for
 abbrev pub asked_of : Command → Option Asked

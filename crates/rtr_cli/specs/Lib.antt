@@ -1,5 +1,14 @@
-pub mod Answers
-pub mod Commands
-pub mod Completeness
+pub mod Inputs
+pub mod Replays
+pub mod Runs
+pub mod Cuts
+pub mod Certificates
+pub mod Thinnings
+pub mod Buffers
 pub mod Soaks
+pub mod Commands
+pub mod Promises
+pub mod Laws
+pub mod Answers
+pub mod Completeness
 pub mod Joints

@@ -9,6 +9,13 @@ use Rattle.rtr_types.specs.declared.pairs.Which.TheVariants.{Reduced, Regulated}
 use Rattle.state_text.specs.Pieces.{line}
 use Rattle.trace_gen.specs.declared.shape.Shape.{Shape}
 use Rattle.trace_gen.specs.declared.shape.Shape.TheVariants.{Mix, Lock}
+use Rattle.std.specs.Prelude.{◌≡◌, ◌*◌, ◌<◌, ◌≤◌, ◌⊎◌, []}
+use Rattle.rtr_types.specs.declared.params.Params.{Params}
+use Rattle.state_text.specs.declared.exit.Exit.{Exit}
+use Rattle.state_text.specs.declared.exit.Exit.TheVariants as exits
+use Rattle.trace_gen.specs.Programs.{generated, image_length}
+use Rattle.rtr_cli.specs.Inputs.{image_of}
+use Rattle.rtr_cli.specs.Runs.{outcome_of_bytes, recording_of_bytes}
 
 -- the word for a shape, as it stands on the command line
 abbrev pub shape_name : Shape → List ℕ
@@ -42,3 +49,23 @@ soak_lines shape number r changed =
     ++ line (codes "regulated " ++ decimal (vector_count r) ++ codes " vectors " ++ decimal (edge_count_of Regulated r)
     ++ codes " edges")
     ++ line (codes "changed " ++ decimal changed ++ codes " words")
+
+-- what `soak` prints: the recording of the run of the generated image without choice bytes, and how many words of
+-- memory that run changed
+abbrev pub soaked_lines : Shape → (number : ℕ) → Params → (seed : ℕ) → List ℕ
+soaked_lines shape number params seed =
+    soak_lines shape number (recording_of_bytes params [] seed bytes)
+    (changed_count (image_of params bytes) (outcome_of_bytes params [] seed bytes).words)
+  where
+    bytes : List ℕ
+    bytes = generated shape number
+
+-- the generated image fits the memory, and this is what `soak` prints of it
+abbrev pub IsSoaked : Shape → (number : ℕ) → Params → (seed : ℕ) → (out : List ℕ) → Type 0
+IsSoaked shape number params seed out =
+    (image_length shape ≤ 4 * params.words) × (out ≡ soaked_lines shape number params seed)
+
+-- a soak ends so: for want of memory, or where the generated image is longer than the memory
+abbrev pub SoakEnds : Shape → Params → Exit → Type 0
+SoakEnds shape params exit =
+    (exit ≡ exits.OutOfMemory) ⊎ ((exit ≡ exits.TooLarge) × (4 * params.words < image_length shape))

@@ -3,11 +3,13 @@ ghost use Rattle.std.specs.Prelude.{◌≡◌, ◌*◌, ◌<◌, ◌≤◌, ℕ,
 ghost use Rattle.replay_core.specs.Plans.{recorded_image};
 ghost use Rattle.rtr_types.specs.Parameters.{Fits};
 ghost use Rattle.state_text.specs.States.{IsOutcomeOf, state_lines};
-ghost use Rattle.tool_words.specs.declared.command.Command.TheVariants.{TsoRecord};
+ghost use Rattle.tool_words.specs.declared.command.Command.TheVariants.{TsoRecord, TsoRun};
 ghost use Rattle.tso_codec.specs.Validity.{IsTso, plain_of};
 ghost use Rattle.tso_outcome.specs.Outcomes.{tso_outcome_of};
-ghost use Rattle.rtr_cli.specs.Commands.{IsTsoReplayed, Makes, Promised, TsoEnds, exit_of_replay, image_of};
-ghost use Rattle.rtr_cli.specs.Commands.{tso_replay_lines};
+ghost use Rattle.rtr_cli.specs.Inputs.{image_of};
+ghost use Rattle.rtr_cli.specs.Buffers.{IsTsoReplayed, TsoEnds, exit_of_replay, tso_replay_lines};
+ghost use Rattle.rtr_cli.specs.Commands.{Makes};
+ghost use Rattle.rtr_cli.specs.Promises.{Promised};
 
 use crate::commands::{Planned, image};
 use replay_core::ReplayFault;
@@ -39,8 +41,24 @@ pub(crate) fn tso_record_input(
     Ok(tso_spell(alloc, &recording)?)
 }
 
+/// The text of how a run of the image ended that the input is, by cores with store buffers.
+#[tactic(auto, using(crate::proofs::BufferRuns::tso_run_promised))]
+pub(crate) fn tso_run_input(
+    alloc: Global,
+    run: RunWords,
+    loads: bool,
+    input: Vec<u8>,
+) -> Result<Vec<u8>, AllocError>
+    requires fits { Fits run.params }
+    requires within { length input.items ≤ 4 * run.params.words }
+    ensures made { IfOk result (λ out. Makes (TsoRun run loads) input.items out.items) }
+    ensures promised { OnOk result (Promised (TsoRun run loads) input.items) }
+{
+    tso_run_text(alloc, Planned::of(run), loads, input)
+}
+
 /// The text of how a run of the image ended, by cores with store buffers.
-pub(crate) fn tso_run_text(
+fn tso_run_text(
     alloc: Global,
     run: Planned,
     loads: bool,

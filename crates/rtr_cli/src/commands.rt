@@ -16,13 +16,15 @@ ghost use Rattle.tool_words.specs.Commands.{HasFittingParams};
 ghost use Rattle.min_certificate.specs.Answers.{Checks};
 ghost use Rattle.min_certificate.specs.Laws.{IsLeastIn};
 ghost use Rattle.certificate_codec.specs.Validity.{IsCertificate};
-ghost use Rattle.rtr_cli.specs.Commands.{AuditEnds, CertifyEnds, CheckEnds, IsCertified, IsReplayed, Makes, Promised};
-ghost use Rattle.rtr_cli.specs.Commands.{IsWithin, LoadEnds, Refuses};
-ghost use Rattle.rtr_cli.specs.Commands.{checked_lines, exit_of_audit, image_of, loaded, most_of, replay_lines};
-ghost use Rattle.rtr_cli.specs.Commands.{run_bytes_max};
+ghost use Rattle.rtr_cli.specs.Inputs.{IsWithin, image_of, loaded, most_of, run_bytes_max};
+ghost use Rattle.rtr_cli.specs.Replays.{AuditEnds, IsReplayed, exit_of_audit, replay_lines};
+ghost use Rattle.rtr_cli.specs.Runs.{LoadEnds};
+ghost use Rattle.rtr_cli.specs.Certificates.{CertifyEnds, CheckEnds, IsCertified, checked_lines};
+ghost use Rattle.rtr_cli.specs.Commands.{Makes, Refuses};
+ghost use Rattle.rtr_cli.specs.Promises.{Promised};
 ghost use Rattle.tool_words.specs.declared.command.Command.TheVariants.{Record, Run};
 
-use crate::buffers::{tso_record_input, tso_replayed, tso_run_text};
+use crate::buffers::{tso_record_input, tso_replayed, tso_run_input};
 use crate::cuts::state_at;
 use crate::soaks::soak;
 use crate::thins::{checked_thin, thinned};
@@ -139,7 +141,7 @@ pub(crate) fn make(alloc: Global, command: Command, bytes: Vec<u8>) -> Result<Ve
             checked_thin(alloc, &thinned)
         }
         Command::TsoRecord(run) => tso_record_input(alloc, run, bytes),
-        Command::TsoRun { run, loads } => Ok(tso_run_text(alloc, Planned::of(run), loads, bytes)?),
+        Command::TsoRun { run, loads } => Ok(tso_run_input(alloc, run, loads, bytes)?),
         Command::TsoReplay { loads } => {
             let recording = tso_read(alloc, bytes.as_slice())?;
             tso_replayed(alloc, recording, loads)
@@ -187,10 +189,12 @@ fn record_input(alloc: Global, run: RunWords, input: Vec<u8>) -> Result<Vec<u8>,
 }
 
 /// The text of how a run of the image ended that the input is.
+#[tactic(auto, using(crate::proofs::RecordingLemmas::run_promised))]
 fn run_input(alloc: Global, run: RunWords, loads: bool, input: Vec<u8>) -> Result<Vec<u8>, Exit>
     requires fits { Fits run.params }
     requires within { length input.items ≤ run_bytes_max run }
     ensures made { IfOk result (λ out. Makes (Run run loads) input.items out.items) }
+    ensures promised { OnOk result (Promised (Run run loads) input.items) }
     ensures refused { IfErr result (LoadEnds run input.items) }
 {
     let bytes = loaded(alloc, &run, input)?;

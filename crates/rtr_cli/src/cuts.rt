@@ -5,7 +5,8 @@ ghost use Rattle.replay_audit.specs.Audits.{IsInstrOf};
 ghost use Rattle.replay_core.specs.Plans.{recorded_image};
 ghost use Rattle.state_text.specs.Cuts.{cut_state_lines};
 ghost use Rattle.state_text.specs.States.{IsOutcomeOf};
-ghost use Rattle.rtr_cli.specs.Commands.{AtEnds, IsCutAt, IsReplayed, IsToldAt};
+ghost use Rattle.rtr_cli.specs.Replays.{IsReplayed};
+ghost use Rattle.rtr_cli.specs.Cuts.{AtEnds, IsCutAt, IsToldAt};
 
 use crate::commands::{audited, image};
 use cut_replay::{cut_with, cut_without, has_instr, state_of};

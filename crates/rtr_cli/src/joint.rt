@@ -8,8 +8,10 @@ ghost use Rattle.replay_table.specs.Seats.{IsEnd};
 ghost use Rattle.rtr_io.specs.Faults.{HasRisen};
 ghost use Rattle.tool_words.specs.Commands.{AreFewThreads, HasFittingParams};
 ghost use Rattle.rtr_cli.specs.Answers.{Answers};
-ghost use Rattle.rtr_cli.specs.Commands.{AuditEnds, IsReplayed, Makes, Promised, Refuses, SpellsSome};
-ghost use Rattle.rtr_cli.specs.Commands.{replay_lines};
+ghost use Rattle.rtr_cli.specs.Inputs.{SpellsSome};
+ghost use Rattle.rtr_cli.specs.Replays.{AuditEnds, IsReplayed, replay_lines};
+ghost use Rattle.rtr_cli.specs.Commands.{Makes, Refuses};
+ghost use Rattle.rtr_cli.specs.Promises.{Promised};
 ghost use Rattle.rtr_cli.specs.Completeness.{MakesWhole};
 ghost use Rattle.rtr_cli.specs.Joints.{PrintsJoint, asked_by, command_of, joint_lines};
 

@@ -1,6 +1,6 @@
 //! What the commands' definitions promise of their outputs.
-ghost use Rattle.rtr_cli.specs.Commands.{CertifiedIsAccepted, MakesOne, MigratedReadsTheSame, NewestStays};
-ghost use Rattle.rtr_cli.specs.Commands.{ThinnedIsReplayed, VersionsAreApart};
+ghost use Rattle.rtr_cli.specs.Laws.{CertifiedIsAccepted, MakesOne, MigratedReadsTheSame, NewestStays};
+ghost use Rattle.rtr_cli.specs.Laws.{ThinnedIsReplayed, VersionsAreApart};
 ghost use Rattle.rtr_cli.specs.Completeness.{AcceptedIsNotRefused, WrittenIsAccepted};
 
 use cut_replay::laws::{one_cut_each, one_state};

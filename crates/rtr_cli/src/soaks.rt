@@ -1,11 +1,12 @@
 //! A run of a generated image, recorded and replayed.
-ghost use Rattle.std.specs.Prelude.{◌≡◌, ◌*◌, ◌≤◌, IfErr, IfOk, IsTrue, length};
+ghost use Rattle.std.specs.Prelude.{◌≡◌, ◌*◌, ◌≤◌, [], IfErr, IfOk, IsTrue, OnOk, length};
 ghost use Rattle.run_outcome.specs.Outcomes.{outcome_of};
 ghost use Rattle.run_records.specs.Recordings.{recording_of};
 ghost use Rattle.race_log.specs.Validity.{Valid};
 ghost use Rattle.rtr_types.specs.Parameters.{Fits};
-ghost use Rattle.trace_gen.specs.Programs.{takes};
-ghost use Rattle.rtr_cli.specs.Commands.{IsSoaked, SoakEnds};
+ghost use Rattle.trace_gen.specs.Programs.{generated, takes};
+ghost use Rattle.rtr_cli.specs.Soaks.{IsSoaked, SoakEnds};
+ghost use Rattle.rtr_cli.specs.Promises.{KeepsRun};
 
 use crate::commands::{audited, image};
 use crate::soak_texts::{changed_words, soak_text};
@@ -21,8 +22,8 @@ use std::alloc::Global;
 use trace_gen::{Shape, gen_image};
 
 /// What a run of the image of this shape and number comes to, as text. The run is recorded, and replayed by the
-/// reduced log of its recording, which no audit refuses. The image may be longer than the memory: that alone and
-/// want of memory are refused.
+/// reduced log of its recording, which no audit refuses: the recording keeps the run, so that its replay comes to what
+/// the run came to. The image may be longer than the memory: that alone and want of memory are refused.
 pub(crate) fn soak(
     alloc: Global,
     shape: Shape,
@@ -33,6 +34,7 @@ pub(crate) fn soak(
     requires fits { Fits params }
     requires takes { IsTrue (takes shape number) }
     ensures made { IfOk result (λ out. IsSoaked shape number params seed out.items) }
+    ensures promised { OnOk result (KeepsRun params [] seed (generated shape number)) }
     ensures refused { IfErr result (SoakEnds shape params) }
 {
     a_run_fits_its_image();

@@ -4,8 +4,8 @@ ghost use Rattle.race_log.specs.Validity.{Valid};
 ghost use Rattle.rtr_types.specs.declared.pairs.Which.TheVariants.{Regulated};
 ghost use Rattle.vector_reduce.specs.Answers.{IsAccepted};
 ghost use Rattle.vector_reduce.specs.Validity.{IsThin};
-ghost use Rattle.rtr_cli.specs.Commands.{CheckThinEnds, IsReplayed, IsThinnedTo, ThinEnds, thin_checked_lines};
-ghost use Rattle.rtr_cli.specs.Commands.{thinned_bytes};
+ghost use Rattle.rtr_cli.specs.Replays.{IsReplayed};
+ghost use Rattle.rtr_cli.specs.Thinnings.{CheckThinEnds, IsThinnedTo, ThinEnds, thin_checked_lines, thinned_bytes};
 
 use crate::commands::{audited, exit_of_audit};
 use log_codec::spell;

@@ -7,7 +7,7 @@ ghost use Rattle.state_text.specs.Exits.{fault_line};
 ghost use Rattle.tool_words.specs.Commands.{HasFittingParams};
 ghost use Rattle.tool_words.specs.Reading.{meaning};
 ghost use Rattle.rtr_cli.specs.Answers.{Answers, HasMore, IsTaken, IsTakenUpTo, LeavesUntaken, Tells, one_more};
-ghost use Rattle.rtr_cli.specs.Commands.{most_of};
+ghost use Rattle.rtr_cli.specs.Inputs.{most_of};
 ghost use Rattle.rtr_cli.specs.Completeness.{MakesWhole};
 ghost use Rattle.rtr_cli.specs.Joints.{PrintsSome, asked_by};
 ghost use Rattle.rtr_cli.specs.declared.joint.Asked.{Asked};
@@ -31,7 +31,8 @@ use tool_words::{Command, meaning, what_words_mean_fits};
 /// conflict in the run, the regulated log implies it, and every order that obeys either log gives each load
 /// the run's value and the run's final memory, and is never stuck (`KeepsRun` among what is promised). At `Done`
 /// of `tsorecord` the same is promised of the accesses that the run of cores with store buffers ordered, by its
-/// reduced log (`KeepsTsoRun`). At `Done` of `tsoreplay` the low order of that log is whole and plays with the logged
+/// reduced log (`KeepsTsoRun`). What `run` and `tsorun` print is taken where the run ended, and a soak's recording keeps
+/// its run as that of `record` does. At `Done` of `tsoreplay` the low order of that log is whole and plays with the logged
 /// words; whether the log orders all conflicts isn't asked (`IsTsoReplayed`).
 ///
 /// `Usage` comes exactly where the words mean nothing, and then neither input nor output is touched.

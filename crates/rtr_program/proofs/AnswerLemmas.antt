@@ -7,7 +7,7 @@ use Rattle.state_text.specs.declared.exit.Exit.{Exit}
 use Rattle.state_text.specs.declared.exit.Exit.TheVariants as exits
 use Rattle.tool_words.specs.declared.command.Command.{Command}
 use Rattle.rtr_cli.specs.Answers.{Answers, LeavesUntaken}
-use Rattle.rtr_cli.specs.Commands.{most_of}
+use Rattle.rtr_cli.specs.Inputs.{most_of}
 use Rattle.rtr_cli.specs.Completeness.{Accepts, EndsWell, HasLeft, IsFaultless}
 use Rattle.rtr_program.specs.Conclusions.{AnswersMeaning, IsAnswerOf}
 

@@ -8,7 +8,7 @@ use Rattle.state_text.specs.declared.exit.Exit.TheVariants as exits
 use Rattle.tool_words.specs.declared.command.Command.{Command}
 use Rattle.rtr_cli.specs.Answers.{Answers, LeavesUntaken, Tells}
 use Rattle.rtr_cli.specs.Completeness.{Accepts, EndsWell, HasLeft, IsFaultless}
-use Rattle.rtr_cli.specs.Commands.{most_of}
+use Rattle.rtr_cli.specs.Inputs.{most_of}
 
 -- the process ends with the exit's status, and the report got the exit's text and nothing else, unless it failed
 pub record EndsBy (exit : Exit) (status : ℕ) (got got' : Option (List ℕ)) (faults faults' : ℕ) : Type 0 where

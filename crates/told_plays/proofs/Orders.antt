@@ -1,39 +1,27 @@
 -- What is told of cores is in program order.
-use Rattle.std.proofs.Common.{◌≡◌, ◌∙◌, refl, sym, ap, subst, ℕ, ◌+◌, ◌<◌, List, [], ◌∷◌, length, arith}
+use Rattle.std.proofs.Common.{◌≡◌, ◌∙◌, sym, ap, subst, ℕ, ◌+◌, ◌<◌, List, [], ◌∷◌, length, arith}
 use native.Mathlib.Decide.{ℕ_discrete}
-use Rattle.rtr_types.specs.declared.instr.Instr.{Instr}
 use Rattle.rv_core.specs.States.{starting}
 use Rattle.rv_core.proofs.LawLemmas.{start_law}
 use Rattle.replay_core.specs.Orders.{bump, counts, nought}
 use Rattle.replay_core.proofs.Counts.{bump_here, bump_else}
-use Rattle.tso_state.specs.Events.{Told, Alone, Ordered, Logged, instr_told}
+use Rattle.tso_state.specs.Events.{Told, instr_told}
 use Rattle.tso_told.specs.Played.{AreInside, told_of}
 use Rattle.tso_replay.specs.Laws.{Inside}
-use Rattle.tso_replay.specs.Told.{told_at, cores_told}
-use Rattle.told_plays.specs.Plays.{InOrderLaw, InProgramOrder, telling, tellings_of}
+use Rattle.told_plays.specs.Tells.{cores_told}
+use Rattle.told_plays.specs.Plays.{InOrderLaw, InProgramOrder}
 use Rattle.tso_told.proofs.InOrder.{CountFrom, counts_from, first_own, first_else}
-
-pub telling_at : (e : Told) → told_at (telling e) ≡ instr_told e
-telling_at (Alone at) = refl
-telling_at (Ordered a) = refl
-telling_at (Logged at word value) = refl
 
 module _ (cores : ℕ) where
   ordered : (f : ℕ → ℕ) (list : List Told) → AreInside cores list →
       ((c : ℕ) → c < cores → CountFrom (f c) (told_of c list)) →
-      InProgramOrder f (tellings_of list) × Inside cores (cores_told (tellings_of list))
+      InProgramOrder f list × Inside cores (cores_told list)
   ordered f [] inside counts = (tt, tt)
   ordered f (e ∷ list) inside counts =
       let d = (instr_told e).core in
       let own : CountFrom (f d) (e ∷ told_of d list) = subst (CountFrom (f d)) (first_own e list) (counts d inside.0) in
-      let rest = ordered (bump f d) list inside.1 (λ c lt. later c lt) in (
-        (
-          ap (λ (at : Instr). at.count) (telling_at e) ∙ own.0
-              ∙ ap (λ (at : Instr). f at.core + 1) (sym (telling_at e)),
-          subst (λ (at : Instr). InProgramOrder (bump f at.core) (tellings_of list)) (sym (telling_at e)) rest.0,
-        ),
-        (subst (λ (at : Instr). at.core < cores) (sym (telling_at e)) inside.0, rest.1),
-      )
+      let rest = ordered (bump f d) list inside.1 (λ c lt. later c lt) in
+      ((own.0, rest.0), (inside.0, rest.1))
     where
       later : (c : ℕ) → c < cores → CountFrom (bump f (instr_told e).core c) (told_of c list)
       later c lt = elim (ℕ_discrete c (instr_told e).core) [
@@ -56,11 +44,10 @@ in_order image limit cores list h =
 
 -- a core's count after them is the number of its own
 pub told_counts : (f : ℕ → ℕ) (list : List Told) (c : ℕ) →
-    counts f (cores_told (tellings_of list)) c ≡ f c + length (told_of c list)
+    counts f (cores_told list) c ≡ f c + length (told_of c list)
 told_counts f [] c = let same : f c ≡ f c + 0 = omega arith in same
 told_counts f (e ∷ list) c =
-    ap (λ (at : Instr). counts (bump f at.core) (cores_told (tellings_of list)) c) (telling_at e)
-    ∙ told_counts (bump f (instr_told e).core) list c
+    told_counts (bump f (instr_told e).core) list c
     ∙ elim (ℕ_discrete c (instr_told e).core) [
       | yes same ↦
           let d = (instr_told e).core in

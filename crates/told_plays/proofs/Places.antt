@@ -23,9 +23,9 @@ use Rattle.replay_core.proofs.Places.{place_given_law}
 use Rattle.replay_core.proofs.PlaceSteps.{used_within}
 use Rattle.tso_state.specs.Events.{Told, Alone, Ordered, Logged, instr_told}
 use Rattle.tso_told.specs.Played.{IsNext, found_by, ordered_told}
-use Rattle.tso_replay.specs.Told.{TellsAt}
-use Rattle.tso_replay.proofs.ToldPlay.{shared-none}
-use Rattle.told_plays.specs.Plays.{IsGiven, telling}
+use Rattle.told_plays.specs.Tells.{TellsAt}
+use Rattle.told_plays.specs.Plays.{IsGiven}
+use Rattle.told_plays.proofs.Tells.{shared-none}
 use Rattle.memory_left.proofs.Memory.{words_more}
 
 -- a core that makes an access isn't done
@@ -45,7 +45,7 @@ found-none (Some value) words = refl
 
 -- what is told of the next instruction of core c plays, and leaves this of the core and of the words
 pub record Placed (given : Given) (p : Plan) (earlier : List Access) (s : Outcome) (e : Told) : Type 0 where
-  pub tells : TellsAt given p s (telling e)
+  pub tells : TellsAt given p s e
   pub core : core_at (valued_place given p s (instr_told e).core) (instr_told e).core
       ≡ after p.image (core_at s (instr_told e).core) (found_by e)
   pub words : (valued_place given p s (instr_told e).core).words

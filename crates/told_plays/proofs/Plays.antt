@@ -4,7 +4,6 @@ use Rattle.std.proofs.Common.{append-nil, arith}
 use native.Mathlib.Decide.{ℕ_discrete}
 use Rattle.machine_data.specs.LastValues.{EachFindsLast, memory_left}
 use Rattle.rtr_types.specs.declared.access.Access.{Access}
-use Rattle.rtr_types.specs.declared.instr.Instr.{Instr}
 use Rattle.rv_core.specs.declared.core_state.Core.{Core}
 use Rattle.rv_core.specs.declared.outcome.Outcome.{Outcome}
 use Rattle.rv_core.proofs.LawLemmas.{number_law, start_law}
@@ -13,11 +12,10 @@ use Rattle.replay_core.specs.Play.{Given, core_at, given_next, start, valued_pla
 use Rattle.replay_core.proofs.Places.{place_given_law, play_start_law, start_known}
 use Rattle.tso_state.specs.Events.{Told, Alone, Ordered, Logged, instr_told}
 use Rattle.tso_told.specs.Played.{AreInside, AreNext, found_by, ordered_told, told_core, told_of}
-use Rattle.tso_replay.specs.Told.{Tells, cores_told}
-use Rattle.told_plays.specs.Plays.{AreGiven, PlayedLaw, tellings_of}
+use Rattle.told_plays.specs.Tells.{Tells, cores_told}
+use Rattle.told_plays.specs.Plays.{AreGiven, PlayedLaw}
 use Rattle.told_plays.proofs.Firsts.{ordered_first}
 use Rattle.tso_told.proofs.InOrder.{first_own, first_else}
-use Rattle.told_plays.proofs.Orders.{telling_at}
 use Rattle.told_plays.proofs.Places.{FindsLeft, Placed, is_placed}
 
 -- what is told from a state on is right there, after these accesses
@@ -32,10 +30,10 @@ record Comes (given : Given) (p : Plan) (earlier : List Access) (s : Outcome) (l
 
 -- so it plays from there
 record Plays (given : Given) (p : Plan) (earlier : List Access) (s : Outcome) (list : List Told) : Type 0 where
-  tells : Tells given p s (tellings_of list)
-  core : (c : ℕ) → c < length p.totals → core_at (valued_play given p s (cores_told (tellings_of list))) c
+  tells : Tells given p s list
+  core : (c : ℕ) → c < length p.totals → core_at (valued_play given p s (cores_told list)) c
       ≡ told_core p.image (core_at s c) (told_of c list)
-  words : (valued_play given p s (cores_told (tellings_of list))).words
+  words : (valued_play given p s (cores_told list)).words
       ≡ memory_left p.image (earlier ++ ordered_told list)
 
 finds_left : (p : Plan) (earlier : List Access) (e : Told) (list : List Told) →
@@ -61,10 +59,6 @@ module _ (given : Given) (p : Plan) where
 
     others : (c : ℕ) → c ≢ (instr_told e).core → core_at (valued_place given p s (instr_told e).core) c ≡ core_at s c
     others c ne = (place_given_law p s d (given_next given s d)).other_cores c ne
-
-    -- what the rest plays once the core of this instruction was told
-    abbrev play_from : Instr → Outcome
-    play_from at = valued_play given p (valued_place given p s at.core) (cores_told (tellings_of list))
 
     comes : Comes given p (earlier ++ ordered_told (e ∷ [])) (valued_place given p s (instr_told e).core) list
     comes = record {
@@ -92,14 +86,9 @@ module _ (given : Given) (p : Plan) where
     then : Plays given p (earlier ++ ordered_told (e ∷ [])) (valued_place given p s (instr_told e).core) list →
         Plays given p earlier s (e ∷ list)
     then rest = record {
-      tells = (
-        place.tells,
-        subst (λ (at : Instr). Tells given p (valued_place given p s at.core) (tellings_of list)) (sym (telling_at e))
-            rest.tells,
-      );
+      tells = (place.tells, rest.tells);
       core = λ c lt.
-          ap (λ (at : Instr). core_at (play_from at) c) (telling_at e)
-          ∙ rest.core c lt
+          rest.core c lt
           ∙ elim (ℕ_discrete c d) [
             | yes same ↦
                 subst (λ (x : ℕ). told_core p.image (core_at (valued_place given p s d) x) (told_of x list)
@@ -112,8 +101,7 @@ module _ (given : Given) (p : Plan) where
                 ∙ ap (told_core p.image (core_at s c)) (sym (first_else c e list (λ is. ne (sym is))))
           ];
       words =
-          ap (λ (at : Instr). (play_from at).words) (telling_at e)
-          ∙ rest.words
+          rest.words
           ∙ ap (memory_left p.image) (sym (ordered_first earlier e list));
     }
 

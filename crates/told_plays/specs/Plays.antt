@@ -1,5 +1,5 @@
 -- What a run of cores with store buffers tells, as its replay takes it, and that it is a play.
-use Rattle.std.specs.Prelude.{◌≡◌, ℕ, ◌+◌, ◌<◌, Some, None, List, [], ◌∷◌, length, map}
+use Rattle.std.specs.Prelude.{◌≡◌, ℕ, ◌+◌, ◌<◌, Some, None, List, [], ◌∷◌, length}
 use Rattle.image_mem.specs.Contents.{Contents}
 use Rattle.machine_data.specs.LastValues.{EachFindsLast, memory_left}
 use Rattle.replay_core.specs.Orders.{bump, nought}
@@ -7,25 +7,15 @@ use Rattle.replay_core.specs.Plans.{Plan}
 use Rattle.replay_core.specs.Play.{Given, core_at, start, valued_play}
 use Rattle.rv_core.specs.States.{starting}
 use Rattle.tso_replay.specs.Laws.{Inside}
-use Rattle.tso_replay.specs.Told.{Telling, Locally, Ordered as AccessTelling, Logged as LoggedTelling, Tells}
-use Rattle.tso_replay.specs.Told.{cores_told, told_at}
-use Rattle.tso_state.specs.Events.{Told, Alone, Ordered, Logged}
+use Rattle.tso_state.specs.Events.{Told, Alone, Ordered, Logged, instr_told}
 use Rattle.tso_told.specs.Played.{AreInside, AreNext, ordered_told, told_core, told_of}
-
--- what is told, as a replay takes it
-abbrev pub telling : Told → Telling
-telling (Alone at) = Locally at
-telling (Ordered a) = AccessTelling a
-telling (Logged at word value) = LoggedTelling at word value
-
-abbrev pub tellings_of : List Told → List Telling
-tellings_of list = map telling list
+use Rattle.told_plays.specs.Tells.{Tells, cores_told}
 
 -- each instruction is the next of its core, whose count so far is this
-abbrev pub InProgramOrder : (ℕ → ℕ) → List Telling → Type 0
+abbrev pub InProgramOrder : (ℕ → ℕ) → List Told → Type 0
 InProgramOrder f [] = Unit {0}
-InProgramOrder f (t ∷ list) =
-    ((told_at t).count ≡ f (told_at t).core + 1) × InProgramOrder (bump f (told_at t).core) list
+InProgramOrder f (e ∷ list) =
+    ((instr_told e).count ≡ f (instr_told e).core + 1) × InProgramOrder (bump f (instr_told e).core) list
 
 -- an ordered access is given no value, and a logged load is given its own
 abbrev pub IsGiven : Given → Told → Type 0
@@ -44,17 +34,17 @@ pub record AreToldOf (image : Contents) (limit cores : ℕ) (list : List Told) :
 
 -- it plays, and comes to the cores that were told and to the memory that the ordered accesses leave
 pub record IsPlayed (given : Given) (p : Plan) (list : List Told) : Type 0 where
-  pub tells : Tells given p (start p) (tellings_of list)
-  pub core : (c : ℕ) → c < length p.totals → core_at (valued_play given p (start p) (cores_told (tellings_of list))) c
+  pub tells : Tells given p (start p) list
+  pub core : (c : ℕ) → c < length p.totals → core_at (valued_play given p (start p) (cores_told list)) c
       ≡ told_core p.image (starting c p.limit) (told_of c list)
-  pub words : (valued_play given p (start p) (cores_told (tellings_of list))).words
+  pub words : (valued_play given p (start p) (cores_told list)).words
       ≡ memory_left p.image (ordered_told list)
 
 -- What is told of cores is in program order.
 abbrev pub InOrderLaw : Type 0
 InOrderLaw =
     (image : Contents) (limit cores : ℕ) (list : List Told) → AreToldOf image limit cores list
-    → InProgramOrder nought (tellings_of list) × Inside cores (cores_told (tellings_of list))
+    → InProgramOrder nought list × Inside cores (cores_told list)
 
 -- What is told of cores is a play, where ordered accesses find the last values and logged loads are given theirs.
 abbrev pub PlayedLaw : Type 0

@@ -40,7 +40,7 @@ macro_rules! unread {
 }
 
 /// The rows.
-pub static BUFFERS: [Row; 38] = [
+pub static BUFFERS: [Row; 39] = [
     told!(
         "tsoreplay --loads",
         BUFFERED,
@@ -105,6 +105,19 @@ pub static BUFFERS: [Row; 38] = [
             "mem 00000040 00000001\nmem 00000050 00000001\n",
             "load 0 6 00000050 00000000\nload 1 6 00000040 00000000\n",
         )
+    ),
+    // A load of block B, a store to the other block of its line, and sixteen loads of B. Fifteen of these join the
+    // store, which makes sixteen pending accesses, and then the store's block takes the line: so fifteen are logged.
+    made!(
+        "tsorecord --cores 1 --words 96 --choices \
+            000000000000000000000000000000000000000000000000000000000000\
+            000000000000000000000000000000000000000000000000000000000000",
+        "83220014 23205004 03230014 03230014 03230014 03230014 03230014 03230014 03230014 03230014 03230014 03230014 \
+            03230014 03230014 03230014 03230014 03230014 03230014 73000000",
+        "52545203 01 904e 60 4c \
+            83220014 23205004 03230014 03230014 03230014 03230014 03230014 03230014 03230014 03230014 03230014 03230014 \
+            03230014 03230014 03230014 03230014 03230014 03230014 73000000 \
+            13 0f 0300 0100 0100 0100 0100 0100 0100 0100 0100 0100 0100 0100 0100 0100 0100"
     ),
     made!("tsorecord", "73000000", ONE_CALL),
     told!("tsorun", "73000000", ONE_CALL_TEXT),

@@ -1,7 +1,7 @@
 //! Recordings of cores with store buffers: each row, bytes that are cut and changed, and streams that fail.
 
 use crate::buffer_tables::{BUFFERED, CUT, DAMAGED, Damage, ONE_CALL, ONE_CALL_TEXT};
-use crate::calls::{Answer, ask, ask_over, asks};
+use crate::calls::{Answer, ask, ask_over, asks, gives};
 use replay_threads::OpenGate;
 use row_texts::bytes;
 use rtr_io::{MemSink, MemSource};
@@ -30,6 +30,29 @@ fn a_cut_of_a_recording_of_buffers_names_its_part(rt: HostRuntime) -> Result<(),
         )?;
     }
     Ok(())
+}
+
+/// What a command for cores with store buffers makes, with sixteen of them, of a generated mix.
+fn of_sixteen(
+    rt: &(impl Threads + Wait + Sync),
+    alloc: Global,
+    words: &str,
+) -> Result<Answer, AllocError> {
+    let image = ask(rt, alloc, "gen --shape mix --number 3", Vec::new(alloc))?.output;
+    let words = format!(in alloc; "{words} --cores 16 --limit 1000 --seed 5")?;
+    ask(rt, alloc, &words, image)
+}
+
+// Sixteen cores are recorded, and a replay of the recording prints what the run prints.
+#[test]
+fn sixteen_cores_with_buffers_are_recorded(rt: HostRuntime) -> Result<(), Fail> {
+    let alloc = rt.alloc();
+    let run = of_sixteen(&rt, alloc, "tsorun --loads")?;
+    let recorded = of_sixteen(&rt, alloc, "tsorecord")?;
+    assert!(rt; (run.status, recorded.status) == (0, 0));
+    let text = run.output.as_slice();
+    assert!(rt; text.starts_with(b"core 0 limit retired 1000 ".as_slice()));
+    Ok(gives(&rt, alloc, "tsoreplay --loads", recorded.output, text)?)
 }
 
 /// The status and the line of the damage; none where the bytes are replayed.

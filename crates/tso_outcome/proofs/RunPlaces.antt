@@ -26,7 +26,7 @@ use Rattle.tso_state.specs.Runs.{stepped_by, told_by}
 use Rattle.tso_state.specs.States.{BufferedCore, PlainState, all_done, buffered_start, core_at}
 use Rattle.tso_told.proofs.ToldRuns.{told_all_reads}
 use Rattle.tso_outcome.specs.Loads.{loads_told}
-use Rattle.tso_outcome.specs.Outcomes.{RunsAt, StandsAt, ToldLoadsLaw, told_loads, tso_outcome_of}
+use Rattle.tso_outcome.specs.Outcomes.{RunEnds, RunsAt, StandsAt, ToldLoadsLaw, told_loads, tso_outcome_of}
 use Rattle.tso_outcome.proofs.ByCore.{no_items, same_lists}
 use Rattle.tso_outcome.proofs.ToldLoads.{core_loads, lists_told}
 
@@ -148,6 +148,11 @@ told_loads_law image params schedule fits =
     let choices : ℕ → ℕ = choice_at schedule in
     all_loads image params choices (end_of image params choices) fits
     (end_done image params choices (record { cores = fits.cores; limit = omega (arith, fits.limit) }))
+
+-- the run ends there
+pub run_ends_so : (image : Contents) (params : Params) (schedule : Choices) → Fits params → RunEnds image params schedule
+run_ends_so image params schedule fits =
+    run_ends image params (choice_at schedule) (record { cores = fits.cores; limit = omega (arith, fits.limit) })
 
 -- a state that is done has the cores and the memory of the run's outcome
 pub cores_are : (image : Contents) (params : Params) (schedule : Choices) (t : ℕ) (s : PlainState) (rest : Choices) →

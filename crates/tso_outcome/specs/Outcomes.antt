@@ -1,4 +1,4 @@
--- Rule: what a run with store buffers under a schedule comes to: tso_outcome_of
+-- Rule: what a run with store buffers under a schedule comes to: tso_outcome_of, RunEnds
 -- What a run of cores with store buffers comes to under a schedule, and where it stands before.
 use Rattle.std.specs.Prelude.{◌≡◌, ℕ, List, length, map}
 use Rattle.std.specs.List.{range_with_len}
@@ -10,7 +10,7 @@ use Rattle.rv_core.specs.declared.outcome.Outcome.{Outcome}
 use Rattle.schedule_pick.specs.Choices.{Choices, choice_at}
 use Rattle.schedule_pick.specs.Standing.{StandsIn}
 use Rattle.tso_bound.specs.Ends.{end_of}
-use Rattle.tso_state.specs.Runs.{all_told, outcome_at, run}
+use Rattle.tso_state.specs.Runs.{IsRunEnd, all_told, outcome_at, run}
 use Rattle.tso_state.specs.States.{PlainState, all_done}
 use Rattle.tso_told.specs.Played.{reads_told, told_of}
 
@@ -18,6 +18,11 @@ use Rattle.tso_told.specs.Played.{reads_told, told_of}
 unfoldable pub tso_outcome_of : Contents → Params → Choices → Outcome
 tso_outcome_of image params schedule =
     outcome_at image params (choice_at schedule) (end_of image params (choice_at schedule))
+
+-- the run ends where its outcome is taken: there each core's program is done and no access is pending, and at no moment
+-- before
+abbrev pub RunEnds : Contents → Params → Choices → Type 0
+RunEnds image params schedule = IsRunEnd image params (choice_at schedule) (end_of image params (choice_at schedule))
 
 -- a machine in this state, with these choices left, stands t choices into the run, which hasn't ended before
 abbrev pub RunsAt : Contents → Params → Choices → (t : ℕ) → PlainState → (rest : Choices) → Type 0

@@ -19,7 +19,8 @@ use Rattle.tso_state.specs.Events.{Event, Nothing, Executes, Buffers, Performs, 
 use Rattle.tso_state.specs.Events.{Logged, tellings}
 use Rattle.tso_state.specs.States.{BufferedCore}
 use Rattle.tso_told.specs.Played.{AreInside}
-use Rattle.tso_record.specs.Clerks.{Accepts, Noted, ToldLocal, ToldLogged, ToldTouch, values_told}
+use Rattle.tso_record.specs.Clerks.{Accepts, Noted, ToldLocal, ToldLogged, ToldTouch}
+use Rattle.tso_record.proofs.ToldValues.{values_behind}
 
 -- what the clerk's calls do, and what it accepts
 abbrev pub local : Noted → Instr → Unit {0} → Noted → Type 0
@@ -85,14 +86,14 @@ module _ (found : Times) where
       all_reduced list told.0 d left told.2 ∙ ap (λ (r : Reduced). reduced_told r found list) told.1.reduction
 
   pub all_values : (list : List Told) (c d : Noted) (left : Times) → TellsThese list c d left →
-      d.values ≡ values_told c.values list
+      d.values ≡ values_behind c.values list
   all_values [] c d left is = ap (λ (n : Noted). n.values) is
   all_values (Alone at ∷ list) c d left told =
-      all_values list told.0 d left told.2 ∙ ap (λ (v : List (List (ℕ × ℕ))). values_told v list) told.1.values
+      all_values list told.0 d left told.2 ∙ ap (λ (v : List (List (ℕ × ℕ))). values_behind v list) told.1.values
   all_values (Ordered a ∷ list) c d left told =
-      all_values list told.0 d left told.2 ∙ ap (λ (v : List (List (ℕ × ℕ))). values_told v list) told.1.values
+      all_values list told.0 d left told.2 ∙ ap (λ (v : List (List (ℕ × ℕ))). values_behind v list) told.1.values
   all_values (Logged at word value ∷ list) c d left told =
-      all_values list told.0 d left told.2 ∙ ap (λ (v : List (List (ℕ × ℕ))). values_told v list) told.1.values
+      all_values list told.0 d left told.2 ∙ ap (λ (v : List (List (ℕ × ℕ))). values_behind v list) told.1.values
 
 -- the times that it leaves are those of the reduction
 touched_times : (a : Access) (c d : Noted) (found left : Times) → ToldTouch c found a d left →

@@ -33,12 +33,12 @@ use Rattle.tso_times.specs.Timed.{ordering_port}
 use Rattle.tso_told.specs.Played.{AreInside}
 use Rattle.tso_codec.specs.declared.recording.TsoRecording.{TsoRecording}
 use Rattle.tso_recordings.specs.Schedules.{tso_recording_of}
-use Rattle.tso_record.specs.Clerks.{Noted, values_told}
+use Rattle.tso_record.specs.Clerks.{Noted}
 use Rattle.run_steps.specs.Ways.{IsUnderWay}
 use Rattle.tso_record.specs.Standing.{RecordsAt, last_lists}
 use Rattle.tso_record.proofs.ClerkTells.{accepts, accepts_told, all_reduced, all_values, alone, left_is, local, logged}
 use Rattle.tso_record.proofs.ClerkTells.{touch}
-use Rattle.tso_record.proofs.ToldValues.{values_next}
+use Rattle.tso_record.proofs.ToldValues.{values_behind, values_next}
 
 -- ---- the start
 
@@ -103,8 +103,8 @@ records_next image params schedule t s later c d rest rest' m going steps moved 
       reduction = moved_reduction w s later c d m h.state h.reduction told_is
           ∙ ap (λ o. (moved_by w o).reduction) (sym next);
       values = all_values (found_in s m) (told times_riding none_carrying s m) c d _ told_is
-          ∙ ap (values_told c.values) (forgets_told times_riding none_carrying s m)
-          ∙ ap (λ (v : List (List (ℕ × ℕ))). values_told v (plain_told (plain s) m)) h.values
+          ∙ ap (values_behind c.values) (forgets_told times_riding none_carrying s m)
+          ∙ ap (λ (v : List (List (ℕ × ℕ))). values_behind v (plain_told (plain s) m)) h.values
           ∙ values_next image params (choice_at schedule) t (suc t) (plain_told (plain s) m)
           (told_next image params schedule t (plain s) (plain later) rest rest' m steps h.runs);
     }

@@ -8,13 +8,23 @@ use Rattle.rtr_types.specs.declared.params.Params.{Params}
 use Rattle.tso_outcome.proofs.ByCore.{by_core, item_more, same_lists}
 use Rattle.tso_state.specs.Events.{Told, Alone, Ordered, Logged}
 use Rattle.tso_state.specs.Runs.{LoggedLoad, all_told, values_at, values_of}
-use Rattle.tso_told.specs.Played.{logged_told}
 use Rattle.tso_told.proofs.OrderedAndLogged.{loads_told}
-use Rattle.tso_record.specs.Clerks.{values_after, values_told}
+use Rattle.roomy_lists.specs.Lists.{with_item}
+use Rattle.tso_recordings.proofs.Values.{told_values}
+
+-- the logged loads of each core after one more instruction was told, and after all of a list
+abbrev pub values_after : List (List (ℕ × ℕ)) → Told → List (List (ℕ × ℕ))
+values_after values (Alone at) = values
+values_after values (Ordered a) = values
+values_after values (Logged at word value) = with_item values at.core (at.count, value)
+
+abbrev pub values_behind : List (List (ℕ × ℕ)) → List Told → List (List (ℕ × ℕ))
+values_behind values [] = values
+values_behind values (e ∷ later) = values_behind (values_after values e) later
 
 -- the logged loads of a core, of what was told
-abbrev pub core_values : List Told → (core : ℕ) → List (ℕ × ℕ)
-core_values list core = values_of core (logged_told list)
+abbrev core_values : List Told → (core : ℕ) → List (ℕ × ℕ)
+core_values list core = told_values core list
 
 core_append : (xs ys : List Told) (core : ℕ) → core_values (xs ++ ys) core ≡ core_values xs core ++ core_values ys core
 core_append [] ys core = refl
@@ -58,26 +68,26 @@ lists_after xs (Logged at word value) n =
     e = Logged at word value
 
 lists_told : (xs more : List Told) (n : ℕ) →
-    values_told (by_core (core_values xs) 0 n) more ≡ by_core (core_values (xs ++ more)) 0 n
+    values_behind (by_core (core_values xs) 0 n) more ≡ by_core (core_values (xs ++ more)) 0 n
 lists_told xs [] n = ap (λ (list : List Told). by_core (core_values list) 0 n) (sym (append-nil xs))
 lists_told xs (e ∷ more) n =
-    ap (λ (lists : List (List (ℕ × ℕ))). values_told lists more) (lists_after xs e n)
+    ap (λ (lists : List (List (ℕ × ℕ))). values_behind lists more) (lists_after xs e n)
     ∙ lists_told (xs ++ e ∷ []) more n
     ∙ ap (λ (list : List Told). by_core (core_values list) 0 n) (append_assoc xs (e ∷ []) more)
 
 -- the values of a run are those that were told
-told_values : (image : Contents) (params : Params) (choices : ℕ → ℕ) (t : ℕ) →
+run_values : (image : Contents) (params : Params) (choices : ℕ → ℕ) (t : ℕ) →
     by_core (core_values (all_told image params choices t)) 0 params.cores ≡ values_at image params choices t
-told_values image params choices t =
+run_values image params choices t =
     ap (λ (l : List LoggedLoad). map (λ c. values_of c l) (range_with_len 0 params.cores))
     (loads_told image params choices t)
 
 -- and after a step those with what the step tells
 pub values_next : (image : Contents) (params : Params) (choices : ℕ → ℕ) (t u : ℕ) (more : List Told) →
     all_told image params choices u ≡ all_told image params choices t ++ more →
-    values_told (values_at image params choices t) more ≡ values_at image params choices u
+    values_behind (values_at image params choices t) more ≡ values_at image params choices u
 values_next image params choices t u more is =
-    ap (λ (lists : List (List (ℕ × ℕ))). values_told lists more) (sym (told_values image params choices t))
+    ap (λ (lists : List (List (ℕ × ℕ))). values_behind lists more) (sym (run_values image params choices t))
     ∙ lists_told (all_told image params choices t) more params.cores
     ∙ ap (λ (list : List Told). by_core (core_values list) 0 params.cores) (sym is)
-    ∙ told_values image params choices u
+    ∙ run_values image params choices u

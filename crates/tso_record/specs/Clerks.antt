@@ -1,12 +1,11 @@
 -- What the recorder's clerk holds, and what it does when it is told of an instruction.
-use Rattle.std.specs.Prelude.{◌≡◌, ℕ, ◌<◌, Bool, IsTrue, List, [], ◌∷◌, length}
+use Rattle.std.specs.Prelude.{◌≡◌, ℕ, ◌<◌, Bool, IsTrue, List, length}
 use Rattle.access_times.specs.Times.{times_noted}
 use Rattle.access_times.specs.declared.times.Times.{Times}
 use Rattle.rtr_types.specs.declared.access.Access.{Access}
 use Rattle.rtr_types.specs.declared.instr.Instr.{Instr}
 use Rattle.roomy_lists.specs.Lists.{with_item}
 use Rattle.online_reduce.specs.Reduced.{IsNext, Readied, clock_of, counted, retired}
-use Rattle.tso_state.specs.Events.{Told, Alone, Ordered, Logged}
 
 -- the reduction of the run so far, with whether one more ordered access needs no memory; and of each core the logged
 -- loads, each a count and its word, with whether one more of each needs no memory
@@ -38,13 +37,3 @@ pub record ToldTouch (c : Noted) (before : Times) (a : Access) (d : Noted) (afte
 pub record ToldLogged (c : Noted) (at : Instr) (word value : ℕ) (d : Noted) : Type 0 where
   pub reduction : d.reduction.state ≡ counted c.reduction.state at
   pub values : d.values ≡ with_item c.values at.core (at.count, value)
-
--- the logged loads of each core after one more instruction was told, and after all of a list
-abbrev pub values_after : List (List (ℕ × ℕ)) → Told → List (List (ℕ × ℕ))
-values_after values (Alone at) = values
-values_after values (Ordered a) = values
-values_after values (Logged at word value) = with_item values at.core (at.count, value)
-
-abbrev pub values_told : List (List (ℕ × ℕ)) → List Told → List (List (ℕ × ℕ))
-values_told values [] = values
-values_told values (e ∷ later) = values_told (values_after values e) later

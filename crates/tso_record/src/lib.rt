@@ -3,12 +3,13 @@
 //! lie beside the caches' copies. The recorder holds no list of accesses.
 //!
 //! Proved: `tso_record` answers the definition's outcome and recording of exactly this image, these parameters and this
-//! schedule (`outcome`, and `recording` in `IsTsoRecordingOf`). `valid`: the recording can be spelled. `least`: its
-//! reduced log is the least set of the accesses that the run ordered. `logged`: its values are the words of exactly the
-//! loads that left their queue where their core's port couldn't read the word, or the word differed. `replayed`: every
-//! replay order of it plays by the run's accesses, and gives each core the first of the run's loads, each with its
-//! word. It can go on until it is whole, and a whole one ends in the outcome. `tso_record_image`: the same of the
-//! recording alone.
+//! schedule (`outcome`, and `recording` in `IsTsoRecordingOf`). `ended`: the run ended there, each core's program being
+//! done and no access pending. `valid`: the recording can be spelled. `least`: its reduced log is the least set of the
+//! accesses that the run ordered. `logged`: its values are the words of exactly the loads that left their queue where
+//! their core's port couldn't read the word, or the word differed. `replayed`: every replay order of it follows the run
+//! (`FollowsTsoRun`). It plays by the run's accesses, of which the log orders each two that conflict as the run did, and
+//! gives each core the first of the run's loads and atomic memory operations, each with its word. It can go on until it
+//! is whole, and a whole one ends in the outcome. `tso_record_image`: the same of the recording alone.
 #![tactic(auto)]
 
 mod run;

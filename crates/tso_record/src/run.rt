@@ -1,12 +1,11 @@
 //! The run of an image by cores with store buffers, recorded.
 ghost use Rattle.std.specs.Prelude.{◌≡◌, ◌<◌, ℕ, IfOk, IsTrue, OnOk, slice_index};
 ghost use Rattle.run_steps.specs.Ways.{IsSetUp};
-ghost use Rattle.tso_recordings.specs.Schedules.{tso_order_of};
+ghost use Rattle.tso_recordings.specs.Follows.{ReplaysTsoRun};
 ghost use Rattle.tso_core.specs.Machineries.{heads_roomy};
 ghost use Rattle.tso_outcome.specs.Outcomes.{tso_outcome_of};
 ghost use Rattle.tso_record.specs.Promises.{IsTsoRecordingOf};
 ghost use Rattle.tso_record.specs.Standing.{RecordsAt};
-ghost use Rattle.tso_replay.specs.Laws.{ReplaysTold};
 
 use crate::run_clerk::RunClerk;
 use crate::uncarried::Uncarried;
@@ -28,9 +27,9 @@ use tso_run::tso_run;
 /// that the run ordered: each of its edges is a conflict, they imply the order of every two of them that conflict, and
 /// no set of conflicts that does lacks one of them. Its values are the words of the loads that the run logged: of each
 /// load that left its core's queue where the core's port couldn't read the word, or where the word differed from the
-/// value that the load got, and of no other. Every replay order of it replays the run: it gives each core the first of
-/// the run's loads, each with its word, can go on until it is whole, and a whole one ends with the run's cores, memory
-/// and loads.
+/// value that the load got, and of no other. Every replay order of it follows the run: it plays by the run's accesses,
+/// gives each core the first of the run's loads and atomic memory operations, each with the word that it got, and can go
+/// on until it is whole; a whole one ends with the run's cores, memory and loads.
 pub fn tso_record_image(
     alloc: Global,
     image: Image,
@@ -39,8 +38,7 @@ pub fn tso_record_image(
 ) -> Made<TsoRecording>
     requires { IsSetUp image params }
     ensures recorded { IfOk result (λ recording. IsTsoRecordingOf image params schedule recording) }
-    ensures replayed { IfOk result (λ recording. ReplaysTold recording (tso_order_of image params schedule)
-        (tso_outcome_of image params schedule)) }
+    ensures replayed { IfOk result (λ recording. ReplaysTsoRun image params schedule recording) }
 {
     let words = image.words();
     prove!(words == params.words);
@@ -75,8 +73,7 @@ pub fn tso_record(
     requires { IsSetUp image params }
     ensures outcome { IfOk result (λ run. run.outcome ≡ tso_outcome_of image params schedule) }
     ensures recorded { IfOk result (λ run. IsTsoRecordingOf image params schedule run.recording) }
-    ensures replayed { IfOk result (λ run. ReplaysTold run.recording (tso_order_of image params schedule)
-        run.outcome) }
+    ensures replayed { IfOk result (λ run. ReplaysTsoRun image params schedule run.recording) }
 {
     let again = schedule.copied(alloc)?;
     let ran = tso_run(alloc, image, params, schedule)?;

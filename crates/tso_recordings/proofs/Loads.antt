@@ -1,6 +1,6 @@
 -- The loads of a play are those that are told.
-use Rattle.std.proofs.Common.{◌≡◌, ◌≢◌, ◌∙◌, ℕ, ◌+◌, ◌<◌, Bool, true, false, cond, List, [], ◌∷◌, ◌++◌, length, refl}
-use Rattle.std.proofs.Common.{sym, ap, subst, eq-eqb, ne_eqb}
+use Rattle.std.proofs.Common.{◌≡◌, ◌∙◌, ℕ, ◌+◌, ◌<◌, Bool, true, false, cond, List, [], ◌∷◌, ◌++◌, length, refl}
+use Rattle.std.proofs.Common.{sym, ap, subst}
 use Rattle.std.proofs.Common.{append-nil, append_assoc, arith}
 use Rattle.std.specs.Prelude.{Option, Some, None}
 use native.Mathlib.Decide.{ℕ_discrete}
@@ -15,8 +15,10 @@ use Rattle.replay_core.specs.Play.{Given, Use, use_of, old_for, heeded, found_fo
 use Rattle.replay_core.specs.Play.{core_at, loads_at, need_at, valued_place}
 use Rattle.replay_core.specs.Play.{valued_play}
 use Rattle.replay_core.proofs.Places.{place_given_law}
-use Rattle.tso_replay.specs.Told.{Telling, Locally, Ordered, Logged, told_at, IsOrdered, IsLogged, TellsAt}
-use Rattle.tso_recordings.specs.Values.{read_note, note_told, notes_told, LoadsToldLaw}
+use Rattle.told_plays.specs.Tells.{IsLogged, IsOrdered, Tells, TellsAt, cores_told}
+use Rattle.tso_state.specs.Events.{Told, Alone, Ordered, Logged, instr_told}
+use Rattle.tso_told.specs.Played.{read_told, reads_told, told_of}
+use Rattle.tso_told.proofs.InOrder.{first_own, first_else}
 
 pub loads_length : (given : Given) (p : Plan) (s : Outcome) (order : List ℕ) →
     length (valued_play given p s order).loads ≡ length s.loads
@@ -65,7 +67,7 @@ noted-reading false l n = sym (append-nil l)
 
 noted-ordered : (given : Given) (p : Plan) (s : Outcome) (a : Access) → a.at.core < length s.loads →
     IsOrdered given p s a →
-    loads_at (valued_place given p s a.at.core) a.at.core ≡ loads_at s a.at.core ++ read_note a
+    loads_at (valued_place given p s a.at.core) a.at.core ≡ loads_at s a.at.core ++ read_told (Ordered a)
 noted-ordered given p s a lt h =
     let c = a.at.core in
     let g = given_next given s c in
@@ -93,44 +95,36 @@ noted-logged given p s at word value lt h =
 
 -- ---- at any core
 
-own-note : (given : Given) (p : Plan) (s : Outcome) (t : Telling) → (told_at t).core < length s.loads →
-    TellsAt given p s t →
-    loads_at (valued_place given p s (told_at t).core) (told_at t).core
-    ≡ loads_at s (told_at t).core ++ note_told (told_at t).core t
-own-note given p s (Locally at) lt h = noted-local given p s at.core lt h.uses ∙ sym (append-nil (loads_at s at.core))
-own-note given p s (Ordered a) lt h =
-    noted-ordered given p s a lt h
-    ∙ ap (λ (b : Bool). loads_at s a.at.core ++ cond b (read_note a) []) (sym (eq-eqb a.at.core a.at.core refl))
-own-note given p s (Logged at word value) lt h =
-    noted-logged given p s at word value lt h
-    ∙ ap (λ (b : Bool). loads_at s at.core ++ cond b (record { count = at.count; word = word; value = value } ∷ []) [])
-    (sym (eq-eqb at.core at.core refl))
+own-note : (given : Given) (p : Plan) (s : Outcome) (e : Told) → (instr_told e).core < length s.loads →
+    TellsAt given p s e →
+    loads_at (valued_place given p s (instr_told e).core) (instr_told e).core
+    ≡ loads_at s (instr_told e).core ++ read_told e
+own-note given p s (Alone at) lt h = noted-local given p s at.core lt h.uses ∙ sym (append-nil (loads_at s at.core))
+own-note given p s (Ordered a) lt h = noted-ordered given p s a lt h
+own-note given p s (Logged at word value) lt h = noted-logged given p s at word value lt h
 
-other-note : (t : Telling) (c : ℕ) → c ≢ (told_at t).core → note_told c t ≡ []
-other-note (Locally at) c ne = refl
-other-note (Ordered a) c ne = ap (λ (b : Bool). cond b (read_note a) []) (ne_eqb a.at.core c (λ e. ne (sym e)))
-other-note (Logged at word value) c ne =
-    ap (λ (b : Bool). cond b (record { count = at.count; word = word; value = value } ∷ []) [])
-    (ne_eqb at.core c (λ e. ne (sym e)))
-
-one-note : (given : Given) (p : Plan) (s : Outcome) (t : Telling) (c : ℕ) → c < length s.loads → TellsAt given p s t →
-    loads_at (valued_place given p s (told_at t).core) c ≡ loads_at s c ++ note_told c t
-one-note given p s t c lt h = elim (ℕ_discrete c (told_at t).core) [
-  | yes e ↦
-      subst (λ (x : ℕ). loads_at (valued_place given p s (told_at t).core) x ≡ loads_at s x ++ note_told x t) (sym e)
-      (own-note given p s t (subst (λ (x : ℕ). x < length s.loads) e lt) h)
-  | no ne ↦
-      (place_given_law p s (told_at t).core (given_next given s (told_at t).core)).other_loads c ne
-      ∙ sym (append-nil (loads_at s c))
-      ∙ ap (λ (l : List LoadNote). loads_at s c ++ l) (sym (other-note t c ne))
-]
-
-pub loads_told : LoadsToldLaw
+-- the loads of a play are those that are told
+pub loads_told : (given : Given) (p : Plan) (s : Outcome) (list : List Told) (core : ℕ) → core < length s.loads →
+    Tells given p s list →
+    loads_at (valued_play given p s (cores_told list)) core ≡ loads_at s core ++ reads_told (told_of core list)
 loads_told given p s [] c lt h = sym (append-nil (loads_at s c))
-loads_told given p s (t ∷ list) c lt h =
-    let d = (told_at t).core in
-    let all = (place_given_law p s d (given_next given s d)).all_loads in
+loads_told given p s (e ∷ list) c lt h =
+    let d = (instr_told e).core in
+    let law = place_given_law p s d (given_next given s d) in
+    let all = law.all_loads in
     let inside : c < length (valued_place given p s d).loads = omega arith in
     loads_told given p (valued_place given p s d) list c inside h.1
-    ∙ ap (λ (l : List LoadNote). l ++ notes_told c list) (one-note given p s t c lt h.0)
-    ∙ append_assoc (loads_at s c) (note_told c t) (notes_told c list)
+    ∙ elim (ℕ_discrete c d) [
+      | yes same ↦
+          let own : loads_at (valued_place given p s d) d ++ reads_told (told_of d list)
+          ≡ loads_at s d ++ reads_told (told_of d (e ∷ list)) =
+          ap (λ (l : List LoadNote). l ++ reads_told (told_of d list))
+          (own-note given p s e (subst (λ (x : ℕ). x < length s.loads) same lt) h.0)
+          ∙ append_assoc (loads_at s d) (read_told e) (reads_told (told_of d list))
+          ∙ ap (λ (l : List Told). loads_at s d ++ reads_told l) (sym (first_own e list)) in
+          subst (λ (x : ℕ). loads_at (valued_place given p s d) x ++ reads_told (told_of x list)
+          ≡ loads_at s x ++ reads_told (told_of x (e ∷ list))) (sym same) own
+      | no ne ↦
+          ap (λ (l : List LoadNote). l ++ reads_told (told_of c list)) (law.other_loads c ne)
+          ∙ ap (λ (l : List Told). loads_at s c ++ reads_told l) (sym (first_else c e list (λ is. ne (sym is))))
+    ]

@@ -19,34 +19,39 @@ use Rattle.race_log.specs.Sources.{log_edges}
 use Rattle.machine_data.specs.LastValues.{EachFindsLast, memory_left}
 use Rattle.replay_core.specs.Orders.{IsWhole, nought}
 use Rattle.replay_core.specs.Plans.{Plan}
-use Rattle.replay_core.specs.Play.{core_at as play_core, given_by, start, valued_played}
+use Rattle.replay_core.specs.Play.{core_at as play_core, given_by, start, valued_accesses, valued_played}
 use Rattle.replay_core.proofs.Places.{play_start_law, start_known}
 use Rattle.tso_codec.specs.declared.recording.TsoRecording.{TsoRecording}
 use Rattle.tso_codec.specs.Validity.{plain_of}
 use Rattle.tso_data.proofs.Remembers.{each_finds_last, final_values}
 use Rattle.tso_recordings.proofs.Loads.{loads_length, loads_told as play_loads}
-use Rattle.tso_recordings.proofs.Values.{values_are_told}
-use Rattle.tso_recordings.specs.Values.{notes_told}
-use Rattle.tso_recordings.specs.Values.{values_told}
-use Rattle.tso_replay.specs.Laws.{Inside, IsToldRun, ReplaysTold}
+use Rattle.tso_recordings.proofs.Values.{values_given}
+use Rattle.tso_replay.specs.Laws.{Inside, ReplaysTold}
 use Rattle.tso_replay.specs.Replays.{tso_given, tso_plan}
-use Rattle.tso_replay.specs.Told.{cores_told}
+use Rattle.told_plays.specs.Replays.{IsToldRun}
+use Rattle.told_plays.specs.Tells.{cores_told}
 use Rattle.tso_replay.proofs.Forward.{counted_play, counted_start}
-use Rattle.tso_replay.proofs.ToldReplays.{least_replays}
+use Rattle.told_plays.proofs.Replays.{least_replays}
+use Rattle.told_plays.proofs.Tells.{told_plays}
 use Rattle.tso_state.specs.Events.{Told}
 use Rattle.tso_state.specs.FinalMemory.{final_memory}
 use Rattle.tso_state.specs.Runs.{accesses, all_told, outcome_at, reads, run, totals}
 use Rattle.tso_state.specs.States.{BufferedCore, all_done, buffered_start, core_at}
-use Rattle.tso_told.specs.Played.{ordered_told, told_core, told_of}
+use Rattle.tso_told.specs.Played.{ordered_told, reads_told, told_core, told_of}
 use Rattle.tso_told.proofs.OrderedAndLogged.{accesses_told as run_accesses_told}
 use Rattle.tso_told.proofs.ToldRuns.{run_cores, told_all_reads, told_whole}
-use Rattle.told_plays.specs.Plays.{AreGiven, AreToldOf, IsPlayed, tellings_of}
+use Rattle.told_plays.specs.Plays.{AreGiven, AreToldOf, IsPlayed}
 use Rattle.told_plays.proofs.Orders.{told_counts}
 use Rattle.told_plays.proofs.Plays.{played}
-use Rattle.tso_recordings.specs.Recordings.{CanRun, RunReplaysLaw, RunToldLaw, told_order, tso_recording_at}
-use Rattle.tso_recordings.proofs.Tellings.{accesses_are, are_given, cores_are, notes_are}
+use Rattle.tso_recordings.specs.Recordings.{CanRun, tso_recording_at}
+use Rattle.tso_recordings.specs.RunLaws.{RunReplaysLaw, RunToldLaw, told_order}
 use Rattle.tso_recordings.proofs.Totals.{all_totals, total_told}
 use Rattle.tso_recordings.proofs.Valid.{recorded_here, run_order, run_told, run_values, valid_here}
+
+-- the order plays by these accesses and to this outcome
+pub record PlaysAs (r : TsoRecording) (order : List ℕ) (list : List Access) (outcome : Outcome) : Type 0 where
+  pub accesses : valued_accesses (tso_given r) (tso_plan r) order ≡ list
+  pub outcome_is : valued_played (tso_given r) (tso_plan r) order ≡ outcome
 
 module _ (image : Contents) (params : Params) (choices : ℕ → ℕ) (t : ℕ) (can : CanRun image params)
     (done : all_done (run image params choices t) ≡ true) where
@@ -63,7 +68,7 @@ module _ (image : Contents) (params : Params) (choices : ℕ → ℕ) (t : ℕ) 
   list = all_told image params choices t
 
   abbrev order : List ℕ
-  order = cores_told (tellings_of (all_told image params choices t))
+  order = cores_told (all_told image params choices t)
 
   all : length (totals (run image params choices t)) ≡ params.cores
   all = all_totals image params choices t
@@ -91,20 +96,18 @@ module _ (image : Contents) (params : Params) (choices : ℕ → ℕ) (t : ℕ) 
       (each_finds_last image params choices t can.fits.cores small))
 
   inside : Inside (length (totals (run image params choices t)))
-      (cores_told (tellings_of (all_told image params choices t)))
+      (cores_told (all_told image params choices t))
   inside =
-      subst (λ (n : ℕ). Inside n (cores_told (tellings_of (all_told image params choices t)))) (sym all)
+      subst (λ (n : ℕ). Inside n (cores_told (all_told image params choices t))) (sym all)
       (run_order image params choices t can.fits.cores small).1
 
   given : AreGiven (tso_given (tso_recording_at image params choices t)) (all_told image params choices t)
   given =
       subst (λ (v : List (List (ℕ × ℕ))). AreGiven (given_by v) (all_told image params choices t))
       (sym (run_values image params choices t can.fits.cores small))
-      (are_given (given_by (values_told params.cores (tellings_of (all_told image params choices t))))
-      (all_told image params choices t)
-      (values_are_told params.cores (tellings_of (all_told image params choices t))
+      (values_given params.cores (all_told image params choices t)
       (run_order image params choices t can.fits.cores small).0
-      (run_order image params choices t can.fits.cores small).1).suits)
+      (run_order image params choices t can.fits.cores small).1)
 
   plays : IsPlayed (tso_given (tso_recording_at image params choices t))
       (tso_plan (tso_recording_at image params choices t)) (all_told image params choices t)
@@ -116,10 +119,10 @@ module _ (image : Contents) (params : Params) (choices : ℕ → ℕ) (t : ℕ) 
   play =
       valued_played (tso_given (tso_recording_at image params choices t))
       (tso_plan (tso_recording_at image params choices t))
-      (cores_told (tellings_of (all_told image params choices t)))
+      (cores_told (all_told image params choices t))
 
   whole : IsWhole (tso_plan (tso_recording_at image params choices t))
-      (cores_told (tellings_of (all_told image params choices t)))
+      (cores_told (all_told image params choices t))
   whole = record {
     each = λ c lt.
         told_counts nought (all_told image params choices t) c
@@ -132,7 +135,7 @@ module _ (image : Contents) (params : Params) (choices : ℕ → ℕ) (t : ℕ) 
   all_cores : length
       (valued_played (tso_given (tso_recording_at image params choices t))
       (tso_plan (tso_recording_at image params choices t))
-      (cores_told (tellings_of (all_told image params choices t)))).cores ≡ params.cores
+      (cores_told (all_told image params choices t))).cores ≡ params.cores
   all_cores =
       (counted_play (tso_given r) p nought (start p) order (counted_start p) inside).cores ∙ all
 
@@ -140,7 +143,7 @@ module _ (image : Contents) (params : Params) (choices : ℕ → ℕ) (t : ℕ) 
       play_core
       (valued_played (tso_given (tso_recording_at image params choices t))
       (tso_plan (tso_recording_at image params choices t))
-      (cores_told (tellings_of (all_told image params choices t)))) c
+      (cores_told (all_told image params choices t))) c
       ≡ (core_at (run image params choices t).cores c).core
   core_is c lt =
       plays.core c (subst (λ (n : ℕ). c < n) (sym all) lt)
@@ -150,7 +153,7 @@ module _ (image : Contents) (params : Params) (choices : ℕ → ℕ) (t : ℕ) 
   cores_same :
       (valued_played (tso_given (tso_recording_at image params choices t))
       (tso_plan (tso_recording_at image params choices t))
-      (cores_told (tellings_of (all_told image params choices t)))).cores
+      (cores_told (all_told image params choices t))).cores
       ≡ map (λ (x : BufferedCore). x.core) (run image params choices t).cores
   cores_same =
       let n = run_cores image params choices t in
@@ -167,7 +170,7 @@ module _ (image : Contents) (params : Params) (choices : ℕ → ℕ) (t : ℕ) 
   words_same :
       (valued_played (tso_given (tso_recording_at image params choices t))
       (tso_plan (tso_recording_at image params choices t))
-      (cores_told (tellings_of (all_told image params choices t)))).words
+      (cores_told (all_told image params choices t))).words
       ≡ final_memory none_riding none_carrying (run image params choices t)
   words_same =
       plays.words
@@ -178,7 +181,7 @@ module _ (image : Contents) (params : Params) (choices : ℕ → ℕ) (t : ℕ) 
   loads_same :
       (valued_played (tso_given (tso_recording_at image params choices t))
       (tso_plan (tso_recording_at image params choices t))
-      (cores_told (tellings_of (all_told image params choices t)))).loads
+      (cores_told (all_told image params choices t))).loads
       ≡ map (λ (c : ℕ). reads image params choices t c) (range_with_len 0 params.cores)
   loads_same =
       let some : length (start p).loads ≡ params.cores = (start_known p).all_loads ∙ all in
@@ -190,19 +193,25 @@ module _ (image : Contents) (params : Params) (choices : ℕ → ℕ) (t : ℕ) 
       (long ∙ sym other)
       (λ i lt.
       let below : i < params.cores = omega arith in
-      play_loads (tso_given r) p (start p) (tellings_of list) i (omega arith) plays.tells
-      ∙ ap (λ (l : List LoadNote). l ++ notes_told i (tellings_of list)) ((play_start_law p).loads i)
-      ∙ notes_are i list
+      play_loads (tso_given r) p (start p) list i (omega arith) plays.tells
+      ∙ ap (λ (l : List LoadNote). l ++ reads_told (told_of i list)) ((play_start_law p).loads i)
       ∙ sym (told_all_reads image params choices t i can.fits.cores small below done)
       ∙ sym (get_or-map-range_with_len (λ (c : ℕ). reads image params choices t c) 0 params.cores i i [] below
       (omega arith)))
 
   outcome_is : valued_played (tso_given (tso_recording_at image params choices t))
       (tso_plan (tso_recording_at image params choices t))
-      (cores_told (tellings_of (all_told image params choices t))) ≡ outcome_at image params choices t
+      (cores_told (all_told image params choices t)) ≡ outcome_at image params choices t
   outcome_is = outcome_eq play (outcome_at image params choices t) cores_same words_same loads_same
 
-  pub told_here : IsToldRun (tso_recording_at image params choices t) (tellings_of (all_told image params choices t))
+  -- by the accesses that the run ordered
+  accesses_same : valued_accesses (tso_given (tso_recording_at image params choices t))
+      (tso_plan (tso_recording_at image params choices t))
+      (cores_told (all_told image params choices t)) ≡ accesses image params choices t
+  accesses_same =
+      (told_plays (tso_given r) p (start p) list plays.tells).1 ∙ run_accesses_told image params choices t
+
+  pub told_here : IsToldRun (tso_recording_at image params choices t) (all_told image params choices t)
       (outcome_at image params choices t)
   told_here = record {
     inside = inside;
@@ -212,17 +221,19 @@ module _ (image : Contents) (params : Params) (choices : ℕ → ℕ) (t : ℕ) 
     least =
         subst (λ (l : List Access). IsLeast l
         (log_edges ReducedLog (plain_of (tso_recording_at image params choices t))))
-        (sym (accesses_are list ∙ run_accesses_told image params choices t))
+        (sym (run_accesses_told image params choices t))
         (recorded_here image params choices t can done).least;
   }
 
   pub replays_here : ReplaysTold (tso_recording_at image params choices t) (told_order image params choices t)
       (outcome_at image params choices t)
   replays_here =
-      subst (λ (o : List ℕ). ReplaysTold (tso_recording_at image params choices t) o
-      (outcome_at image params choices t)) (sym (cores_are list))
-      (least_replays r (tellings_of list) (outcome_at image params choices t)
-      (valid_here image params choices t can done) told_here)
+      least_replays r list (outcome_at image params choices t) (valid_here image params choices t can done) told_here
+
+  -- the order in which the run told its instructions plays as the run did
+  pub plays_here : PlaysAs (tso_recording_at image params choices t) (told_order image params choices t)
+      (accesses image params choices t) (outcome_at image params choices t)
+  plays_here = record { accesses = accesses_same; outcome_is = outcome_is }
 
 pub run_told_so : RunToldLaw
 run_told_so image params choices t can done = told_here image params choices t can done

@@ -1,5 +1,5 @@
 -- What a run is recorded as: it is valid, and its reduced log is the least set.
-use Rattle.std.proofs.Common.{◌≡◌, ◌∙◌, refl, sym, ap, subst, ℕ, ◌<◌, ◌≤◌, ◌^◌, true, List, [], ◌∷◌, length}
+use Rattle.std.proofs.Common.{◌≡◌, ◌∙◌, refl, sym, ap, subst, ℕ, ◌<◌, ◌≤◌, ◌^◌, true, List, [], length}
 use Rattle.std.proofs.Common.{zero-add, arith}
 use Rattle.std.specs.Prelude.{map, slice_index, slice_index_or}
 use Rattle.std.specs.List.{range_with_len}
@@ -21,29 +21,23 @@ use Rattle.stride_vector.specs.declared.StrideVector.{StrideVector}
 use Rattle.tso_codec.specs.Validity.{IsTso, plain_of}
 use Rattle.tso_recordings.proofs.ValidValues.{values_valid}
 use Rattle.told_plays.specs.Plays.{InProgramOrder}
-use Rattle.tso_recordings.specs.Values.{values_of as values_of_tellings, values_told}
+use Rattle.tso_recordings.proofs.Values.{values_by_core}
 use Rattle.tso_records.proofs.TimedRuns.{reduction_is}
 use Rattle.tso_records.specs.Records.{IsReductionOf}
 use Rattle.tso_records.specs.Standings.{standing_at}
 use Rattle.tso_replay.specs.Laws.{Inside}
-use Rattle.tso_replay.specs.Told.{cores_told}
+use Rattle.told_plays.specs.Tells.{cores_told}
 use Rattle.tso_state.specs.Runs.{LoggedLoad, accesses, all_told, run, totals, values_at, values_of}
 use Rattle.tso_state.specs.States.{all_done}
-use Rattle.tso_told.specs.Played.{logged_told, told_of}
+use Rattle.tso_told.specs.Played.{told_of}
 use Rattle.tso_told.proofs.OrderedAndLogged.{loads_told}
 use Rattle.tso_told.proofs.ToldRuns.{told_inside, told_right}
-use Rattle.told_plays.specs.Plays.{AreToldOf, tellings_of}
+use Rattle.told_plays.specs.Plays.{AreToldOf}
 use Rattle.told_plays.proofs.Orders.{in_order, told_counts}
-use Rattle.tso_recordings.specs.Recordings.{CanRun, IsRecorded, RecordedLaw, ValidLaw, tso_recording_at}
+use Rattle.tso_recordings.specs.Recordings.{CanRun, tso_recording_at}
+use Rattle.tso_recordings.specs.RunLaws.{IsRecorded, RecordedLaw, ValidLaw}
 use Rattle.tso_words.proofs.LoggedWords.{small_told}
-use Rattle.tso_recordings.proofs.Tellings.{are_small, values_are}
 use Rattle.tso_recordings.proofs.Totals.{all_totals, total_told, totals_fit}
-
-module _ {X Y : Type 0} where
-  same_map : (f g : X → Y) → ((x : X) → f x ≡ g x) → (xs : List X) → map f xs ≡ map g xs
-  same_map f g same [] = refl
-  same_map f g same (x ∷ xs) =
-      ap (λ (y : Y). y ∷ map f xs) (same x) ∙ ap (λ (l : List Y). g x ∷ l) (same_map f g same xs)
 
 -- ---- what was told
 
@@ -55,19 +49,16 @@ module _ (image : Contents) (params : Params) (choices : ℕ → ℕ) (t : ℕ) 
     next = λ c lt. told_right image params choices t c few small lt;
   }
 
-  pub run_order : InProgramOrder nought (tellings_of (all_told image params choices t)) × Inside params.cores
-      (cores_told (tellings_of (all_told image params choices t)))
+  pub run_order : InProgramOrder nought (all_told image params choices t) × Inside params.cores
+      (cores_told (all_told image params choices t))
   run_order = in_order image params.limit params.cores (all_told image params choices t) run_told
 
   -- the recorded words are those that were told
   pub run_values : values_at image params choices t
-      ≡ values_told params.cores (tellings_of (all_told image params choices t))
+      ≡ values_by_core params.cores (all_told image params choices t)
   run_values =
       ap (λ (l : List LoggedLoad). map (λ c. values_of c l) (range_with_len 0 params.cores))
       (sym (loads_told image params choices t))
-      ∙ same_map (λ (c : ℕ). values_of c (logged_told (all_told image params choices t)))
-      (λ (c : ℕ). values_of_tellings c (tellings_of (all_told image params choices t)))
-      (λ c. sym (values_are c (all_told image params choices t))) (range_with_len 0 params.cores)
 
 -- ---- the recording
 
@@ -159,16 +150,16 @@ module _ (image : Contents) (params : Params) (choices : ℕ → ℕ) (t : ℕ) 
   pub valid_here : IsTso (tso_recording_at image params choices t)
   valid_here =
       let n = all_totals image params choices t in
-      values_valid (tso_recording_at image params choices t) (tellings_of (all_told image params choices t)) plain
+      values_valid (tso_recording_at image params choices t) (all_told image params choices t) plain
       (run_order image params choices t few small).0
       (λ c lt.
       let inside : c < params.cores = subst (λ (m : ℕ). c < m) n lt in
       told_counts nought (all_told image params choices t) c
       ∙ zero-add (length (told_of c (all_told image params choices t)))
       ∙ sym (total_told image params choices t few small done c inside))
-      (are_small (all_told image params choices t) (small_told image params choices t few small can.words))
+      (small_told image params choices t few small can.words)
       (run_values image params choices t few small
-      ∙ ap (λ (m : ℕ). values_told m (tellings_of (all_told image params choices t))) (sym n))
+      ∙ ap (λ (m : ℕ). values_by_core m (all_told image params choices t)) (sym n))
 
 pub recorded : RecordedLaw
 recorded image params choices t can done = recorded_here image params choices t can done

@@ -1,4 +1,5 @@
-pub mod Values
 pub mod Recordings
+pub mod RunLaws
 pub mod Schedules
+pub mod Follows
 pub mod Logged

@@ -1,7 +1,8 @@
 //! What the recording of a run is, under choices and under a schedule, and what its replays answer.
-ghost use Rattle.tso_recordings.specs.Recordings.{RecordingLaws, RunReplaysLaw};
+ghost use Rattle.tso_recordings.specs.Follows.{ReplayedLaw};
 ghost use Rattle.tso_recordings.specs.Logged.{LoggedLaw};
-ghost use Rattle.tso_recordings.specs.Schedules.{AnsweredLaw, HeldLaw, ReplayedLaw};
+ghost use Rattle.tso_recordings.specs.RunLaws.{RecordingLaws, RunReplaysLaw};
+ghost use Rattle.tso_recordings.specs.Schedules.{HeldLaw};
 
 /// The recording of a run is valid. Its reduced log is the least set of the accesses that the run ordered, which the
 /// reduction comes to that is told of the run. What was told plays with the recorded words to the run's outcome.
@@ -9,15 +10,16 @@ pub fn every_run_is_recorded()
     ensures { RecordingLaws }
 {}
 
-/// Every replay order of it plays by accesses of the run and gives each core the first of the run's loads, each with
-/// its word; to one that isn't whole a core can be added, and a whole one ends with the run's cores, memory and loads.
-/// So a replay of the recording answers the run's outcome, or refuses for want of memory alone.
+/// Every replay order of it agrees with the order in which the run told its instructions: it plays by accesses of that
+/// order's play and gives each core the first of its loads, each with its word; to one that isn't whole a core can be
+/// added, and a whole one ends with the run's cores, memory and loads. So a replay of the recording answers the run's
+/// outcome, or refuses for want of memory alone.
 pub fn every_order_replays_the_run()
     ensures { RunReplaysLaw }
 {}
 
-/// For every image, parameters and schedule: the recording of the run is valid, its reduced log is the least set of the
-/// accesses that the run ordered, and a reduction that is told of the run comes to that log.
+/// For every image, parameters and schedule: the recording of the run is valid, and its reduced log is the least set of
+/// the accesses that the run ordered.
 pub fn every_schedule_is_recorded()
     ensures { HeldLaw }
 {}
@@ -29,10 +31,10 @@ pub fn the_values_are_the_logged_loads()
     ensures { LoggedLaw }
 {}
 
-/// Every replay order of the recording replays the run: it gives each core the first of the run's loads, each with its
-/// word, goes on until it is whole, and a whole one ends with the run's cores, memory and loads. So a replay of the
+/// Every replay order of the recording follows the run: it plays by the run's accesses, of which the log orders each two
+/// that conflict as the run did; it gives each core the first of the run's loads and atomic memory operations, each with
+/// its word; and it goes on until it is whole, where it ends with the run's cores, memory and loads. So a replay of the
 /// recording answers the run's outcome, or is refused for want of memory alone.
-pub fn a_replay_answers_the_run()
-    ensures replayed { ReplayedLaw }
-    ensures answered { AnsweredLaw }
+pub fn every_order_follows_the_run()
+    ensures { ReplayedLaw }
 {}

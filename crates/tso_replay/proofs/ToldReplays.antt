@@ -24,11 +24,8 @@ use Rattle.replay_audit.proofs.OrdersAgree.{every_valued_law, low_ordered, lowes
 use Rattle.replay_audit.proofs.Logs.{recorded_log}
 use Rattle.tso_codec.specs.Validity.{plain_of}
 use Rattle.tso_replay.specs.Laws.{Inside, IsTold, ToldDecidesLaw, ToldReplaysLaw}
-use Rattle.tso_replay.specs.Laws.{LeastReplaysLaw, OrderedAgreeLaw}
+use Rattle.tso_replay.specs.Laws.{OrderedAgreeLaw}
 use Rattle.tso_replay.specs.Replays.{tso_plan, tso_given, TsoRefuses}
-use Rattle.tso_replay.specs.Told.{cores_told, accesses_told}
-use Rattle.tso_replay.proofs.Forward.{conflicts_forward}
-use Rattle.tso_replay.proofs.ToldPlay.{told_plays}
 
 -- ---- a list that was told is a replay order
 
@@ -113,23 +110,6 @@ told_replays r order list outcome valid h = record {
     not_refused (replaying.Stuck cut) f = absurd (f.not_whole low_whole)
     not_refused (replaying.Short core count) f = absurd (let both : None ≡ Some (core, count) = sym plays ∙ f in cc)
     not_refused replaying.OutOfMemory f = refl
-
--- ---- where the log is the least set
-
-pub least_replays : LeastReplaysLaw
-least_replays r list outcome valid h =
-    let p = tso_plan r in
-    let plays = told_plays (tso_given r) p (start p) list h.tells in
-    told_replays r (cores_told list) (accesses_told list) outcome valid (record {
-      inside = h.inside;
-      whole = h.whole;
-      plays = plays.0;
-      accesses = plays.1;
-      outcome_is = h.outcome_is;
-      forward = conflicts_forward (tso_given r) p (cores_told list) p.edges h.inside
-          (λ x y edge. subst (λ (l : List Access). ConflictPair l x y) (sym plays.1) (h.least.conflict x y edge));
-      suffices = h.least.suffices;
-    })
 
 -- ---- where the low order's conflicts are ordered
 

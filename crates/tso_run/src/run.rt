@@ -1,7 +1,7 @@
 //! The run of an image by cores with store buffers.
 ghost use Rattle.std.specs.Prelude.{◌≡◌, IfOk};
 ghost use Rattle.run_steps.specs.Ways.{IsSetUp};
-ghost use Rattle.tso_outcome.specs.Outcomes.{StandsAt, tso_outcome_of};
+ghost use Rattle.tso_outcome.specs.Outcomes.{RunEnds, StandsAt, tso_outcome_of};
 ghost use Rattle.tso_plain.specs.Plain.{plain};
 
 use access_times::{NoCarry, NoRider};
@@ -16,11 +16,13 @@ use tso_core::BufferedMachine;
 /// Runs the image on cores with store buffers to its end, under the schedule. Nothing rides on copies and messages, and
 /// no log is made. The only refusal is want of memory.
 ///
-/// The outcome is one function of image, parameters and schedule: that of the run which `tso_record` records. Its loads
-/// are all loads and atomic memory operations, each with the word that it got.
+/// The outcome is one function of image, parameters and schedule: that of the run which `tso_record` records, taken where
+/// the run ends, each core's program being done and no access pending. Its loads are all loads and atomic memory
+/// operations, each with the word that it got.
 pub fn tso_run(alloc: Global, image: Image, params: Params, schedule: Schedule) -> Made<TsoRan>
     requires { IsSetUp image params }
     ensures outcome { IfOk result (λ ran. ran.outcome ≡ tso_outcome_of image params schedule) }
+    ensures ended { IfOk result (λ ran. RunEnds image params schedule) }
     ensures image { IfOk result (λ ran. ran.image ≡ image) }
 {
     let machine = BufferedMachine::<NoRider, NoCarry>::new(alloc, image, params)?;

@@ -4,7 +4,7 @@ use Rattle.image_mem.specs.Contents.{Contents}
 use Rattle.rv_core.specs.declared.outcome.Outcome.{Outcome}
 use Rattle.run_outcome.specs.Outcomes.{outcome_of}
 use Rattle.state_text.specs.States.{state_lines}
-use Rattle.rtr_cli.specs.Commands.{image_of}
+use Rattle.rtr_cli.specs.Inputs.{image_of}
 use Rattle.rtr_cli.proofs.commands.run_text.Goals as goal
 
 pub returns : goal.returns

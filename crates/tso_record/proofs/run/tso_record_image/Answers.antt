@@ -8,13 +8,13 @@ use Rattle.image_mem.specs.Contents.{Contents}
 use Rattle.run_steps.proofs.RunStart.{under_way}
 use Rattle.rv_core.specs.declared.core_state.Core.{Core}
 use Rattle.tso_recordings.proofs.LoggedLoads.{logged_law}
-use Rattle.tso_recordings.proofs.Schedules.{held, replayed}
-use Rattle.tso_recordings.specs.Schedules.{tso_order_of, tso_recording_of}
+use Rattle.tso_recordings.proofs.Schedules.{held, lists_held, replayed}
+use Rattle.tso_recordings.specs.Follows.{ReplaysTsoRun}
+use Rattle.tso_recordings.specs.Schedules.{tso_recording_of}
 use Rattle.tso_codec.specs.declared.recording.TsoRecording.{TsoRecording}
-use Rattle.tso_outcome.specs.Outcomes.{tso_outcome_of}
+use Rattle.tso_outcome.proofs.RunPlaces.{run_ends_so}
 use Rattle.tso_recordings.specs.Recordings.{CanRun}
 use Rattle.tso_state.specs.States.{BufferedCore}
-use Rattle.tso_replay.specs.Laws.{ReplaysTold}
 use Rattle.tso_words.proofs.ByteWords.{opens_small}
 use Rattle.tso_record.specs.Promises.{IsTsoRecordingOf}
 use Rattle.tso_record.proofs.RecordedPlaces.{lists_are, recording_made, records_same, records_start}
@@ -75,16 +75,18 @@ returns c =
     (c.from_vec.ensures ∙ c.into_bytes.ensures ∙ ap (λ (i : Contents). i.bytes) (c.into_image.ensures ∙ image_is))
     (c.in_ok-totals.ensures ∙ map-map (λ (k : Core). k.count) (λ (t : BufferedCore). t.core) cores
     ∙ totals_are _ _ _ _ _ _ _ c.requires.fits ok.done ended)
-    (c.finish-logs.ensures.reduced ∙ lists_are _ _ _ _ _ _ _ c.requires.fits ok.done ended ∙ it.lists)
+    (c.finish-logs.ensures.reduced ∙ lists_are _ _ _ _ _ _ _ c.requires.fits ok.done ended
+    ∙ lists_held image params schedule can)
     (c.finish-logs.ensures.values ∙ values_are _ _ _ _ _ _ _ c.requires.fits ok.done ended) in
     let promised : IsTsoRecordingOf image params schedule (tso_recording_of image params schedule) = record {
       recording = refl;
+      ended = run_ends_so image params schedule c.requires.fits;
       valid = it.valid;
       least = it.least;
       logged = logged_law image params schedule c.requires.fits;
     } in
     record {
       recorded = subst (λ (r : TsoRecording). IsTsoRecordingOf image params schedule r) (sym made) promised;
-      replayed = subst (λ (r : TsoRecording). ReplaysTold r (tso_order_of image params schedule)
-          (tso_outcome_of image params schedule)) (sym made) (replayed image params schedule can);
+      replayed = subst (λ (r : TsoRecording). ReplaysTsoRun image params schedule r) (sym made)
+          (replayed image params schedule can);
     }

@@ -4,7 +4,7 @@ use Rattle.access_times.specs.Riding.{none_carrying, none_riding}
 use Rattle.msi_memory.specs.Finals.{block_words}
 use Rattle.run_steps.proofs.RunStart.{under_way}
 use Rattle.run_steps.specs.Ends.{outcome_with}
-use Rattle.tso_outcome.proofs.RunPlaces.{outcome_is, stands_start}
+use Rattle.tso_outcome.proofs.RunPlaces.{outcome_is, run_ends_so, stands_start}
 use Rattle.tso_plain.specs.Plain.{plain}
 use Rattle.tso_plain.proofs.ForgetfulSteps.{plain_done}
 use Rattle.tso_state.specs.States.{BufferedCore}
@@ -21,6 +21,9 @@ pub run_to_end-requires-clause-under_way : goal.run_to_end-requires-clause-under
 run_to_end-requires-clause-under_way c =
     under_way _ c.args.image c.args.params c.args.schedule c.requires.fits
     (stands_start _ _ _ _ _ c.in_ok-machine.ensures.plain c.in_ok-clerk.ensures)
+
+pub returns-clause-ended : goal.returns-clause-ended
+returns-clause-ended c = run_ends_so c.args.image c.args.params c.args.schedule c.requires.fits
 
 pub returns-clause-image : goal.returns-clause-image
 returns-clause-image c =

@@ -11,9 +11,10 @@ use Rattle.replay_core.specs.Play.{Given, Use, use_of, old_for, heeded, shared, 
 use Rattle.replay_core.specs.Play.{given_next, instr, core_at, need_at}
 use Rattle.replay_core.specs.Play.{accesses_by, valued_place, valued_touch, valued_accesses_from}
 use Rattle.replay_audit.proofs.Rise.{given_touch_is}
-use Rattle.tso_replay.specs.Told.{Telling, Locally, Ordered, Logged, told_at, cores_told, access_told, accesses_told}
-use Rattle.tso_replay.specs.Told.{IsNext, IsLocal, IsOrdered, IsLogged, TellsAt}
-use Rattle.tso_replay.specs.Told.{Tells, ToldPlaysLaw}
+use Rattle.tso_state.specs.Events.{Told, Alone, Ordered, Logged, instr_told}
+use Rattle.tso_told.specs.Played.{ordered_told}
+use Rattle.told_plays.specs.Tells.{IsLocal, IsOrdered, IsLogged, TellsAt, ToldPlaysLaw, cores_told}
+use Rattle.told_plays.proofs.Firsts.{ordered_first}
 
 pub shared-none : (g : Option ℕ) → shared (heeded g None) None ≡ None
 shared-none None = refl
@@ -64,19 +65,21 @@ told-ordered given p s a h =
     ∙ ap (λ (n : ℕ). made a.at n (new_given p s c g)) old_is
     ∙ ap (λ (n : ℕ). made a.at a.before n) new_is
 
-told : (given : Given) (p : Plan) (s : Outcome) (t : Telling) → TellsAt given p s t →
-    (is_done (need_at p s (told_at t).core) ≡ false) × (valued_touch given p s (told_at t).core ≡ access_told t)
-told given p s (Locally at) h = (h.next.going, told-local given p s at h)
+told : (given : Given) (p : Plan) (s : Outcome) (e : Told) → TellsAt given p s e →
+    (is_done (need_at p s (instr_told e).core) ≡ false)
+    × (valued_touch given p s (instr_told e).core ≡ ordered_told (e ∷ []))
+told given p s (Alone at) h = (h.next.going, told-local given p s at h)
 told given p s (Ordered a) h = (h.next.going, told-ordered given p s a h)
 told given p s (Logged at word value) h = (h.next.going, told-logged given p s at word value h)
 
 pub told_plays : ToldPlaysLaw
 told_plays given p s [] h = (tt, refl)
-told_plays given p s (t ∷ list) h =
-    let c = (told_at t).core in
-    let one = told given p s t h.0 in
+told_plays given p s (e ∷ list) h =
+    let c = (instr_told e).core in
+    let one = told given p s e h.0 in
     let rest = told_plays given p (valued_place given p s c) list h.1 in (
       (one.0, rest.0),
       ap (λ (l : List Access). l ++ valued_accesses_from given p (valued_place given p s c) (cores_told list)) one.1
-          ∙ ap (λ (l : List Access). access_told t ++ l) rest.1,
+          ∙ ap (λ (l : List Access). ordered_told (e ∷ []) ++ l) rest.1
+          ∙ sym (ordered_first [] e list),
     )
