@@ -13,6 +13,7 @@ mod program;
 mod recordings;
 mod sessions;
 mod tool;
+mod uses;
 mod words;
 
 pub use debugger::run_debugger;

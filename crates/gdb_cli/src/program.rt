@@ -9,9 +9,11 @@ ghost use Rattle.state_text.specs.declared.exit.Exit.{Exit};
 
 use crate::debugger::run_debugger;
 use crate::opened::Opened;
+use crate::uses::{text_of, usage_told};
+use command_line::asked;
 use gdb_server::Streams;
 use rtr_cli::{arguments, tell};
-use rtr_io::{Sink, Source, StdSink, StdSource};
+use rtr_io::{Sink, Source, StdSink, StdSource, WriteFault, write_all};
 use state_text::Exit;
 use std::alloc::Global;
 use std::fs;
@@ -20,23 +22,52 @@ use std::process::ExitCode;
 use std::rt::{Env, Files};
 
 /// Runs the program on the standard streams and the words of the command line, and answers the status that the process
-/// ends with. The three streams have types of their own, so that none can stand for another.
+/// ends with. The three streams have types of their own, so that none can stand for another. `--help` and `--version`
+/// are answered on the output; and of words that ask for nothing the report tells, behind its line, which of them is at
+/// fault and how the program is used.
 pub fn run_program<R: AllocGlobal + Env + Files>(
     rt: &R,
     input: Stdin,
     output: Stdout,
     report: Stderr,
 ) -> ExitCode {
-    conclude(
+    let words = arguments(rt);
+    let list = match &words {
+        Ok(list) => list.as_slice(),
+        Err(_) => &[],
+    };
+    if let Some(asked) = asked(list) {
+        return give(text_of(asked), output, report);
+    }
+    let told = match &words {
+        Ok(list) => usage_told(rt.alloc(), list.as_slice()),
+        Err(_) => Ok(None),
+    };
+    let status = conclude(
         rt.alloc(),
-        arguments(rt),
+        words,
         |name: &str| Opened::new(fs::open(rt, name).ok()),
         &mut Streams {
             input: StdSource::new(input),
             output: StdSink::new(output),
         },
         &mut StdSink::new(report),
-    )
+    );
+    if let Ok(Some(text)) = told {
+        // It's a courtesy: where it can't be told, the status says enough.
+        let _ = write_all(&mut StdSink::new(report), text.as_bytes());
+    }
+    status
+}
+
+/// Gives the text to the output, and answers the status that the process ends with.
+fn give(text: &str, output: Stdout, report: Stderr) -> ExitCode {
+    let exit = match write_all(&mut StdSink::new(output), text.as_bytes()) {
+        Ok(()) => Exit::Done,
+        Err(WriteFault) => Exit::WriteFault,
+    };
+    tell(&mut StdSink::new(report), &exit);
+    ExitCode::from(exit.status())
 }
 
 /// Does what the words ask for, and answers the status that the process ends with: that of the exit, whose text goes to

@@ -72,6 +72,14 @@ fn replay_words(alloc: Global, options: &[String]) -> Result<Vec<String>, AllocE
     Ok(words)
 }
 
+/// The words as `rtr` reads them: a file's name stands for `replay`.
+pub(crate) fn read_as(alloc: Global, words: &[String]) -> Result<Vec<String>, AllocError> {
+    match words.split_first() {
+        Some((first, options)) if first.as_str() != "at" => replay_words(alloc, options),
+        _ => words.to_vec(alloc),
+    }
+}
+
 /// The name of the recording's file that a session is held on: the first word.
 pub fn file_name(words: &[String]) -> &str
     ensures { result.now ≡ file_name (map string_bytes words.now) }

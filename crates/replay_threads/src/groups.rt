@@ -1,10 +1,11 @@
 //! Groups of workers. The workers of a group take their turns one after the other, and the groups work at
 //! the same time. A pass, in which each worker of a group takes one turn, is the group's round: it makes as
 //! many of them as it gets on by, and only then are the threads given up.
-ghost use Rattle.std.specs.Prelude.{◌≡◌, ◌<◌, ◌⊎◌, ℕ, [], ◌∷◌, ◌++◌, All, length, slice_index_or};
+ghost use Rattle.std.specs.Prelude.{◌≡◌, ◌≢◌, ◌<◌, ◌⊎◌, ℕ, [], ◌∷◌, ◌++◌, All, length, slice_index_or};
 ghost use Rattle.std.specs.Prelude.{IfNone, IfOk, IfSome, OnOk};
 ghost use Rattle.replay_audit.specs.Determinate.{IsDeterminate};
 ghost use Rattle.replay_threads.specs.declared.groups.Stand.TheVariants.{Ended as AllEnded, Unsure as OneUnsure};
+ghost use Rattle.replay_threads.specs.declared.groups.Stand.TheVariants.{Waiting as OneWaits, OutOfMemory as NoMemory};
 ghost use Rattle.replay_threads.specs.Groups.{AllAt, IsGivenTo, IsOpenAt, Turned, stand_of, workers_at};
 
 use crate::gate::Gate;
@@ -51,6 +52,8 @@ impl Stand {
     fn and(self, other: Stand) -> Stand
         ensures ended { result ≡ AllEnded → (self ≡ AllEnded) × (other ≡ AllEnded) }
         ensures unsure { result ≡ OneUnsure → (self ≡ OneUnsure) ⊎ (other ≡ OneUnsure) }
+        ensures waiting { result ≡ OneWaits →
+            ((self ≡ OneWaits) ⊎ (other ≡ OneWaits)) × (self ≢ NoMemory) × (other ≢ NoMemory) }
     {
         match (self, other) {
             (Stand::OutOfMemory, _) | (_, Stand::OutOfMemory) => Stand::OutOfMemory,

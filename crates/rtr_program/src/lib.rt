@@ -8,6 +8,5 @@
 #![tactic(auto)]
 
 mod program;
-mod progress;
 
 pub use program::{conclude, run_program};

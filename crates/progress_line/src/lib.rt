@@ -1,0 +1,9 @@
+//! What a person sees who waits. It stands in a crate of its own, which has no way to write to the standard output.
+//!
+//! Proved: what is shown after so many seconds is a function of them and of whether there is a terminal (`second_line`):
+//! nothing goes to a file or a pipe. Tested: that it is shown each second.
+#![tactic(auto)]
+
+mod seconds;
+
+pub use seconds::{second_line, show};
