@@ -3,7 +3,8 @@ use Rattle.std.proofs.Common.{◌≡◌, ◌∙◌, sym, ap, ℕ, zero, suc, ◌
 use Rattle.std.proofs.Common.{length, get_or}
 use Rattle.std.specs.Prelude.{flat_map, map}
 use Rattle.std.specs.List.{range_with_len}
-use Rattle.std.proofs.lemmas.List.{get_or-append_right, get_or-append-add, get_or-map, get_or_append_left, length-append, length-map}
+use Rattle.std.proofs.lemmas.List.{get_or-append_right, get_or-append-add, get_or-map, get_or_append_left}
+use Rattle.std.proofs.lemmas.List.{length-append, length-map}
 use Rattle.turn_lists.specs.declared.actor.Turn.{Turn}
 use Rattle.turn_lists.specs.Few.{begun_by}
 

@@ -1,5 +1,6 @@
 -- The counts of lists of turns, as far as numbers go.
-use Rattle.std.proofs.Common.{◌≡◌, ◌∙◌, refl, sym, ap, ℕ, zero, suc, ◌<◌, ◌≤◌, ◌⊎◌, inl, inr, ◌+◌, ◌*◌, ◌^◌, min, drop, take}
+use Rattle.std.proofs.Common.{◌≡◌, ◌∙◌, refl, sym, ap, ℕ, zero, suc, ◌<◌, ◌≤◌, ◌⊎◌, inl, inr, ◌+◌, ◌*◌, ◌^◌, min}
+use Rattle.std.proofs.Common.{drop, take}
 use Rattle.std.proofs.Common.{zero-add, Bool, true, false, List, [], ◌∷◌, ◌++◌, arith, length, get_or, Option, Some}
 use Rattle.std.specs.Prelude.{flat_map, map, slice_index, if◌then◌else◌}
 use Rattle.std.proofs.lemmas.List.{drop_all, drop_more, get_or-map, length-append, length-map, map_more}

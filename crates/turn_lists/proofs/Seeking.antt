@@ -1,10 +1,13 @@
 -- Which list of turns has a number: how the search for it goes on.
-use Rattle.std.proofs.Common.{◌≡◌, ◌∙◌, refl, sym, ap, subst, ℕ, zero, suc, ◌<◌, ◌≤◌, ◌⊎◌, inl, inr, ◌+◌, ◌-◌, ◌*◌, ◌/◌, ◌%◌}
-use Rattle.std.proofs.Common.{◌^◌, min, true, false, List, [], ◌∷◌, ◌++◌, arith, length, get_or, drop, Option, Some, None}
+use Rattle.std.proofs.Common.{◌≡◌, ◌∙◌, refl, sym, ap, subst, ℕ, zero, suc, ◌<◌, ◌≤◌, ◌⊎◌, inl, inr, ◌+◌, ◌-◌, ◌*◌}
+use Rattle.std.proofs.Common.{◌/◌, ◌%◌}
+use Rattle.std.proofs.Common.{◌^◌, min, true, false, List, [], ◌∷◌, ◌++◌, arith, length, get_or, drop, Option, Some}
+use Rattle.std.proofs.Common.{None}
 use Rattle.std.specs.Prelude.{flat_map}
 use Rattle.std.specs.List.{range_with_len}
 use Rattle.std.proofs.Math.Nat.{div-eq_of_lt, div-lt_iff_lt-mul, mod-add-div, mod-eq_of_lt, mod-lt, mul-le-mul_left}
-use Rattle.std.proofs.lemmas.List.{append-nil, append_assoc, at_drop_all, at_drop_more, get_or_append_left, length-append}
+use Rattle.std.proofs.lemmas.List.{append-nil, append_assoc, at_drop_all, at_drop_more, get_or_append_left}
+use Rattle.std.proofs.lemmas.List.{length-append}
 use Rattle.turn_lists.specs.declared.actor.Actor.{Actor}
 use Rattle.turn_lists.specs.declared.actor.Turn.{Turn}
 use Rattle.turn_lists.specs.declared.few.TheConstants.{TURNS_MAX}
@@ -207,7 +210,8 @@ builds_more greatest turns number list last left rest after turn next b is small
   small = small;
   within = within;
   whole = append_assoc list (turn ∷ []) (get_or (lists_of greatest after (Some turn.actor)) next [])
-      ∙ ap (λ (us : List Turn). list ++ us) (sym found ∙ ap (λ (k : ℕ). get_or (lists_of greatest k last) left []) (sym is))
+      ∙ ap (λ (us : List Turn). list ++ us)
+      (sym found ∙ ap (λ (k : ℕ). get_or (lists_of greatest k last) left []) (sym is))
       ∙ b.whole;
 }
 
@@ -219,7 +223,8 @@ builds_last greatest turns number list last left rest b is =
     ap (λ (k : ℕ). lists_of greatest k last) is ∙ lists_none greatest last in
     let within : left < 1 = subst (λ (ls : List (List Turn)). left < length ls) none b.within in
     let zero_is : left ≡ 0 = omega arith in
-    sym (append-nil list) ∙ ap (λ (us : List Turn). list ++ us) (sym (ap (λ (ls : List (List Turn)). get_or ls left []) none
+    sym (append-nil list)
+    ∙ ap (λ (us : List Turn). list ++ us) (sym (ap (λ (ls : List (List Turn)). get_or ls left []) none
     ∙ ap (λ (n : ℕ). get_or ([] ∷ []) n []) zero_is)) ∙ b.whole
 
 -- ---- the number of turns

@@ -1,5 +1,6 @@
 -- No two turns, and no two lists of turns, are spelled alike.
-use Rattle.std.proofs.Common.{◌≡◌, ◌≢◌, ◌∙◌, refl, sym, ap, subst, ℕ, ◌<◌, List, [], ◌∷◌, ◌++◌, arith, length, get_or, drop}
+use Rattle.std.proofs.Common.{◌≡◌, ◌≢◌, ◌∙◌, refl, sym, ap, subst, ℕ, ◌<◌, List, [], ◌∷◌, ◌++◌, arith, length, get_or}
+use Rattle.std.proofs.Common.{drop}
 use Rattle.std.proofs.Common.{true, decimal}
 use Rattle.std.specs.Prelude.{codes}
 use Rattle.std.proofs.lemmas.Fmt.{decimal_injective}
@@ -9,9 +10,11 @@ use Rattle.turn_lists.specs.Actors.{core_of}
 use Rattle.turn_lists.specs.declared.actor.Actor.{Actor}
 use Rattle.turn_lists.specs.declared.actor.Actor.TheVariants.{Buffer, Core}
 use Rattle.turn_lists.specs.declared.actor.Turn.{Turn}
-use Rattle.turn_lists.specs.Texts.{SpelledOnce, are_turns, is_turn, spelled_actor, spelled_more, spelled_turn, spelled_turns}
+use Rattle.turn_lists.specs.Texts.{SpelledOnce, are_turns, is_turn, spelled_actor, spelled_more, spelled_turn}
+use Rattle.turn_lists.specs.Texts.{spelled_turns}
 use Rattle.turn_lists.proofs.Standing.{and_left, and_right}
-use Rattle.turn_lists.proofs.TextLemmas.{actor_lacks, decimal_lacks, first_cut, is_turn_core, is_turn_count, lacks_at, no_cut}
+use Rattle.turn_lists.proofs.TextLemmas.{actor_lacks, decimal_lacks, first_cut, is_turn_core, is_turn_count, lacks_at}
+use Rattle.turn_lists.proofs.TextLemmas.{no_cut}
 use Rattle.turn_lists.proofs.TextLemmas.{turn_lacks}
 
 not_w : (c d : ℕ) → c < CORES_MAX → decimal c ≢ 119 ∷ decimal d

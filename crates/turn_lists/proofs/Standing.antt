@@ -65,10 +65,12 @@ goes_on left front more g cut lacking = by g.more g.more_fit g.spelled
     by : (vs : List Turn) → are_turns vs ≡ true → left ≡ spelled_turn g.first ++ spelled_more vs →
         (u : Turn) × (is_turn u ≡ true) × (front ≡ spelled_turn u) × Goes more
     by [] fit is =
-        absurd (no_cut 44 (spelled_turn g.first) front more plain (sym (append-nil (spelled_turn g.first)) ∙ sym is ∙ cut))
+        absurd (no_cut 44 (spelled_turn g.first) front more plain
+        (sym (append-nil (spelled_turn g.first)) ∙ sym is ∙ cut))
     by (v ∷ vs) fit is =
         let parts =
-        first_cut 44 front more (spelled_turn g.first) (spelled_turn v ++ spelled_more vs) (sym cut ∙ is) lacking plain in (
+        first_cut 44 front more (spelled_turn g.first) (spelled_turn v ++ spelled_more vs) (sym cut ∙ is) lacking
+        plain in (
           g.first,
           g.first_fits,
           parts.0,

@@ -1,5 +1,6 @@
 -- What the text of turns has between its commas and stars.
-use Rattle.std.proofs.Common.{◌≡◌, ◌≢◌, ◌∙◌, refl, sym, ap, subst, ℕ, zero, suc, ◌<◌, ◌≤◌, ◌+◌, ◌^◌, List, [], ◌∷◌, ◌++◌}
+use Rattle.std.proofs.Common.{◌≡◌, ◌≢◌, ◌∙◌, refl, sym, ap, subst, ℕ, zero, suc, ◌<◌, ◌≤◌, ◌+◌, ◌^◌, List, [], ◌∷◌}
+use Rattle.std.proofs.Common.{◌++◌}
 use Rattle.std.proofs.Common.{arith, Bool, true, false, length, get_or, MatchOption, Option, Some, None, decimal}
 use Rattle.std.specs.Prelude.{not, nat_eq, drop}
 use Rattle.std.specs.Char.{is_ascii_digit}

@@ -1,3 +1,4 @@
+-- Rule: the lists of few turns: few
 -- The lists of few turns by number: those of no turn first, then those of one, and so on up to six.
 use Rattle.std.specs.Prelude.{ℕ, zero, suc, Bool, false, List, [], ◌∷◌, flat_map, map, slice_index_or, Option, Some}
 use Rattle.std.specs.Prelude.{None, if◌then◌else◌}

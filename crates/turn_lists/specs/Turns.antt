@@ -1,3 +1,4 @@
+-- Rule: turns joined, left out and least in steps: joined, left_out, IsLeastInSteps
 -- Lists of turns: neighbours joined, some left out, one changed, and which lists are least.
 use Rattle.std.specs.Prelude.{◌≡◌, ℕ, zero, suc, ◌+◌, ◌-◌, ◌<◌, min, Bool, true, false, List, [], ◌∷◌, ◌++◌, length}
 use Rattle.std.specs.Prelude.{drop, map, slice_index, take, if◌then◌else◌}

@@ -1,5 +1,6 @@
 -- Turns that are over are passed.
-use Rattle.std.proofs.Common.{◌≡◌, ◌∙◌, refl, sym, ap, ℕ, zero, suc, ◌<◌, ◌≤◌, ◌+◌, ◌-◌, Bool, true, false, List, [], ◌∷◌}
+use Rattle.std.proofs.Common.{◌≡◌, ◌∙◌, refl, sym, ap, ℕ, zero, suc, ◌<◌, ◌≤◌, ◌+◌, ◌-◌, Bool, true, false, List, []}
+use Rattle.std.proofs.Common.{◌∷◌}
 use Rattle.std.proofs.Common.{length, get_or, drop, arith, Option, Some, None}
 use Rattle.std.specs.Prelude.{◌&&◌, nat_lt, option_map, slice_get}
 use Rattle.std.proofs.lemmas.List.{at_drop_all, at_drop_more}

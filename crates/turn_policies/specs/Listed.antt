@@ -1,3 +1,4 @@
+-- Rule: the actors that may act, in order: listed
 -- The actors that may act next, in order.
 use Rattle.std.specs.Prelude.{Bool, ◌==◌, List, ◌++◌, length, map, slice_index_or}
 use Rattle.rtr_types.specs.CoreSets.{has}

@@ -1,3 +1,4 @@
+-- Rule: policies by name and number: numbered_by
 -- Which run a policy's name and a number mean.
 use Rattle.std.specs.Prelude.{ℕ, ◌+◌, ◌/◌, ◌%◌, ◌==◌, if◌then◌else◌}
 use Rattle.turn_policies.specs.declared.named.Named.{Named}

@@ -1,3 +1,4 @@
+-- Rule: a policy: PolicyOf
 -- What a policy is: who makes the next access, by what it has seen so far.
 use Rattle.std.specs.Prelude.{Bool}
 use Rattle.turn_lists.specs.declared.actor.Actor.{Actor}

@@ -1,3 +1,4 @@
+-- Rule: policies by ranks: ranked_policy, ranked_begun
 -- Policies by ranks with points at which the actor of the greatest rank is put last: probabilistic concurrency testing
 -- (Burckhardt, Kothari, Musuvathi and Nagarajan, ASPLOS 2010), counted in accesses.
 use Rattle.std.specs.Prelude.{ℕ, zero, suc, ◌+◌, ◌-◌, ◌==◌, max, Bool, List, [], ◌∷◌, ◌++◌, count_by, find}
@@ -63,7 +64,8 @@ abbrev pub shuffled : (actors : List Actor) (k : ℕ) → Lcg → List Actor →
 shuffled actors zero words order = (order, words)
 shuffled actors (suc k) words order =
     shuffled actors k (after_word words)
-    (exchanged (slice_index_or actors (suc k) (Core 0)) (slice_index_or actors (drawn (suc k + 1) words) (Core 0)) order)
+    (exchanged (slice_index_or actors (suc k) (Core 0))
+    (slice_index_or actors (drawn (suc k + 1) words) (Core 0)) order)
 
 -- so many points, each drawn below x as the number of picks before it
 abbrev pub drawn_points : ℕ → ℕ → Lcg → List ℕ

@@ -1,3 +1,4 @@
+-- Rule: the straight policy: straight_policy
 -- The straight policy: an actor goes on as long as it may.
 use Rattle.std.specs.Prelude.{Option, Some, None, if◌then◌else◌}
 use Rattle.turn_lists.specs.declared.actor.Actor.{Actor}

@@ -1,3 +1,4 @@
+-- Rule: the policy of a list of turns: turns_policy
 -- The policy of a list of turns.
 use Rattle.std.specs.Prelude.{ℕ, ◌-◌, nat_lt, Bool, ◌&&◌, not, List, [], ◌∷◌, Option, Some, None, find, if◌then◌else◌}
 use Rattle.std.specs.Prelude.{unwrap_or}

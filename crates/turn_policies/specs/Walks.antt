@@ -1,3 +1,4 @@
+-- Rule: the random walk: walk_policy
 -- The random walk, and the numbers that policies draw.
 use Rattle.std.specs.Prelude.{ℕ, ◌%◌, length, slice_index_or}
 use Rattle.rand_pcg.specs.Lcg.{Lcg, increment_of, started}

@@ -13,7 +13,8 @@ use std::marker::Model;
 use turn_lists::{Actor, Turn};
 
 /// The policy of a list of turns: of each turn in order its actor, as often as it says, while it may act. After the
-/// last turn the first other actor than that turn's goes on, and then straight. So each turn ends by another's going on.
+/// last turn the first other actor than that turn's goes on, and then straight, so that each turn ends by another's
+/// going on.
 #[derive(Drop)]
 pub struct ByTurns {
     turns: Vec<Turn>,

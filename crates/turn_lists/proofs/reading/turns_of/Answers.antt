@@ -38,7 +38,8 @@ loop-front-preserved c =
     let turn = c.in-Some-turn_of.ensures in
     rw c.in_ok-push-in-Some-turn_of.ensures.ok (
       stands_more c.args.text.now c.loop-front.turns c.loop-front.left.now
-          c.in-Some.front.now c.in-Some.more.now c.in-Some-turn_of.turn c.loop-front.invariant.0 here.0 here.1 turn.0 turn.1,
+          c.in-Some.front.now c.in-Some.more.now c.in-Some-turn_of.turn c.loop-front.invariant.0 here.0 here.1
+          turn.0 turn.1,
       search rules,
     )
 
