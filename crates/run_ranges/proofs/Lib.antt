@@ -1,4 +1,4 @@
-pub mod Adding
+pub mod AddedRows
 pub mod Rounds
 pub mod RowLemmas
 pub mod TableLemmas

@@ -1,8 +1,8 @@
 pub mod Blocks
-pub mod Counting
+pub mod ListCounts
 pub mod NumeralLemmas
-pub mod Seeking
+pub mod ListByNumber
 pub mod SpelledOnce
-pub mod Standing
+pub mod ReadingPlaces
 pub mod TextLemmas
 pub mod TurnChanges

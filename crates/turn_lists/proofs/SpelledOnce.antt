@@ -12,7 +12,7 @@ use Rattle.turn_lists.specs.declared.actor.Actor.TheVariants.{Buffer, Core}
 use Rattle.turn_lists.specs.declared.actor.Turn.{Turn}
 use Rattle.turn_lists.specs.Texts.{SpelledOnce, are_turns, is_turn, spelled_actor, spelled_more, spelled_turn}
 use Rattle.turn_lists.specs.Texts.{spelled_turns}
-use Rattle.turn_lists.proofs.Standing.{and_left, and_right}
+use Rattle.turn_lists.proofs.ReadingPlaces.{and_left, and_right}
 use Rattle.turn_lists.proofs.TextLemmas.{actor_lacks, decimal_lacks, first_cut, is_turn_core, is_turn_count, lacks_at}
 use Rattle.turn_lists.proofs.TextLemmas.{no_cut}
 use Rattle.turn_lists.proofs.TextLemmas.{turn_lacks}

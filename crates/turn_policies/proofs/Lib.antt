@@ -1,4 +1,4 @@
-pub mod Finding
-pub mod Ranking
+pub mod FirstFound
+pub mod ChangedRanks
 pub mod SetMembers
 pub mod TurnSteps

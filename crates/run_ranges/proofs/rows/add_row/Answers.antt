@@ -5,7 +5,7 @@ use Rattle.std.specs.Ordering.{nat_cmp}
 use Rattle.std.specs.declared.cmp.Ordering.TheVariants.{Less, Equal, Greater}
 use Rattle.run_ranges.specs.declared.rows.Row.{Row}
 use Rattle.run_ranges.specs.Tables.{added}
-use Rattle.run_ranges.proofs.Adding.{inserts, joins, past, puts}
+use Rattle.run_ranges.proofs.AddedRows.{inserts, joins, past, puts}
 use Rattle.run_ranges.proofs.rows.add_row.Goals as goal
 
 pub loop-k-preserved : goal.loop-k-preserved

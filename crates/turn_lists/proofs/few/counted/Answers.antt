@@ -2,7 +2,7 @@ use Rattle.std.proofs.Common.{◌≡◌, ◌∙◌, sym, get_or, arith, true, fa
 use Rattle.turn_lists.specs.Few.{had_last}
 use Rattle.turn_lists.specs.declared.actor.Actor.TheVariants.{Core}
 use Rattle.turn_lists.specs.declared.actor.Turn.{Turn}
-use Rattle.turn_lists.proofs.Counting.{counted_step}
+use Rattle.turn_lists.proofs.ListCounts.{counted_step}
 use Rattle.turn_lists.proofs.few.counted.Goals as goal
 use Rattle.turn_lists.proofs.few.counted.Goals.{then-not-had_last, else-not-had_last}
 

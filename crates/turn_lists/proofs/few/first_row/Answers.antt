@@ -1,6 +1,6 @@
 use Rattle.std.proofs.Common.{◌∙◌, ap, ◌++◌, ◌∷◌, [], ℕ, List}
 use Rattle.turn_lists.specs.declared.actor.Actor.TheVariants.{Core}
-use Rattle.turn_lists.proofs.Counting.{ones_more}
+use Rattle.turn_lists.proofs.ListCounts.{ones_more}
 use Rattle.turn_lists.proofs.few.first_row.Goals as goal
 
 pub loop-turn-preserved : goal.loop-turn-preserved

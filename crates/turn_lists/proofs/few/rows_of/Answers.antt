@@ -1,7 +1,7 @@
 use Rattle.std.proofs.Common.{◌≡◌, ◌∙◌, ap, suc, ◌+◌, [], ◌∷◌, ◌++◌, arith}
 use Rattle.turn_lists.specs.Counts.{row_of, rows_of}
 use Rattle.turn_lists.specs.declared.few.TheConstants.{TURNS_MAX}
-use Rattle.turn_lists.proofs.Counting.{row_long, row_next, row_small, rows_more}
+use Rattle.turn_lists.proofs.ListCounts.{row_long, row_next, row_small, rows_more}
 use Rattle.turn_lists.proofs.few.rows_of.Goals as goal
 
 pub next_row-requires-clause-long : goal.next_row-requires-clause-long

@@ -4,7 +4,7 @@ use Rattle.std.specs.Str.{bytes_eq}
 use Rattle.std.proofs.lemmas.Slice.Eq.{bytes_eq-Decides}
 use Rattle.std.proofs.lemmas.Str.Pattern.{split_parts}
 use Rattle.turn_lists.specs.Texts.{spelled_turns}
-use Rattle.turn_lists.proofs.Standing.{more_fit, stands_first, stands_last, stands_more, stands_none, stands_out}
+use Rattle.turn_lists.proofs.ReadingPlaces.{more_fit, stands_first, stands_last, stands_more, stands_none, stands_out}
 use Rattle.turn_lists.proofs.reading.turns_of.Goals as goal
 
 pub returns-then-eq : goal.returns-then-eq

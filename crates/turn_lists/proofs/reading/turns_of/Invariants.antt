@@ -1,5 +1,5 @@
 use Rattle.std.proofs.Common.{IsUtf8, length}
-use Rattle.turn_lists.proofs.Standing.{StandsAt}
+use Rattle.turn_lists.proofs.ReadingPlaces.{StandsAt}
 use Rattle.turn_lists.proofs.reading.turns_of.Given as goal
 
 abbrev pub invariant-loop-front : goal.invariant-loop-front

@@ -1,5 +1,5 @@
 use Rattle.std.proofs.Common.{◌≡◌, ◌∙◌, ap, ℕ, ◌-◌}
-use Rattle.turn_policies.proofs.Ranking.{changed_at, changed_on}
+use Rattle.turn_policies.proofs.ChangedRanks.{changed_at, changed_on}
 use Rattle.turn_policies.proofs.ranked.come_nearer.Goals as goal
 
 pub loop-place-preserved : goal.loop-place-preserved

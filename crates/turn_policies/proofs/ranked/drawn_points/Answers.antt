@@ -1,7 +1,7 @@
 use Rattle.std.proofs.Common.{◌≡◌, ◌∙◌, sym, ap, ℕ, suc, ◌+◌, ◌-◌, List, [], ◌∷◌, ◌++◌, max, arith, append_assoc}
 use Rattle.turn_policies.specs.Ranked.{drawn_points}
 use Rattle.turn_policies.specs.Walks.{after_word, drawn}
-use Rattle.turn_policies.proofs.Ranking.{points_step}
+use Rattle.turn_policies.proofs.ChangedRanks.{points_step}
 use Rattle.turn_policies.proofs.ranked.drawn_points.Goals as goal
 
 pub loop-drawn-preserved : goal.loop-drawn-preserved

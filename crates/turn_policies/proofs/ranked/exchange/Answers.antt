@@ -1,7 +1,7 @@
 use Rattle.std.proofs.Common.{◌≡◌, ◌∙◌, ap}
 use Rattle.turn_lists.specs.declared.actor.Actor.TheVariants.{Core}
 use Rattle.turn_policies.specs.Ranked.{exchanged_one}
-use Rattle.turn_policies.proofs.Ranking.{changed_at, changed_on}
+use Rattle.turn_policies.proofs.ChangedRanks.{changed_at, changed_on}
 use Rattle.turn_policies.proofs.ranked.exchange.Goals as goal
 
 pub loop-place-preserved : goal.loop-place-preserved

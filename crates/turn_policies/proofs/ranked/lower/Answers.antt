@@ -4,7 +4,7 @@ use Rattle.turn_lists.specs.Actors.{is_same}
 use Rattle.turn_lists.specs.declared.actor.Actor.{Actor}
 use Rattle.turn_lists.specs.declared.actor.Actor.TheVariants.{Core}
 use Rattle.turn_policies.specs.Ranked.{lowered}
-use Rattle.turn_policies.proofs.Ranking.{lower_end, lower_over, lower_past}
+use Rattle.turn_policies.proofs.ChangedRanks.{lower_end, lower_over, lower_past}
 use Rattle.turn_policies.proofs.ranked.lower.Goals as goal
 use Rattle.turn_policies.proofs.ranked.lower.Goals.{then-is, else-is}
 

@@ -1,6 +1,6 @@
 use Rattle.std.proofs.Common.{◌≡◌, ◌∙◌, sym, suc, ◌+◌, ◌-◌, arith}
 use Rattle.turn_policies.specs.Ranked.{points_due}
-use Rattle.turn_policies.proofs.Ranking.{lowered_step}
+use Rattle.turn_policies.proofs.ChangedRanks.{lowered_step}
 use Rattle.turn_policies.proofs.ranked.lower_due.Goals as goal
 
 pub loop-done-preserved : goal.loop-done-preserved

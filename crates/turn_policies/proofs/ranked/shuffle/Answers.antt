@@ -1,5 +1,5 @@
 use Rattle.std.proofs.Common.{◌≡◌, ◌∙◌, sym, suc, ◌+◌, ◌-◌, length, arith}
-use Rattle.turn_policies.proofs.Ranking.{shuffled_step}
+use Rattle.turn_policies.proofs.ChangedRanks.{shuffled_step}
 use Rattle.turn_policies.proofs.ranked.shuffle.Goals as goal
 
 pub loop-done-preserved : goal.loop-done-preserved

@@ -4,7 +4,7 @@ use Rattle.turn_lists.specs.Actors.{is_same}
 use Rattle.turn_lists.specs.declared.actor.Actor.{Actor}
 use Rattle.turn_lists.specs.declared.actor.Actor.TheVariants.{Core}
 use Rattle.turn_policies.specs.Listed.{first_of, listed}
-use Rattle.turn_policies.proofs.Finding.{find_here, find_more}
+use Rattle.turn_policies.proofs.FirstFound.{find_here, find_more}
 use Rattle.turn_policies.proofs.turns.other_than.Goals as goal
 
 pub returns-then-not-is-clause-value : goal.returns-then-not-is-clause-value

@@ -3,8 +3,8 @@ use Rattle.turn_lists.specs.Counts.{many_of, row_of}
 use Rattle.turn_lists.specs.Few.{had_last}
 use Rattle.turn_lists.specs.declared.actor.Actor.TheVariants.{Core}
 use Rattle.turn_lists.specs.declared.actor.Turn.{Turn}
-use Rattle.turn_lists.proofs.Counting.{row_at}
-use Rattle.turn_lists.proofs.Seeking.{found, seeks_first, seeks_had, seeks_past}
+use Rattle.turn_lists.proofs.ListCounts.{row_at}
+use Rattle.turn_lists.proofs.ListByNumber.{found, seeks_first, seeks_had, seeks_past}
 use Rattle.turn_lists.proofs.few.FewLists.first_turn.Goals as goal
 use Rattle.turn_lists.proofs.few.FewLists.first_turn.Goals.{then-not-had_last+else-left-these, else-not-had_last}
 

@@ -1,4 +1,4 @@
-use Rattle.turn_lists.proofs.Seeking.{Seeks}
+use Rattle.turn_lists.proofs.ListByNumber.{Seeks}
 use Rattle.turn_lists.proofs.few.FewLists.first_turn.Given as goal
 
 abbrev pub invariant-loop-place : goal.invariant-loop-place

@@ -1,6 +1,6 @@
 use Rattle.std.proofs.Common.{◌≡◌, ◌<◌, subst, IfOk, List, ℕ, arith}
 use Rattle.turn_lists.specs.declared.actor.Turn.{Turn}
-use Rattle.turn_lists.proofs.Seeking.{counts_first, counts_here, counts_past}
+use Rattle.turn_lists.proofs.ListByNumber.{counts_first, counts_here, counts_past}
 use Rattle.turn_lists.proofs.few.FewLists.list.Goals as goal
 
 pub loop-turns-init : goal.loop-turns-init

@@ -1,4 +1,4 @@
-use Rattle.turn_lists.proofs.Seeking.{Counts}
+use Rattle.turn_lists.proofs.ListByNumber.{Counts}
 use Rattle.turn_lists.proofs.few.FewLists.list.Given as goal
 
 abbrev pub invariant-loop-turns : goal.invariant-loop-turns

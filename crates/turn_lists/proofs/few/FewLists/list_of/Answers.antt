@@ -1,5 +1,5 @@
 use Rattle.std.proofs.Common.{◌-◌, arith}
-use Rattle.turn_lists.proofs.Seeking.{builds_last}
+use Rattle.turn_lists.proofs.ListByNumber.{builds_last}
 use Rattle.turn_lists.proofs.few.FewLists.list_of.Goals as goal
 
 pub returns : goal.returns

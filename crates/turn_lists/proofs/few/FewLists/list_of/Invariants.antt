@@ -1,5 +1,5 @@
 use Rattle.std.proofs.Common.{◌-◌}
-use Rattle.turn_lists.proofs.Seeking.{Builds}
+use Rattle.turn_lists.proofs.ListByNumber.{Builds}
 use Rattle.turn_lists.proofs.few.FewLists.list_of.Given as goal
 
 abbrev pub invariant-loop-made : goal.invariant-loop-made

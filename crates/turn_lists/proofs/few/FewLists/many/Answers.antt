@@ -1,6 +1,6 @@
 use Rattle.std.proofs.Common.{◌≡◌, ◌∙◌, sym, ap, ℕ, suc, ◌-◌, None, arith}
 use Rattle.turn_lists.specs.Counts.{many_of}
-use Rattle.turn_lists.proofs.Counting.{counted_many, many_none, row_small}
+use Rattle.turn_lists.proofs.ListCounts.{counted_many, many_none, row_small}
 use Rattle.turn_lists.proofs.few.FewLists.many.Goals as goal
 
 pub counted-requires-clause-small : goal.counted-requires-clause-small

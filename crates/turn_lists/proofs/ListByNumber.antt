@@ -14,7 +14,7 @@ use Rattle.turn_lists.specs.declared.few.TheConstants.{TURNS_MAX}
 use Rattle.turn_lists.specs.Counts.{many_of}
 use Rattle.turn_lists.specs.Few.{begun_by, few, few_lists, had_last, lists_of}
 use Rattle.turn_lists.proofs.Blocks.{begun_at, begun_long, past_first}
-use Rattle.turn_lists.proofs.Counting.{block, block_begun, block_had, lists_none, lists_step}
+use Rattle.turn_lists.proofs.ListCounts.{block, block_begun, block_had, lists_none, lists_step}
 
 cases_le : (a b : ℕ) → (a ≤ b) ⊎ (b < a)
 cases_le a b = grind arith
