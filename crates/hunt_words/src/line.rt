@@ -9,7 +9,12 @@ use tool_words::{CORES_DEFAULT, LIMIT_DEFAULT, RunWords, WORDS_DEFAULT};
 
 /// Puts the line by which `rtr` records the run, on cores with store buffers or without: `rtr record` or `rtr
 /// tsorecord` and each option that isn't at its default, without a line feed. The only refusal is want of memory.
-pub fn put_line(alloc: Global, text: &mut String, tso: bool, run: &RunWords) -> Result<(), AllocError>
+pub fn put_line(
+    alloc: Global,
+    text: &mut String,
+    tso: bool,
+    run: &RunWords,
+) -> Result<(), AllocError>
     ensures { OnOk result (string_bytes text.new ≡ string_bytes text.old ++ line tso run.now) }
 {
     put_command(text, tso)?;
@@ -28,9 +33,24 @@ fn put_options(alloc: Global, text: &mut String, run: &RunWords) -> Result<(), A
     ensures { OnOk result (string_bytes text.new ≡ string_bytes text.old ++ flat_map spaced (option_words run.now)) }
 {
     put_flag(text, run.elf)?;
-    put_number(text, "--cores", run.params.cores as u64, CORES_DEFAULT as u64)?;
-    put_number(text, "--limit", run.params.limit as u64, LIMIT_DEFAULT as u64)?;
-    put_number(text, "--words", run.params.words as u64, WORDS_DEFAULT as u64)?;
+    put_number(
+        text,
+        "--cores",
+        run.params.cores as u64,
+        CORES_DEFAULT as u64,
+    )?;
+    put_number(
+        text,
+        "--limit",
+        run.params.limit as u64,
+        LIMIT_DEFAULT as u64,
+    )?;
+    put_number(
+        text,
+        "--words",
+        run.params.words as u64,
+        WORDS_DEFAULT as u64,
+    )?;
     put_number(text, "--seed", run.seed, 0)?;
     put_choices(alloc, text, run.choices.as_slice())
 }
@@ -40,11 +60,7 @@ fn put_flag(text: &mut String, elf: bool) -> Result<(), AllocError>
     ensures { OnOk result (string_bytes text.new ≡ string_bytes text.old
         ++ flat_map spaced (flag_words (codes "--elf") elf)) }
 {
-    if elf {
-        text.push_str(" --elf")
-    } else {
-        Ok(())
-    }
+    if elf { text.push_str(" --elf") } else { Ok(()) }
 }
 
 /// Puts an option and its number, where that isn't the default.
