@@ -27,14 +27,46 @@ static ROWS: [Row; 16] = [
     told!("", 0, "rtr: no command is given\nrtr record ["),
     told!("recrod", 0, "rtr: recrod: no such command\nrtr record ["),
     told!("--help", 0, "rtr: --help: no such command\nrtr record ["),
-    told!("print --log reduced", 1, "rtr: --log: the command has no such option\nrtr print\n"),
-    told!("run --cores 2 --cores", 3, "rtr: --cores: --cores is set twice\nrtr run ["),
-    told!("run --loads=1", 1, "rtr: --loads=1: --loads takes no value\nrtr run ["),
-    told!("record --cores 0", 2, "rtr: 0: --cores takes 1 to 16\nrtr record ["),
-    told!("record --cores=17 --limit", 1, "rtr: --cores=17: --cores takes 1 to 16\nrtr record ["),
-    told!("record --words 30", 2, "rtr: 30: --words takes a multiple of 4 from 4 to 262144\nrtr record ["),
-    told!("replay --threads two", 2, "rtr: two: --threads takes a number\nrtr replay ["),
-    told!("replay --log reduce", 2, "rtr: reduce: --log takes reduced or regulated\nrtr replay ["),
+    told!(
+        "print --log reduced",
+        1,
+        "rtr: --log: the command has no such option\nrtr print\n"
+    ),
+    told!(
+        "run --cores 2 --cores",
+        3,
+        "rtr: --cores: --cores is set twice\nrtr run ["
+    ),
+    told!(
+        "run --loads=1",
+        1,
+        "rtr: --loads=1: --loads takes no value\nrtr run ["
+    ),
+    told!(
+        "record --cores 0",
+        2,
+        "rtr: 0: --cores takes 1 to 16\nrtr record ["
+    ),
+    told!(
+        "record --cores=17 --limit",
+        1,
+        "rtr: --cores=17: --cores takes 1 to 16\nrtr record ["
+    ),
+    told!(
+        "record --words 30",
+        2,
+        "rtr: 30: --words takes a multiple of 4 from 4 to 262144\nrtr record ["
+    ),
+    told!(
+        "replay --threads two",
+        2,
+        "rtr: two: --threads takes a number\nrtr replay ["
+    ),
+    told!(
+        "replay --log reduce",
+        2,
+        "rtr: reduce: --log takes reduced or regulated\nrtr replay ["
+    ),
     told!(
         "record --limit 1000000 --seed 1 --cores 5 --words 4",
         6,
@@ -45,9 +77,21 @@ static ROWS: [Row; 16] = [
         4,
         "rtr: 0: the shape has no image of the number\nrtr gen --shape mix|lock --number N\n"
     ),
-    told!("gen --shape mix", 3, "rtr: --number is missing\nrtr gen --shape mix|lock --number N\n"),
-    told!("at --core 1 --count", 4, "rtr: --count lacks its value\nrtr at --core N --count N ["),
-    told!("at", 1, "rtr: --core is missing\nrtr at --core N --count N ["),
+    told!(
+        "gen --shape mix",
+        3,
+        "rtr: --number is missing\nrtr gen --shape mix|lock --number N\n"
+    ),
+    told!(
+        "at --core 1 --count",
+        4,
+        "rtr: --count lacks its value\nrtr at --core N --count N ["
+    ),
+    told!(
+        "at",
+        1,
+        "rtr: --core is missing\nrtr at --core N --count N ["
+    ),
 ];
 
 #[test]
