@@ -1,5 +1,6 @@
 //! Lines of words that mean nothing, and what is told of them.
 use command_line::usage_told;
+use progress_line::second_line;
 use row_texts::words;
 use std::test::Fail;
 use tool_words::fault;
@@ -103,5 +104,14 @@ fn the_word_at_fault_is_told(rt: HostRuntime) -> Result<(), Fail> {
         let told = usage_told(rt.alloc(), words.as_slice())?.ok_or("a command")?;
         assert!(rt; told.as_str().starts_with(row.told), "{}", row.line);
     }
+    Ok(())
+}
+
+#[test]
+fn the_seconds_are_told_on_a_terminal_alone(rt: HostRuntime) -> Result<(), Fail> {
+    let told = second_line(rt.alloc(), true, 12)?.ok_or("nothing")?;
+    assert!(rt; told.as_str() == "rtr: 12 s\r");
+    let elsewhere = second_line(rt.alloc(), false, 12)?;
+    assert!(rt; elsewhere.is_none());
     Ok(())
 }
