@@ -42,7 +42,6 @@ pub(crate) fn tso_record_input(
 }
 
 /// The text of how a run of the image ended that the input is, by cores with store buffers.
-#[tactic(auto, using(crate::proofs::BufferRuns::tso_run_promised))]
 pub(crate) fn tso_run_input(
     alloc: Global,
     run: RunWords,
@@ -54,7 +53,7 @@ pub(crate) fn tso_run_input(
     ensures made { IfOk result (λ out. Makes (TsoRun run loads) input.items out.items) }
     ensures promised { OnOk result (Promised (TsoRun run loads) input.items) }
 {
-    tso_run_text(alloc, Planned::of(run), loads, input)
+    Ok(tso_run_text(alloc, Planned::of(run), loads, input)?)
 }
 
 /// The text of how a run of the image ended, by cores with store buffers.

@@ -189,7 +189,6 @@ fn record_input(alloc: Global, run: RunWords, input: Vec<u8>) -> Result<Vec<u8>,
 }
 
 /// The text of how a run of the image ended that the input is.
-#[tactic(auto, using(crate::proofs::RecordingLemmas::run_promised))]
 fn run_input(alloc: Global, run: RunWords, loads: bool, input: Vec<u8>) -> Result<Vec<u8>, Exit>
     requires fits { Fits run.params }
     requires within { length input.items ≤ run_bytes_max run }
