@@ -7,6 +7,6 @@ pub mod Along
 pub mod TakenRounds
 pub mod TakenWay
 mod Short
-mod Seating
-mod Seeing
-mod Windowing
+mod SeatCounts
+mod WindowWay
+mod CutWindows

@@ -27,8 +27,8 @@ use Rattle.replay_audit.specs.Clocks.{Kept, clocks_of, number_to, number_of, num
 use Rattle.replay_core.specs.Sources.{AreSources}
 use Rattle.replay_audit.specs.Clocks.{CanNote, IsKept, IsNoted, Clocked}
 use Rattle.replay_audit.proofs.Logs.{recorded_log, sourced_among}
-use Rattle.replay_audit.proofs.Numbering.{all_later, all_more, at_before, at_last, length_more, number_most}
-use Rattle.replay_audit.proofs.Numbering.{number_stays}
+use Rattle.replay_audit.proofs.ClockNumbers.{all_later, all_more, at_before, at_last, length_more, number_most}
+use Rattle.replay_audit.proofs.ClockNumbers.{number_stays}
 use Rattle.replay_core.proofs.InstructionSources.{listed_are}
 use Rattle.replay_core.proofs.Sources.{edge_within}
 

@@ -10,7 +10,7 @@ pub mod PlaySizes
 pub mod Ahead
 pub mod Scan
 pub mod MergedSources
-pub mod Numbering
+pub mod ClockNumbers
 pub mod ClockSteps
 pub mod MarkLaws
 pub mod TrailSteps

@@ -21,10 +21,10 @@ use Rattle.tool_words.specs.Options.{are_together_few, is_set, no_settings, put,
 use Rattle.tool_words.specs.Reading.{Set, few_together, meaning, settings, settled_by}
 use Rattle.tool_words.specs.Faults.{Explains, IsFaultAt, IsOpen, IsViable, Tells, lacks}
 use Rattle.tool_words.specs.Stops.{IsWhole, Sets, Stops, StopsAfter, is_at_end}
-use Rattle.tool_words.proofs.Closed.{ends, image-option, many-end, none-ends}
-use Rattle.tool_words.proofs.Completing.{completes, completes-name, lacking-none, none-lacking, put-in}
-use Rattle.tool_words.proofs.Cutting.{OneSetting, one-word, two-words, name-last, one-setting, settled_by-append, sets-setting, setting-option}
-use Rattle.tool_words.proofs.Cutting.{stops-flag, stops-setting, stops-twice, stops-unnamed}
+use Rattle.tool_words.proofs.DeadSettings.{ends, image-option, many-end, none-ends}
+use Rattle.tool_words.proofs.OpenSettings.{completes, completes-name, lacking-none, none-lacking, put-in}
+use Rattle.tool_words.proofs.WordCuts.{OneSetting, one-word, two-words, name-last, one-setting, settled_by-append, sets-setting, setting-option}
+use Rattle.tool_words.proofs.WordCuts.{stops-flag, stops-setting, stops-twice, stops-unnamed}
 use Rattle.tool_words.proofs.FittingLemmas.{AreFitting, put-fits, ranged, settled_by-fits}
 
 -- ---- after settings

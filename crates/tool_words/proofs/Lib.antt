@@ -4,8 +4,8 @@ pub mod ReadingLemmas
 pub mod NumeralLemmas
 pub mod FittingLemmas
 pub mod LaidSettings
-pub mod Cutting
-pub mod Completing
-pub mod Closed
-pub mod Stopping
+pub mod WordCuts
+pub mod OpenSettings
+pub mod DeadSettings
+pub mod FirstWords
 pub mod FaultLemmas

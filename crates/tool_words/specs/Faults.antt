@@ -1,3 +1,4 @@
+-- Rule: the word at fault, and why: IsFaultAt, Tells
 -- What is wrong with words that mean nothing. A front of a list of words is viable where some list that means a command
 -- begins with it. The word at fault is the first whose front isn't viable; where the whole list is viable and still means
 -- nothing, the fault is at its end.

@@ -8,7 +8,7 @@ use Rattle.tool_words.specs.Commands.{command_of, verb_named}
 use Rattle.tool_words.specs.Options.{are_together_few, is_set, no_settings, put}
 use Rattle.tool_words.specs.Reading.{Set, few_together, flag, meaning, prepend, settings, settled, settled_by, valued}
 use Rattle.tool_words.specs.Settings.{Settings}
-use Rattle.tool_words.proofs.Cutting.{settled-append}
+use Rattle.tool_words.proofs.WordCuts.{settled-append}
 use Rattle.tool_words.proofs.FittingLemmas.{and_then-some}
 use Rattle.words_laws.specs.Grammar.{AreSpelled, Says, Spells, apart, joined}
 use Rattle.words_laws.specs.Laws.{JoinedIsApart, SettingsCommute, TwiceIsNothing, WordsMean}

@@ -9,7 +9,7 @@ use Rattle.replay_core.specs.Orders.{counts, nought}
 use Rattle.cut_moves.specs.Seats.{AreWindows}
 use Rattle.cut_moves.specs.declared.seats.Window.{Window}
 use Rattle.cut_moves.proofs.TakenWay.{in_totals, leading_way, ordered_way}
-use Rattle.cut_moves.proofs.Seeing.{past_one, seen_from, seeing_by, seeing_end, seeing_on, seeing_start}
+use Rattle.cut_moves.proofs.WindowWay.{past_one, seen_from, seeing_by, seeing_end, seeing_on, seeing_start}
 use Rattle.cut_moves.proofs.between.way.Goals.{then-is_seen+in_ok-push, else-is_seen}
 use Rattle.cut_moves.proofs.between.way.Goals as goal
 

@@ -1,7 +1,7 @@
 use Rattle.std.proofs.Common.{◌≡◌, ◌++◌, drop}
 use Rattle.cut_replay.specs.ClosedCuts.{count_in}
 use Rattle.cut_moves.specs.Ways.{way_of}
-use Rattle.cut_moves.proofs.Seeing.{seen_from}
+use Rattle.cut_moves.proofs.WindowWay.{seen_from}
 use Rattle.cut_moves.proofs.between.way.Given as goal
 
 -- what the places so far have of the way was taken

@@ -1,7 +1,7 @@
 use Rattle.std.proofs.Common.{◌≡◌, ◌∙◌, arith, ◌++◌, ◌∷◌, [], List, ℕ, ap}
 use Rattle.std.specs.Prelude.{slice_index, slice_index_or, slice_set}
 use Rattle.std.proofs.lemmas.List.{get_or_default}
-use Rattle.cut_moves.proofs.Seating.{seats_more}
+use Rattle.cut_moves.proofs.SeatCounts.{seats_more}
 use Rattle.cut_moves.proofs.seats.seats_in.Goals as goal
 
 pub loop-number-preserved : goal.loop-number-preserved

@@ -1,5 +1,5 @@
 use Rattle.std.proofs.Common.{ℕ, ◌+◌, ◌-◌, ◌/◌, arith}
-use Rattle.replay_audit.proofs.Numbering.{at_item, number_is, past_by}
+use Rattle.replay_audit.proofs.ClockNumbers.{at_item, number_is, past_by}
 use Rattle.replay_audit.proofs.log_clocks.number_by_halves.Goals as goal
 
 pub loop-low-preserved : goal.loop-low-preserved

@@ -1,5 +1,5 @@
 use Rattle.std.proofs.Common.{arith}
-use Rattle.replay_audit.proofs.Numbering.{at_item, number_is}
+use Rattle.replay_audit.proofs.ClockNumbers.{at_item, number_is}
 use Rattle.replay_audit.proofs.log_clocks.number_from.Goals as goal
 
 pub returns-else-get-at : goal.returns-else-get-at

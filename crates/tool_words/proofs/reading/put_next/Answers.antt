@@ -1,6 +1,6 @@
 use Rattle.std.proofs.Common.{string_bytes}
 use Rattle.tool_words.proofs.ReadingLemmas.{map-rest}
-use Rattle.tool_words.proofs.Stopping.{at-name, at-value, offered, setting-err, setting-ok}
+use Rattle.tool_words.proofs.FirstWords.{at-name, at-value, offered, setting-err, setting-ok}
 use Rattle.tool_words.proofs.reading.put_next.Goals as goal
 
 pub returns-in-Err-clause-err : goal.returns-in-Err-clause-err

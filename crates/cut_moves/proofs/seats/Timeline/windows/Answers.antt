@@ -3,7 +3,7 @@ use Rattle.rtr_types.specs.declared.TheConstants.{CORES_MAX}
 use Rattle.replay_core.specs.Orders.{counts, nought}
 use Rattle.cut_replay.specs.ClosedCuts.{count_in}
 use Rattle.cut_moves.specs.Seats.{AreWindows}
-use Rattle.cut_moves.proofs.Windowing.{are_windows}
+use Rattle.cut_moves.proofs.CutWindows.{are_windows}
 use Rattle.cut_moves.proofs.seats.Timeline.windows.Goals as goal
 
 pub returns : goal.returns

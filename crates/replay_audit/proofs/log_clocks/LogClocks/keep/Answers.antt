@@ -3,7 +3,7 @@ use Rattle.std.specs.Prelude.{slice_index, slice_index_or}
 use Rattle.std.proofs.lemmas.List.{get_or_default}
 use Rattle.replay_audit.specs.Clocks.{CanNote, Kept}
 use Rattle.replay_audit.proofs.ClockSteps.{own_next}
-use Rattle.replay_audit.proofs.Numbering.{kept_more}
+use Rattle.replay_audit.proofs.ClockNumbers.{kept_more}
 use Rattle.replay_audit.proofs.log_clocks.LogClocks.keep.Goals as goal
 
 pub invariant_of-self-2 : goal.invariant_of-self-2

@@ -14,8 +14,8 @@ use Rattle.tool_words.specs.Options.{is_set, option_of, put_new, takes_value}
 use Rattle.tool_words.specs.Reading.{is_equals, settings}
 use Rattle.tool_words.specs.Faults.{Explains, IsOpen, Refuses, has_value, option_in, range, refusal}
 use Rattle.tool_words.specs.Stops.{Sets, Stops, is_at_end, joined_value, unset, value_of}
-use Rattle.tool_words.proofs.Completing.{put-in}
-use Rattle.tool_words.proofs.Cutting.{setting, sets-apart, sets-flag, sets-joined, sets-setting, whole-word}
+use Rattle.tool_words.proofs.OpenSettings.{put-in}
+use Rattle.tool_words.proofs.WordCuts.{setting, sets-apart, sets-flag, sets-joined, sets-setting, whole-word}
 
 -- a word is at fault, and not the end
 is-word : (word : List ℕ) (following : List (List ℕ)) → not (nat_lt 0 (length (word ∷ following))) ≡ false

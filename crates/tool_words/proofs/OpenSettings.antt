@@ -22,8 +22,8 @@ use Rattle.tool_words.specs.Options.{are_together_few, is_set, option_of, put, p
 use Rattle.tool_words.specs.Commands.{command_of, named_instr, shaped}
 use Rattle.tool_words.specs.Reading.{few_together, settings, settled_by}
 use Rattle.tool_words.specs.Faults.{IsOpen, lacks}
-use Rattle.tool_words.proofs.Closed.{ends}
-use Rattle.tool_words.proofs.Cutting.{name-and-value}
+use Rattle.tool_words.proofs.DeadSettings.{ends}
+use Rattle.tool_words.proofs.WordCuts.{name-and-value}
 use Rattle.tool_words.proofs.FittingLemmas.{AreFitting, CoresFit, LimitFits, ranged}
 
 abbrev pub Completes : Verb → Settings → Type 0

@@ -10,7 +10,7 @@ use Rattle.cut_moves.specs.Seats.{AreWindows, is_within, window_at}
 use Rattle.cut_moves.specs.Ways.{way_from, way_of, with_place}
 use Rattle.cut_moves.specs.declared.seats.Window.{Window}
 use Rattle.cut_moves.proofs.Along.{off_high, off_low}
-use Rattle.cut_moves.proofs.Seating.{among_next}
+use Rattle.cut_moves.proofs.SeatCounts.{among_next}
 
 -- the places whose numbers, from the first on, their core's window has
 abbrev pub seen_from : List Window → (first : ℕ) → List ℕ → List ℕ

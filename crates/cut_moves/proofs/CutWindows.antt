@@ -6,7 +6,7 @@ use Rattle.rtr_types.specs.declared.TheConstants.{CORES_MAX}
 use Rattle.replay_core.specs.Orders.{counts, nought}
 use Rattle.cut_moves.specs.Seats.{AreWindows, HaveSeats, IsWindow, window_at}
 use Rattle.cut_moves.specs.declared.seats.Window.{Window}
-use Rattle.cut_moves.proofs.Seating.{on_window}
+use Rattle.cut_moves.proofs.SeatCounts.{on_window}
 
 module _ (timeline : List ℕ) (seats : List (List ℕ)) (h : HaveSeats timeline seats) (low high : ℕ → ℕ) where
   -- a core has at least as many seats as a cut within the timeline has of its instructions
