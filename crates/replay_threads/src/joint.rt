@@ -13,7 +13,6 @@ use crate::groups::{Group, give, no_groups, take_last};
 use crate::rounds::rounds;
 use crate::worker::Worker;
 use race_log::Recording;
-use replay_audit::WholeOrder;
 use replay_table::laws::an_end_was_played;
 use replay_table::{Closed, CoreSeat, Job, ReplayTable};
 use rtr_types::Which;
@@ -21,6 +20,7 @@ use std::alloc::{AllocError, Global};
 use std::marker::Brand;
 use std::sync::Wait;
 use std::thread::Threads;
+use touch_judge::RunOrder;
 
 /// What a replay on several threads came to.
 #[derive(Drop)]
@@ -49,7 +49,7 @@ pub fn replay_parallel<R: Threads + Wait + Sync, G: Gate>(
     requires threads { (1 ≤ threads) × (threads ≤ 8) }
     ensures { IfOk result (IsJointOf which recording.now) }
 {
-    let Some(order) = WholeOrder::of(alloc, recording, which)? else {
+    let Some(order) = RunOrder::of(alloc, recording, which)? else {
         return Ok(Joint::Unsure);
     };
     run::<Brand, R, G>(rt, alloc, recording, which, order, threads, gate)
@@ -61,7 +61,7 @@ fn run<J: Job + Send + Sync, R: Threads + Wait + Sync, G: Gate>(
     alloc: Global,
     recording: &Recording,
     which: Which,
-    order: WholeOrder,
+    order: RunOrder,
     threads: u32,
     gate: &G,
 ) -> Result<Joint, AllocError>
@@ -108,7 +108,7 @@ fn worked<J: Job + Send + Sync, R: Threads + Wait + Sync, G: Gate>(
 /// What the table comes to once it is closed with its seats, which are at their cores' totals.
 fn judged<J: Job>(
     alloc: Global,
-    order: WholeOrder,
+    order: RunOrder,
     table: ReplayTable<J>,
     seats: Vec<CoreSeat<J>>,
 ) -> Result<Joint, AllocError>

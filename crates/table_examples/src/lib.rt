@@ -2,7 +2,8 @@
 //! under a gate. It has tests alone, and stands apart so that the crates above the table and the workers don't wait for
 //! it.
 //!
-//! Tested: `replay_table` and `replay_threads`; the gate lets each core's first instruction wait for the other core.
+//! Tested: `replay_table`, `touch_judge` and `replay_threads`; the gate lets each core's first instruction wait for the
+//! other core.
 #![tactic(auto)]
 
 #[cfg(test)]

@@ -1,0 +1,4 @@
+mod KeptClocks
+mod Marking
+mod RunWalk
+mod Verdict
