@@ -25,6 +25,7 @@ use Rattle.cut_moves.proofs.Fronts.{count_is, order_cut}
 use Rattle.cut_moves.proofs.Hulls.{empty_closed, empty_cut, none_in}
 use Rattle.cut_moves.specs.Steps.{last_in, next_in}
 use Rattle.debug_place.specs.Places.{IsReplayAt}
+use Rattle.debug_place.specs.Walks.{FallsShort}
 
 -- the cut of a replay's own counts
 abbrev pub own_cut : Which → Recording → UnderWay → Cut
@@ -42,7 +43,7 @@ module _ {which : Which} {r : Recording} {cut : Cut} {u : UnderWay} (way : IsOnT
       (play_law p way.order way.ordered) in
       subst (λ (g : ℕ → ℕ). PlayKnown p g u.state) (sym by_order.counts) by_order
 
-  same_counts : counts_in u.state ≡ counts nought way.order
+  pub same_counts : counts_in u.state ≡ counts nought way.order
   same_counts = ap (λ (s : Outcome). counts_in s) way.state_is ∙ (play_law p way.order way.ordered).counts
 
   pub own_closed : IsClosed which r (own_cut which r u)
@@ -152,11 +153,11 @@ on_err (Ok x) P h = tt
 on_err (Err e) P h = h
 
 -- at the cut that was wanted or, refused, at its own, so at its own anyway
-pub at_either : {T E : Type 0} (answer : Result T E) (which : Which) (r : Recording) (to : Cut) (u : UnderWay) →
-    Valid r → OnOk answer (IsReplayAt which r to u) → OnErr answer (IsReplayAt which r (own_cut which r u) u) →
+pub at_either : {T E : Type 0} (answer : Result T E) (which : Which) (r : Recording) (to : Cut) (old u : UnderWay) →
+    Valid r → OnOk answer (IsReplayAt which r to u) → OnErr answer (FallsShort which r to old u) →
     IsReplayAt which r (own_cut which r u) u
-at_either (Ok x) which r to u valid ok err = own_at ok valid
-at_either (Err e) which r to u valid ok err = err
+at_either (Ok x) which r to old u valid ok err = own_at ok valid
+at_either (Err e) which r to old u valid ok err = err.at
 
 pub cut_wanted : {T E : Type 0} (answer : Result T E) (which : Which) (r : Recording) (to : Cut) (u : UnderWay) →
     Valid r →

@@ -1,7 +1,7 @@
 -- A replay goes on until a test stops it: so far the test has stopped it nowhere, and its state is what the places so
 -- far play to.
 use Rattle.std.proofs.Common.{◌≡◌, ℕ, ◌+◌, ◌<◌, ◌≤◌, Bool, true, false, List, [], ◌∷◌, ◌++◌, length, take, drop, get_or}
-use Rattle.std.proofs.Common.{refl, sym, ap, subst, ◌∙◌, add-one}
+use Rattle.std.proofs.Common.{refl, sym, ap, subst, ◌∙◌, add-one, arith}
 use Rattle.std.specs.Prelude.{Option, Some, None, Result, Ok, Err, IfOk, OnErr, MatchOption}
 use Rattle.std.proofs.Math.Seq.{drop-cons}
 use Rattle.std.proofs.lemmas.List.{take-append-drop, take_all, take_more}
@@ -11,13 +11,16 @@ use Rattle.rv_core.specs.declared.outcome.Outcome.{Outcome}
 use Rattle.race_log.specs.declared.recording.Recording.{Recording}
 use Rattle.race_log.specs.Validity.{Valid}
 use Rattle.replay_core.specs.Answers.{UnderWay}
+use Rattle.replay_core.specs.Orders.{counts_in}
 use Rattle.replay_core.specs.Plans.{Plan, plan_of}
 use Rattle.replay_core.specs.Play.{place, play}
 use Rattle.replay_core.proofs.Lists.{play_on}
+use Rattle.replay_audit.specs.Determinate.{Decides}
 use Rattle.debug_place.specs.Places.{IsReplayAt}
-use Rattle.debug_place.specs.Stops.{IsFirstStop, NoneStops}
-use Rattle.debug_place.specs.Walks.{EndsWalk, IsWalking}
+use Rattle.debug_place.specs.Stops.{BreaksOff, IsFirstStop, NoneStops, way_to}
+use Rattle.debug_place.specs.Walks.{EndsWalk, FallsShortUnstopped, IsWalking}
 use Rattle.debug_place.proofs.OwnCuts.{own_at, own_cut, own_is}
+use Rattle.debug_place.proofs.ShortWay.{place_of, short_on, stands_between}
 
 none_more : (test : Plan → Outcome → ℕ → Bool) (p : Plan) (s : Outcome) (places : List ℕ) (core : ℕ) →
     NoneStops test p s places → test p (play p s places) core ≡ false → NoneStops test p s (places ++ core ∷ [])
@@ -30,6 +33,7 @@ pub record IsPast (test : Plan → Outcome → ℕ → Bool) (which : Which) (r 
   pub walking : IsWalking which r to new (drop i places)
   pub none : NoneStops test (plan_of which r) old.state (take i places)
   pub state : new.state ≡ play (plan_of which r) old.state (take i places)
+  pub gone_on : (core : ℕ) → counts_in old.state core ≤ counts_in new.state core
 
 module _ (test : Plan → Outcome → ℕ → Bool) (which : Which) (r : Recording) (to : Cut) (old : UnderWay)
     (places : List ℕ) (i : ℕ) (u : UnderWay) (past : IsPast test which r to old places i u) where
@@ -59,8 +63,9 @@ module _ (test : Plan → Outcome → ℕ → Bool) (which : Which) (r : Recordi
 
   pub past_more : i < length places → (answer : Bool) → answer ≡ test u.plan u.state (get_or places i 0) →
       answer ≡ false → (w : UnderWay) → IsWalking which r to w (drop (i + 1) places) →
-      w.state ≡ place (plan_of which r) u.state (get_or places i 0) → IsPast test which r to old places (i + 1) w
-  past_more within answer is not_so w walking placed =
+      w.state ≡ place (plan_of which r) u.state (get_or places i 0) →
+      ((of : ℕ) → counts_in u.state of ≤ counts_in w.state of) → IsPast test which r to old places (i + 1) w
+  past_more within answer is not_so w walking placed further =
       let core = get_or places i 0 in
       let more : take (i + 1) places ≡ take i places ++ core ∷ [] = take_more places i 0 within in
       record {
@@ -71,14 +76,46 @@ module _ (test : Plan → Outcome → ℕ → Bool) (which : Which) (r : Recordi
         state = placed ∙ ap (λ (s : Outcome). place p s core) past.state
             ∙ sym (play_on p old.state (take i places) (core ∷ []))
             ∙ ap (λ (front : List ℕ). play p old.state front) (sym more);
+        gone_on = λ of. let before = past.gone_on of in let more = further of in omega arith;
       }
+
+  -- memory ran out before the next place
+  pub past_short : (whole : List ℕ) → Decides (plan_of which r) whole → (v : UnderWay) → v.plan ≡ u.plan →
+      v.state ≡ u.state → FallsShortUnstopped test which r to old places v
+  past_short whole decides v same_plan same_state = record {
+    short = short_on past.walking.way whole decides old past.gone_on v same_plan same_state;
+    front = take i places;
+    rest = drop i places;
+    split = sym (take-append-drop i places);
+    before = past.none;
+    state = same_state ∙ past.state;
+  }
 
   pub past_all : length places ≤ i → NoneStops test (plan_of which r) old.state places
   past_all all = subst (λ (front : List ℕ). NoneStops test p old.state front) (take_all i places all) past.none
 
 pub past_none : (test : Plan → Outcome → ℕ → Bool) (which : Which) (r : Recording) (to : Cut) (old : UnderWay)
     (places : List ℕ) → IsWalking which r to old places → IsPast test which r to old places 0 old
-past_none test which r to old places walking = record { walking = walking; none = tt; state = refl }
+past_none test which r to old places walking = record {
+  walking = walking;
+  none = tt;
+  state = refl;
+  gone_on = λ core. omega arith;
+}
+
+-- the place of a replay that fell short
+pub broken_off : {test : Plan → Outcome → ℕ → Bool} {which : Which} {r : Recording} {to : Cut} {old new : UnderWay} →
+    IsReplayAt which r (own_cut which r old) old →
+    FallsShortUnstopped test which r to old (way_to (place_of which r old) to) new →
+    BreaksOff test (place_of which r old) to (place_of which r new)
+broken_off at walked = record {
+  between = stands_between at walked.short;
+  front = walked.front;
+  rest = walked.rest;
+  split = walked.split;
+  before = walked.before;
+  state = walked.state;
+}
 
 -- ---- what a call answered
 
@@ -86,10 +123,10 @@ module _ {E : Type 0} (test : Plan → Outcome → ℕ → Bool) (which : Which)
     (places : List ℕ) (valid : Valid r) where
   pub at_walked : (answer : Result (Option ℕ) E) →
       IfOk answer (λ stopped. EndsWalk test which r to old places new stopped) →
-      OnErr answer (IsReplayAt which r (own_cut which r new) new) → IsReplayAt which r (own_cut which r new) new
+      OnErr answer (FallsShortUnstopped test which r to old places new) → IsReplayAt which r (own_cut which r new) new
   at_walked (Ok None) ok err = own_at ok.1 valid
   at_walked (Ok (Some core)) ok err = ok.1
-  at_walked (Err e) ok err = err
+  at_walked (Err e) ok err = err.short.at
 
   pub walk_wanted : (answer : Result (Option ℕ) E) →
       IfOk answer (λ stopped. EndsWalk test which r to old places new stopped) →

@@ -1,5 +1,5 @@
 -- A replay takes the places of a way: each is due, each goes on, and at the end the replay is at the cut.
-use Rattle.std.proofs.Common.{◌≡◌, ℕ, ◌+◌, ◌<◌, List, [], ◌∷◌, length, drop, get_or, refl, sym, ap, subst, ◌∙◌}
+use Rattle.std.proofs.Common.{◌≡◌, ℕ, ◌+◌, ◌<◌, ◌≤◌, List, [], ◌∷◌, length, drop, get_or, refl, sym, ap, subst, ◌∙◌}
 use Rattle.std.proofs.Common.{add-one, arith}
 use Rattle.std.specs.Prelude.{Option}
 use Rattle.std.proofs.Math.Seq.{drop-cons}
@@ -13,7 +13,7 @@ use Rattle.replay_core.specs.Answers.{Retires, UnderWay}
 use Rattle.replay_core.specs.Orders.{Ordered, Ready, bump, counts_in}
 use Rattle.replay_core.specs.Plans.{Plan, plan_of}
 use Rattle.replay_core.specs.Play.{place}
-use Rattle.replay_core.proofs.Counts.{bump_here, counts_more}
+use Rattle.replay_core.proofs.Counts.{bump_here, bump_more, counts_more}
 use Rattle.replay_core.proofs.Places.{place_known}
 use Rattle.replay_core.proofs.Ready.{ready_is}
 use Rattle.replay_audit.specs.Determinate.{Decides}
@@ -73,7 +73,7 @@ module _ {which : Which} {r : Recording} {to : Cut} {u : UnderWay} (core : ℕ) 
   }
 
   module _ {w : UnderWay} (taken : HasTaken which r to u core w) where
-    one_more : counts_in w.state ≡ bump f core
+    pub one_more : counts_in w.state ≡ bump f core
     one_more = ap (λ (s : Outcome). counts_in s) taken.state
         ∙ (place_known p f u.state core (known walking.way) walking.ordered.0).counts
 
@@ -105,6 +105,15 @@ module _ {which : Which} {r : Recording} {to : Cut} {u : UnderWay} (places : Lis
   pub taken_at : {w : UnderWay} → HasTaken which r to u (get_or places i 0) w →
       IsWalking which r to w (drop (i + 1) places)
   taken_at taken = walk_more (get_or places i 0) (drop (i + 1) places) (next_first places i within walking) taken
+
+  pub gone_further : {w : UnderWay} → HasTaken which r to u (get_or places i 0) w → (of : ℕ) →
+      counts_in u.state of ≤ counts_in w.state of
+  gone_further {w = w} taken of =
+      let one : counts_in w.state of ≡ bump (counts_in u.state) (get_or places i 0) of =
+      ap (λ (g : ℕ → ℕ). g of)
+      (one_more (get_or places i 0) (drop (i + 1) places) (next_first places i within walking) taken) in
+      let more = bump_more (counts_in u.state) (get_or places i 0) of in
+      omega arith
 
 -- no place is left
 pub arrived : {which : Which} {r : Recording} {to : Cut} {u : UnderWay} → IsWalking which r to u [] → (whole : List ℕ) →

@@ -1,14 +1,15 @@
 //! A place that moves.
 ghost use Rattle.std.specs.Prelude.{◌≡◌, ◌<◌, ◌↔◌, ℕ, IfOk, IsTrue, OnErr, OnOk, slice_index};
+ghost use Rattle.rtr_types.specs.declared.cut.Cut.{Cut};
 ghost use Rattle.replay_core.specs.Answers.{UsesWithin};
 ghost use Rattle.replay_core.specs.Play.{core_at, need_at, use_of};
 ghost use Rattle.replay_audit.specs.Audits.{IsInstrOf};
 ghost use Rattle.cut_replay.specs.ClosedCuts.{IsClosed, IsContained, count_in};
 ghost use Rattle.cut_moves.specs.Rounds.{rounds_of};
 ghost use Rattle.cut_moves.specs.Steps.{IsStep, IsStepBack, last_in, next_in};
-ghost use Rattle.debug_place.specs.Places.{IsKept, Stands, cut_at, plan_at};
+ghost use Rattle.debug_place.specs.Places.{IsKept, Stands, StandsBetween, cut_at, plan_at};
 ghost use Rattle.debug_place.specs.Backs.{GoesBack};
-ghost use Rattle.debug_place.specs.Stops.{GoesOn};
+ghost use Rattle.debug_place.specs.Stops.{BreaksOff, GoesOn};
 
 use crate::looks::last_stop;
 use crate::stops::Stops;
@@ -132,6 +133,7 @@ impl<'a> Place<'a> {
         requires within { IsContained (cut_at self.old) to.now }
         ensures kept { IsKept self.old self.new }
         ensures ok { OnOk result (cut_at self.new ≡ to.now) }
+        ensures err { OnErr result (StandsBetween (cut_at self.old) to.now self.new) }
     {
         let low = self.replay.cut();
         go_on(
@@ -162,12 +164,14 @@ impl<'a> Place<'a> {
 
     /// Goes on to a closed cut that contains the present one, place by place along the timeline, until the test stops
     /// it before a core takes its next instruction. It answers which core that is, or that it came to the cut. It is
-    /// refused for want of memory alone, and then the place is at a closed cut between the two.
+    /// refused for want of memory alone, and then the place is at a closed cut between the two, and the test stopped it
+    /// before none of the places that it took.
     pub fn go_to<S: Stops>(&mut self, alloc: Global, stops: &S, to: &Cut) -> Stopped
         requires closed { IsClosed self.old.which self.old.recording to.now }
         requires within { IsContained (cut_at self.old) to.now }
         ensures kept { IsKept self.old self.new }
         ensures ok { IfOk result (GoesOn (S.stops stops.now) self.old to.now self.new) }
+        ensures err { OnErr result (BreaksOff (S.stops stops.now) self.old to.now self.new) }
     {
         let low = self.replay.cut();
         go_until(
@@ -215,6 +219,8 @@ impl<'a> Place<'a> {
         ensures kept { IsKept self.old self.new }
         ensures ok { OnOk result (IsStep self.old.which self.old.recording (cut_at self.old)
             (next_in (cut_at self.old) core) (cut_at self.new)) }
+        ensures err { OnErr result ((to : Cut) × IsStep self.old.which self.old.recording (cut_at self.old)
+            (next_in (cut_at self.old) core) to × StandsBetween (cut_at self.old) to self.new) }
     {
         let to = step(self.audited, &self.cut(), core)?;
         self.move_on(alloc, &to)

@@ -1,14 +1,11 @@
 //! A replay that goes on along a way.
 ghost use Rattle.std.specs.Prelude.{◌≡◌, IfOk, OnErr, OnOk};
-ghost use Rattle.replay_core.specs.Answers.{cut_of};
-ghost use Rattle.replay_core.specs.Orders.{counts_in};
-ghost use Rattle.replay_core.specs.Plans.{plan_of};
 ghost use Rattle.cut_replay.specs.ClosedCuts.{IsClosed, IsContained, count_in};
 ghost use Rattle.cut_replay.specs.Dues.{IsDue, IsOnTheWay};
 ghost use Rattle.cut_moves.specs.Rounds.{rounds_of};
 ghost use Rattle.cut_moves.specs.Ways.{way_of};
 ghost use Rattle.debug_place.specs.Places.{IsReplayAt};
-ghost use Rattle.debug_place.specs.Walks.{EndsWalk, HasTaken, IsWalking};
+ghost use Rattle.debug_place.specs.Walks.{EndsWalk, FallsShort, FallsShortUnstopped, HasTaken, IsWalking};
 
 use crate::stops::Stops;
 use cut_moves::{Timeline, way};
@@ -61,8 +58,7 @@ pub(crate) fn go_on(
     requires within { IsContained low.now high.now }
     requires closed { IsClosed audited.now.which audited.now.recording high.now }
     ensures ok { OnOk result (IsReplayAt audited.now.which audited.now.recording high.now replay.new) }
-    ensures err { OnErr result (IsReplayAt audited.now.which audited.now.recording
-        (cut_of (plan_of audited.now.which audited.now.recording) (counts_in replay.new.state)) replay.new) }
+    ensures err { OnErr result (FallsShort audited.now.which audited.now.recording high.now replay.old replay.new) }
 {
     // The audit passed, so each order plays.
     let _ = audited.outcome();
@@ -75,8 +71,7 @@ pub(crate) fn go_on(
 fn walk(audited: &Audited, replay: &mut Replay, to: &Cut, places: &[u8]) -> Result<(), AllocError>
     requires { IsWalking audited.now.which audited.now.recording to.now replay.old places.now }
     ensures ok { OnOk result (IsReplayAt audited.now.which audited.now.recording to.now replay.new) }
-    ensures err { OnErr result (IsReplayAt audited.now.which audited.now.recording
-        (cut_of (plan_of audited.now.which audited.now.recording) (counts_in replay.new.state)) replay.new) }
+    ensures err { OnErr result (FallsShort audited.now.which audited.now.recording to.now replay.old replay.new) }
 {
     // The audit passed, so each order plays.
     let _ = audited.outcome();
@@ -96,8 +91,8 @@ pub(crate) fn take_place(
     requires way { IsOnTheWay audited.now.which audited.now.recording to.now replay.old }
     requires due { IsDue to.now replay.old core }
     ensures ok { OnOk result (HasTaken audited.now.which audited.now.recording to.now replay.old core replay.new) }
-    ensures err { OnErr result (IsReplayAt audited.now.which audited.now.recording
-        (cut_of (plan_of audited.now.which audited.now.recording) (counts_in replay.new.state)) replay.new) }
+    ensures err_plan { OnErr result (replay.new.plan ≡ replay.old.plan) }
+    ensures err_state { OnErr result (replay.new.state ≡ replay.old.state) }
 {
     // The audit passed, so each order plays.
     let _ = audited.outcome();
@@ -109,7 +104,7 @@ pub(crate) fn take_place(
 }
 
 /// The replay goes on as far as to another closed cut, along the timeline, and answers before which core's place it
-/// stopped. After want of memory it stands at a closed cut between the two.
+/// stopped. After want of memory it stands at a closed cut between the two, and was stopped nowhere.
 pub(crate) fn go_until<S: Stops>(
     alloc: Global,
     audited: &Audited,
@@ -125,8 +120,8 @@ pub(crate) fn go_until<S: Stops>(
     requires closed { IsClosed audited.now.which audited.now.recording high.now }
     ensures ok { IfOk result (λ stopped. EndsWalk (S.stops stops.now) audited.now.which audited.now.recording high.now
         replay.old (way_of (count_in low.now) (count_in high.now) timeline.now) replay.new stopped) }
-    ensures err { OnErr result (IsReplayAt audited.now.which audited.now.recording
-        (cut_of (plan_of audited.now.which audited.now.recording) (counts_in replay.new.state)) replay.new) }
+    ensures err { OnErr result (FallsShortUnstopped (S.stops stops.now) audited.now.which audited.now.recording high.now
+        replay.old (way_of (count_in low.now) (count_in high.now) timeline.now) replay.new) }
 {
     // The audit passed, so each order plays.
     let _ = audited.outcome();
@@ -146,8 +141,8 @@ fn walk_until<S: Stops>(
     requires { IsWalking audited.now.which audited.now.recording to.now replay.old places.now }
     ensures ok { IfOk result (λ stopped. EndsWalk (S.stops stops.now) audited.now.which audited.now.recording to.now
         replay.old places.now replay.new stopped) }
-    ensures err { OnErr result (IsReplayAt audited.now.which audited.now.recording
-        (cut_of (plan_of audited.now.which audited.now.recording) (counts_in replay.new.state)) replay.new) }
+    ensures err { OnErr result (FallsShortUnstopped (S.stops stops.now) audited.now.which audited.now.recording to.now
+        replay.old places.now replay.new) }
 {
     // The audit passed, so each order plays.
     let _ = audited.outcome();

@@ -1,11 +1,11 @@
--- Rule: a debugger's session on a recording, up to an exit: Debugs, IsHeld, IsDeclined
+-- Rule: a debugger's session on a recording, up to an exit: Debugs, IsHeld, IsDeclined, IsInPart
 -- A debugger's session on a recording: what is heard and said, and what each way to end says of the recording.
 use Rattle.std.specs.Prelude.{◌≡◌, ℕ, ◌⊎◌, false, true, List, [], Option, None}
 use Rattle.std.specs.Io.KnownBytes.{IsAtEnd, Keeps}
 use Rattle.gdb_packets.specs.Frames.{Between}
 use Rattle.gdb_packets.specs.Lines.{Wire, payload_in}
 use Rattle.gdb_packets.specs.declared.line.Line.{Line}
-use Rattle.gdb_server.specs.Sessions.{GreetsNobody, GreetsSome, Talked}
+use Rattle.gdb_server.specs.Sessions.{GreetsInPart, GreetsNobody, GreetsSome, Talked, TalkedInPart}
 use Rattle.gdb_server.specs.Wires.{behind_byte}
 use Rattle.gdb_server.specs.Words.{StreamsPassed, Word}
 use Rattle.gdb_session.specs.Answers.{AnswersPacket}
@@ -37,6 +37,12 @@ pub record Converses (a : Findings) (wire : Wire) (payload : List ℕ) (passed :
   pub last : Seat
   pub begins : Begins a first
   pub talked : Talked AnswersPacket (λ old new. new ≡ interrupted old) wire first payload last passed over
+
+-- it broke off: before it began, or in it
+abbrev pub ConversesInPart : (a : Findings) → Wire → (payload : List ℕ) → (passed : List Word → Type 0) → Type 0
+ConversesInPart a wire payload passed =
+    passed [] ⊎ ((first : Seat) × Begins a first
+    × TalkedInPart AnswersPacket (λ old new. new ≡ interrupted old) wire first payload passed)
 
 -- the recording that its source had left was read to its end, it is determinate by the log, and this is its audit
 pub record IsAudited (which : Which) (file file' : Option (List ℕ)) (a : Findings) : Type 0 where
@@ -76,16 +82,35 @@ module _ {C : Type 0} where
     pub greeted : GreetsSome first_wire line (λ words. passed old words new)
     pub declines : Declines which exit file file'
 
+  -- the first packet was heard and acknowledged, and a session on the recording broke off
+  pub record IsHeldInPart (passed : C → List Word → C → Type 0) (which : Which) (file file' : Option (List ℕ))
+      (old new : C) : Type 0 where
+    pub line : Line
+    pub behind : C
+    pub greeted : GreetsSome first_wire line (λ words. passed old words behind)
+    pub findings : Findings
+    pub audited : IsAudited which file file' findings
+    pub session : ConversesInPart findings (behind_byte greeted.before greeted.byte) (payload_in line)
+        (λ words. passed behind words new)
+
+  -- what passed is a front of what passes in a session: up to the acknowledgement of the first packet, or further
+  abbrev pub IsInPart : (passed : C → List Word → C → Type 0) → Which → (file file' : Option (List ℕ)) → (old new : C)
+      → Type 0
+  IsInPart passed which file file' old new =
+      GreetsInPart first_wire (λ words. passed old words new) ⊎ IsHeldInPart passed which file file' old new
+
   -- what each way to end says of the recording that its source had left, and of what passed in the conversation. At a
-  -- fault, and where memory ran out, no more of the recording was taken than `replay` takes
+  -- fault, and where memory ran out, no more of the recording was taken than `replay` takes, and what passed is a front
   abbrev pub Debugs : (passed : C → List Word → C → Type 0) → Which → Exit → (file file' : Option (List ℕ)) →
       (old new : C) → (over : Type 0) → Type 0
   Debugs passed which exits.Done file file' old new over =
       IsUnasked passed file file' old new over ⊎ IsHeld passed which file file' old new over
-  Debugs passed which exits.ReadFault file file' old new over = IsTakenUpTo (most_of (replayed_by which)) file file'
-  Debugs passed which exits.WriteFault file file' old new over = IsTakenUpTo (most_of (replayed_by which)) file file'
+  Debugs passed which exits.ReadFault file file' old new over =
+      IsTakenUpTo (most_of (replayed_by which)) file file' × IsInPart passed which file file' old new
+  Debugs passed which exits.WriteFault file file' old new over =
+      IsTakenUpTo (most_of (replayed_by which)) file file' × IsInPart passed which file file' old new
   Debugs passed which exits.OutOfMemory file file' old new over =
-      IsTakenUpTo (one_more (most_of (replayed_by which))) file file'
+      IsTakenUpTo (one_more (most_of (replayed_by which))) file file' × IsInPart passed which file file' old new
   Debugs passed which exit file file' old new over = IsDeclined passed which exit file file' old new
 
 -- ---- over two streams

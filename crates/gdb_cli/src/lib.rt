@@ -2,7 +2,8 @@
 //! file of a moment. The words of the latter are those of `rtr at`, which prints the same state.
 //!
 //! Proved: at `Done`, `debug` held a session by `gdb_session`'s definitions, and `write_core` gave the core file of the
-//! moment (clauses `answered`). These clauses stand one by one in docs/PROVED.md.
+//! moment; at a fault or for want of memory, `debug` held a front of a session (clauses `answered`). These clauses
+//! stand one by one in docs/PROVED.md.
 #![tactic(auto)]
 
 mod cores;

@@ -1,10 +1,10 @@
 //! A debugger's session on a recording.
-ghost use Rattle.std.specs.Prelude.{◌≡◌, ◌⊎◌, ℕ, IsErrOf, List, OnOk};
+ghost use Rattle.std.specs.Prelude.{◌≡◌, ◌⊎◌, ℕ, IsErrOf, List, OnErr, OnOk};
 ghost use Rattle.gdb_packets.specs.Lines.{Shows, Wire, payload_in};
 ghost use Rattle.rtr_cli.specs.Inputs.{most_of};
 ghost use Rattle.rtr_cli.specs.Completeness.{Accepts, EndsWell, HasLeft, IsFaultless};
 ghost use Rattle.rtr_io.specs.Faults.{HasRisen, IsUnlessFault};
-ghost use Rattle.gdb_cli.specs.Sessions.{Converses, Debugs, replayed_by};
+ghost use Rattle.gdb_cli.specs.Sessions.{Converses, ConversesInPart, Debugs, replayed_by};
 
 use crate::recordings::audited_in;
 use gdb_packets::Line;
@@ -27,8 +27,8 @@ use std::alloc::{AllocError, Global};
 ///
 /// `Done` comes where a packet has ended the session, or the input has. Where it ends before a first packet,
 /// nothing was asked of the recording. Everything else ends just as `rtr replay` ends, and where it ends there; but
-/// for `ReadFault`, `WriteFault` and `OutOfMemory` nothing was said then beside acknowledgements. `ReadFault` is of
-/// either source.
+/// for `ReadFault`, `WriteFault` and `OutOfMemory` nothing was said then beside acknowledgements. At these three what
+/// was heard and said is a front of a session. `ReadFault` is of either source.
 pub fn debug<F: Source, C: Conversation>(
     alloc: Global,
     which: Which,
@@ -88,6 +88,8 @@ fn converse<C: Conversation>(
     ensures conversed { (wire : Wire) → Shows wire line.old → OnOk result (Converses audited.now wire
         (payload_in line.old) (λ words. C.passed conversation.old words conversation.new)
         (C.is_over conversation.new)) }
+    ensures broken { (wire : Wire) → Shows wire line.old → OnErr result (ConversesInPart audited.now wire
+        (payload_in line.old) (λ words. C.passed conversation.old words conversation.new)) }
     ensures read_fault { IsErrOf result TalkFault.ReadFault →
         HasRisen (C.read_faults conversation.old) (C.read_faults conversation.new) }
     ensures no_read_fault { IsUnlessFault TalkFault.ReadFault result (C.read_faults conversation.old)

@@ -2,14 +2,13 @@
 -- one keeps in a session; both say where the line stands behind the bytes so far, and how many there were.
 use Rattle.std.proofs.Common.{◌≡◌, ◌∙◌, refl, sym, ap, subst, append_assoc, ℕ, ◌+◌, ◌<◌, ◌≤◌, ◌&&◌, not, true, false}
 use Rattle.std.proofs.Common.{Bool, List, []}
-use Rattle.std.proofs.Common.{◌∷◌, ◌++◌, length, get_or, take, inl, inr, map}
+use Rattle.std.proofs.Common.{◌∷◌, ◌++◌, length, get_or, take, inl, inr}
 use Rattle.std.proofs.Common.{IfOk, OnOk, Result, Ok, Err, Option}
 use Rattle.std.specs.Io.KnownBytes.{Appends}
 use Rattle.gdb_server.specs.Passing.{saying_passed}
 use Rattle.rtr_io.specs.Faults.{IsUnlessFault}
 use Rattle.std.proofs.lemmas.List.{append-nil, length-append, take_more}
 use Rattle.std.proofs.lemmas.List.Concat.{flat_map-append}
-use Rattle.std.specs.Prelude.{◌⊎◌}
 use Rattle.gdb_packets.specs.Frames.{Event, Nothing, Packet, Broken, Interrupt, Again, framed, tells}
 use Rattle.gdb_packets.specs.Lines.{Shows, Wire, payload_in}
 use Rattle.gdb_packets.specs.Readers.{event_of}
@@ -25,7 +24,7 @@ use Rattle.gdb_server.specs.Sessions.{GreetsNobody, GreetsSome, IsNoPacket, IsSa
 use Rattle.gdb_server.specs.Sessions.{Talking, Talks, Turn}
 use Rattle.gdb_server.specs.Sessions.{heard_max, listening}
 use Rattle.gdb_server.specs.Wires.{behind_answer, behind_byte, frames, heard_at, is_last, last_frame, stops_acks}
-use Rattle.gdb_server.specs.Words.{Heard, Said, StreamsPassed, Word, saying}
+use Rattle.gdb_server.specs.Words.{Said, StreamsPassed, Word, saying}
 
 -- ---- frames
 
@@ -77,7 +76,7 @@ shows_on wire answer line keeps shows =
 
 -- ---- words
 
-saying-append : (first more : List ℕ) → saying (first ++ more) ≡ saying first ++ saying more
+pub saying-append : (first more : List ℕ) → saying (first ++ more) ≡ saying first ++ saying more
 saying-append [] more = refl
 saying-append (byte ∷ rest) more = ap (λ (l : List Word). Said byte ∷ l) (saying-append rest more)
 

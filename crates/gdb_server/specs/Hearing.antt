@@ -1,5 +1,5 @@
 -- One byte heard, and one packet answered.
-use Rattle.std.specs.Prelude.{◌≡◌, ℕ, Bool, true, false, List, []}
+use Rattle.std.specs.Prelude.{◌≡◌, ◌⊎◌, ℕ, Bool, true, false, List, []}
 use Rattle.gdb_packets.specs.Frames.{Event, tells}
 use Rattle.gdb_packets.specs.Lines.{Shows, Wire, payload_in}
 use Rattle.gdb_packets.specs.Readers.{event_of}
@@ -8,9 +8,9 @@ use Rattle.gdb_packets.specs.declared.reader.Told as outcome
 use Rattle.gdb_packets.specs.declared.reader.Told.TheVariants as told_as
 use Rattle.gdb_server.specs.declared.partner.Answer.{Answer}
 use Rattle.gdb_server.specs.declared.partner.Next.{Next}
-use Rattle.gdb_server.specs.Sessions.{LeadsTo, Side}
+use Rattle.gdb_server.specs.Sessions.{LeadsInPart, LeadsTo, Side}
 use Rattle.gdb_server.specs.Wires.{behind_answer, behind_byte, frames, heard_at, is_last}
-use Rattle.gdb_server.specs.Words.{Word, saying}
+use Rattle.gdb_server.specs.Words.{IsFront, Word, saying}
 
 -- nothing was heard or said
 pub record HearsNothing {C : Type 0} (passed : C → List Word → C → Type 0) (wire : Wire) (line : Line) (old new : C)
@@ -55,3 +55,17 @@ pub record Follows {P C : Type 0} (answers : P → List ℕ → P → Answer →
   pub over_is : to.over ≡ is_last next
   pub shows : Shows to.wire line
   pub passed_is : passed old (saying more) new
+
+-- of a byte, and what has to be said at once behind it, a front passed
+pub record HearsInPart {C : Type 0} (passed : C → List Word → C → Type 0) (wire : Wire) (old new : C) : Type 0 where
+  pub byte : ℕ
+  pub part : List Word
+  pub front : IsFront part (heard_at wire byte)
+  pub passed_is : passed old part new
+
+-- nothing was said of what an event leads to, or a front
+abbrev pub FollowsInPart : {P C : Type 0} → (answers : P → List ℕ → P → Answer → Type 0) (interrupts : P → P → Type 0)
+    (passed : C → List Word → C → Type 0) → Wire → P → Event → (old new : C) → Type 0
+FollowsInPart answers interrupts passed wire partner event old new =
+    passed old [] new
+    ⊎ ((part : List Word) × LeadsInPart answers interrupts wire partner event part × passed old part new)

@@ -1,5 +1,5 @@
 -- What passes over two streams: nothing, one piece after the other, a byte, and bytes that are said.
-use Rattle.std.proofs.Common.{◌≡◌, ◌∙◌, refl, sym, ap, subst, ℕ, List, [], ◌∷◌, ◌++◌, Option, Some, None, append-nil}
+use Rattle.std.proofs.Common.{◌≡◌, refl, sym, ap, subst, ℕ, List, [], ◌∷◌, ◌++◌, Option, Some, None, append-nil}
 use Rattle.std.specs.Io.KnownBytes.{Appends, Consumes}
 use Rattle.rtr_io.proofs.MovedLemmas.{Appends-append, Consumes-append}
 use Rattle.gdb_server.specs.Words.{Heard, Said, StreamsPassed, Word, heard_in, said_in, saying}

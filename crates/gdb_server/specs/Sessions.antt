@@ -1,4 +1,4 @@
--- Rule: a debugger's session in a conversation: Greets, Talks, Talked
+-- Rule: a debugger's session in a conversation: Greets, Talks, Talked, GreetsInPart, TalkedInPart
 -- A debugger's session: what is heard byte by byte, and what is said behind each byte, before the next is heard.
 use Rattle.std.specs.Prelude.{◌≡◌, ℕ, ◌-◌, ◌^◌, ◌≤◌, ◌⊎◌, Bool, true, false, List, [], ◌∷◌, ◌++◌, length}
 use Rattle.gdb_packets.specs.Frames.{Event, Packet, Interrupt, tells}
@@ -6,7 +6,7 @@ use Rattle.gdb_packets.specs.Lines.{Shows, Wire, payload_in}
 use Rattle.gdb_packets.specs.declared.line.Line.{Line}
 use Rattle.gdb_server.specs.declared.partner.Answer.{Answer}
 use Rattle.gdb_server.specs.Wires.{behind_answer, behind_byte, frames, heard_at, is_last}
-use Rattle.gdb_server.specs.Words.{Word, saying}
+use Rattle.gdb_server.specs.Words.{IsFront, Word, saying}
 
 -- the most bytes that are heard of one session
 abbrev pub heard_max : ℕ
@@ -47,6 +47,18 @@ pub record GreetsNobody (wire : Wire) (passed : List Word → Type 0) (over : Ty
   pub is_said : IsSaidTo wire heard words behind
   pub passed_is : passed words
   pub ends : over ⊎ (heard_max ≤ length heard)
+
+-- it broke off: bytes were heard, none of which ended a packet; and of one more, and what has to be said at once behind
+-- it, a front passed
+pub record GreetsInPart (wire : Wire) (passed : List Word → Type 0) : Type 0 where
+  pub heard : List ℕ
+  pub words : List Word
+  pub behind : Wire
+  pub is_said : IsSaidTo wire heard words behind
+  pub byte : ℕ
+  pub part : List Word
+  pub front : IsFront part (heard_at behind byte)
+  pub passed_is : passed (words ++ part)
 
 -- whether a packet came
 abbrev pub Greets : Wire → (some : Bool) → Line → (passed : List Word → Type 0) → (over : Type 0) → Type 0
@@ -113,3 +125,40 @@ module _ {P : Type 0} where
     pub to : Side P
     pub talking : Talking answers interrupts wire partner payload partner' passed heard to
     pub ends : (to.over ≡ true) ⊎ (over ⊎ (heard_max ≤ length heard))
+
+  -- ---- a session that breaks off
+
+  -- a front of what an event leads to was said
+  pub record LeadsInPart (answers : P → List ℕ → P → Answer → Type 0) (interrupts : P → P → Type 0) (wire : Wire)
+      (partner : P) (event : Event) (part : List Word) : Type 0 where
+    pub said : List ℕ
+    pub new : Side P
+    pub leads : LeadsTo answers interrupts wire partner event said new
+    pub front : IsFront part (saying said)
+
+  -- a front of a turn passed: of what has to be said at once, or of what its event leads to as well
+  pub record TurnsInPart (answers : P → List ℕ → P → Answer → Type 0) (interrupts : P → P → Type 0) (old : Side P)
+      (part : List Word) : Type 0 where
+    pub listens : old.over ≡ false
+    pub byte : ℕ
+    pub whole : List Word
+    pub is_whole : (whole ≡ heard_at old.wire byte) ⊎ ((new : Side P) × Turn answers interrupts old byte whole new)
+    pub front : IsFront part whole
+
+  -- a packet was answered, bytes were heard behind it, and of one turn more a front passed
+  pub record BreaksOff (answers : P → List ℕ → P → Answer → Type 0) (interrupts : P → P → Type 0) (wire : Wire)
+      (partner : P) (payload : List ℕ) (passed : List Word → Type 0) : Type 0 where
+    pub heard : List ℕ
+    pub partner' : P
+    pub to : Side P
+    pub part : List Word
+    pub talking : Talking answers interrupts wire partner payload partner' (λ words. passed (words ++ part)) heard to
+    pub in_turn : TurnsInPart answers interrupts to part
+
+  -- a session broke off: before the first answer, in it, or in a turn behind it
+  abbrev pub TalkedInPart : (answers : P → List ℕ → P → Answer → Type 0) (interrupts : P → P → Type 0) → Wire → P
+      → (payload : List ℕ) → (passed : List Word → Type 0) → Type 0
+  TalkedInPart answers interrupts wire partner payload passed =
+      passed []
+      ⊎ (((part : List Word) × LeadsInPart answers interrupts wire partner (Packet payload) part × passed part)
+      ⊎ BreaksOff answers interrupts wire partner payload passed)

@@ -1,5 +1,5 @@
 -- The history of a conversation: each byte that is heard and each that is said, in the order in which they pass.
-use Rattle.std.specs.Prelude.{ℕ, List, [], ◌∷◌, map, Option}
+use Rattle.std.specs.Prelude.{◌≡◌, ℕ, List, [], ◌∷◌, ◌++◌, map, Option}
 use Rattle.std.specs.Io.KnownBytes.{Appends, Consumes}
 
 pub data Word : Type 0 where
@@ -9,6 +9,10 @@ pub data Word : Type 0 where
 -- bytes that are said one after the other
 abbrev pub saying : List ℕ → List Word
 saying bytes = map Said bytes
+
+-- these begin those
+abbrev pub IsFront : (part whole : List Word) → Type 0
+IsFront part whole = (rest : List Word) × (whole ≡ part ++ rest)
 
 -- what was heard of a history
 abbrev pub heard_in : List Word → List ℕ

@@ -1,7 +1,7 @@
 //! What is heard and said, in one history.
 ghost use Rattle.std.specs.Prelude.{◌≡◌, ℕ, [], ◌∷◌, ◌++◌, IfOk, List, MatchOption, OnErr, OnOk};
 ghost use Rattle.rtr_io.specs.Faults.{HasRisen};
-ghost use Rattle.gdb_server.specs.Words.{Heard, StreamsPassed, Word, saying};
+ghost use Rattle.gdb_server.specs.Words.{Heard, IsFront, StreamsPassed, Word, saying};
 ghost use Rattle.std.specs.Io.KnownBytes.{IsAtEnd};
 ghost use Rattle.gdb_server.specs.Passing.{nothing_passed, passed_on};
 
@@ -29,17 +29,21 @@ pub trait Conversation {
     /// How many calls failed to say.
     ghost write_faults: { Self → ℕ };
 
-    /// Hears the next byte; none where no byte is left. `Failed` comes only where the count of read faults rose.
+    /// Hears the next byte; none where no byte is left. `Failed` comes only where the count of read faults rose, and
+    /// then nothing was heard.
     fn hear(&mut self) -> Result<Option<u8>, Failed>
         ensures heard { IfOk result (λ heard. MatchOption heard (passed self.old [] self.new × is_over self.new)
             (λ byte. passed self.old (Heard byte ∷ []) self.new)) }
+        ensures unheard { OnErr result (passed self.old [] self.new) }
         ensures ok { OnOk result (read_faults self.new ≡ read_faults self.old) }
         ensures failed { OnErr result (HasRisen (read_faults self.old) (read_faults self.new)) }
         ensures other { write_faults self.new ≡ write_faults self.old };
 
-    /// Says all bytes. The fault comes only where the count of write faults rose.
+    /// Says all bytes. The fault comes only where the count of write faults rose, and then a front of them was said.
     fn say(&mut self, bytes: &[u8]) -> Result<(), WriteFault>
         ensures said { OnOk result (passed self.old (saying bytes.now) self.new) }
+        ensures part { OnErr result ((part : List Word) × IsFront part (saying bytes.now)
+            × passed self.old part self.new) }
         ensures ok { OnOk result (write_faults self.new ≡ write_faults self.old) }
         ensures failed { OnErr result (HasRisen (write_faults self.old) (write_faults self.new)) }
         ensures other { read_faults self.new ≡ read_faults self.old };

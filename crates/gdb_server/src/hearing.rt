@@ -1,9 +1,11 @@
 //! One byte heard, and one packet answered.
-ghost use Rattle.std.specs.Prelude.{◌≡◌, ◌≢◌, Err, IfOk, IsErrOf, MatchOption, OnOk};
+ghost use Rattle.std.specs.Prelude.{◌≡◌, ◌≢◌, Err, IfOk, IsErrOf, MatchOption, OnErr, OnOk};
+ghost use Rattle.gdb_packets.specs.Frames.{Packet};
 ghost use Rattle.gdb_packets.specs.Lines.{Shows, Wire, payload_in};
 ghost use Rattle.gdb_packets.specs.Readers.{event_of};
 ghost use Rattle.rtr_io.specs.Faults.{HasRisen, IsUnlessFault};
-ghost use Rattle.gdb_server.specs.Hearing.{Follows, Hears, HearsNothing, SaysAnswer, is_packet};
+ghost use Rattle.gdb_server.specs.Hearing.{Follows, FollowsInPart, Hears, HearsInPart, HearsNothing, SaysAnswer};
+ghost use Rattle.gdb_server.specs.Hearing.{is_packet};
 ghost use Rattle.gdb_server.specs.Wires.{frames, last_frame};
 ghost use Rattle.gdb_server.specs.declared.hearing.TalkFault.TheVariants as faults;
 
@@ -50,6 +52,8 @@ pub(crate) fn hear<C: Conversation>(
     ensures heard { (wire : Wire) → Shows wire line.old → IfOk result (λ told. MatchOption told
         (HearsNothing C.passed wire line.new conversation.old conversation.new × C.is_over conversation.new)
         (λ event. Hears C.passed wire event line.new conversation.old conversation.new)) }
+    ensures broken { (wire : Wire) → Shows wire line.old →
+        OnErr result (HearsInPart C.passed wire conversation.old conversation.new) }
     ensures read_fault { IsErrOf result TalkFault.ReadFault →
         HasRisen (C.read_faults conversation.old) (C.read_faults conversation.new) }
     ensures no_read_fault { IsUnlessFault TalkFault.ReadFault result (C.read_faults conversation.old)
@@ -89,6 +93,8 @@ pub(crate) fn follow<P: Partner, C: Conversation>(
     ensures followed { (wire : Wire) → Shows wire line.old → IfOk result (λ next. Follows P.answers P.interrupts
         C.passed wire partner.old (event_of told (payload_in line.old)) partner.new next line.new conversation.old
         conversation.new) }
+    ensures broken { (wire : Wire) → OnErr result (FollowsInPart P.answers P.interrupts C.passed wire partner.old
+        (event_of told (payload_in line.old)) conversation.old conversation.new) }
     ensures read_fault { result ≢ Err TalkFault.ReadFault }
     ensures still_read { C.read_faults conversation.new ≡ C.read_faults conversation.old }
     ensures write_fault { IsErrOf result TalkFault.WriteFault →
@@ -117,6 +123,8 @@ pub(crate) fn answer<P: Partner, C: Conversation>(
 ) -> Result<Next, TalkFault>
     ensures said { (wire : Wire) → Shows wire line.old → IfOk result (λ next. SaysAnswer P.answers C.passed wire
         partner.old (payload_in line.old) partner.new next line.new conversation.old conversation.new) }
+    ensures broken { (wire : Wire) → OnErr result (FollowsInPart P.answers P.interrupts C.passed wire partner.old
+        (Packet (payload_in line.old)) conversation.old conversation.new) }
     ensures read_fault { result ≢ Err TalkFault.ReadFault }
     ensures still_read { C.read_faults conversation.new ≡ C.read_faults conversation.old }
     ensures write_fault { IsErrOf result TalkFault.WriteFault →

@@ -10,7 +10,8 @@
 //! answers. It ends at the answer that ends the session, if nothing is left to hear, or after 2^64 - 1 bytes. Both say
 //! so of the conversation's one history: what is owed for a byte stands behind it and before the next byte that is
 //! heard. `Streams` is a conversation over any source and sink; its history is what the one lost and the other got. A
-//! fault comes only if its count rose. Of a session that breaks off nothing is said of what was said.
+//! fault comes only if its count rose. Of a session that breaks off, for a fault or want of memory, a front has passed:
+//! only of the last byte, and of what is owed for it, a part may be missing (`GreetsInPart`, `TalkedInPart`).
 #![tactic(auto)]
 
 mod conversation;

@@ -1,8 +1,8 @@
 //! A session from its first byte on.
-ghost use Rattle.std.specs.Prelude.{IfOk, IsErrOf, OnOk};
+ghost use Rattle.std.specs.Prelude.{IfOk, IsErrOf, OnErr, OnOk};
 ghost use Rattle.gdb_packets.specs.Lines.{Shows, Wire, payload_in};
 ghost use Rattle.rtr_io.specs.Faults.{HasRisen, IsUnlessFault};
-ghost use Rattle.gdb_server.specs.Sessions.{Greets, Talked};
+ghost use Rattle.gdb_server.specs.Sessions.{Greets, GreetsInPart, Talked, TalkedInPart};
 
 use crate::conversation::Conversation;
 use crate::hearing::{TalkFault, answer, follow, hear, is_packet};
@@ -20,6 +20,8 @@ pub fn greet<C: Conversation>(
 ) -> Result<bool, TalkFault>
     ensures greeted { (wire : Wire) → Shows wire line.old → IfOk result (λ some. Greets wire some line.new
         (λ words. C.passed conversation.old words conversation.new) (C.is_over conversation.new)) }
+    ensures broken { (wire : Wire) → Shows wire line.old → OnErr result (GreetsInPart wire
+        (λ words. C.passed conversation.old words conversation.new)) }
     ensures read_fault { IsErrOf result TalkFault.ReadFault →
         HasRisen (C.read_faults conversation.old) (C.read_faults conversation.new) }
     ensures no_read_fault { IsUnlessFault TalkFault.ReadFault result (C.read_faults conversation.old)
@@ -54,6 +56,8 @@ pub fn talk<P: Partner, C: Conversation>(
     ensures talked { (wire : Wire) → Shows wire line.old → OnOk result (Talked P.answers P.interrupts wire partner.old
         (payload_in line.old) partner.new (λ words. C.passed conversation.old words conversation.new)
         (C.is_over conversation.new)) }
+    ensures broken { (wire : Wire) → Shows wire line.old → OnErr result (TalkedInPart P.answers P.interrupts wire
+        partner.old (payload_in line.old) (λ words. C.passed conversation.old words conversation.new)) }
     ensures read_fault { IsErrOf result TalkFault.ReadFault →
         HasRisen (C.read_faults conversation.old) (C.read_faults conversation.new) }
     ensures no_read_fault { IsUnlessFault TalkFault.ReadFault result (C.read_faults conversation.old)

@@ -1,12 +1,14 @@
 use Rattle.std.proofs.Common.{sym, subst}
 use Rattle.debug_place.specs.Walks.{IsWalking}
-use Rattle.debug_place.proofs.OwnCuts.{on_err, own_at}
+use Rattle.debug_place.proofs.OwnCuts.{on_err}
+use Rattle.debug_place.proofs.ShortWay.{short_at}
 use Rattle.debug_place.proofs.WalkedWay.{set_out}
 use Rattle.debug_place.proofs.walks.go_on.Goals as goal
 
 pub returns-in_err-places-clause-err : goal.returns-in_err-places-clause-err
 returns-in_err-places-clause-err c =
-    on_err c.from_residual.result _ (own_at c.requires.at c.recording.ensures.valid)
+    on_err c.from_residual.result _
+    (short_at c.requires.at c.args.high.now c.recording.ensures.valid c.requires.within)
 
 pub walk-requires : goal.walk-requires
 walk-requires c =

@@ -1,15 +1,7 @@
 use Rattle.replay_audit.specs.Determinate.{low_order_of}
 use Rattle.cut_replay.proofs.Ways.{never_short, ready_with_room}
-use Rattle.debug_place.proofs.OwnCuts.{at_own, on_err, with_room}
 use Rattle.debug_place.proofs.WalkedWay.{has_taken}
 use Rattle.debug_place.proofs.walks.take_place.Goals as goal
-
-pub returns-in_err-make_room-clause-err : goal.returns-in_err-make_room-clause-err
-returns-in_err-make_room-clause-err c =
-    let a = c.args.audited.now in
-    on_err c.from_residual.result _
-    (at_own (with_room c.requires.way c.make_room.new.self c.make_room.ensures.plan c.make_room.ensures.state)
-    (low_order_of a.which a.recording) c.outcome.ensures.passed.determinate)
 
 pub advance-requires-clause-ready : goal.advance-requires-clause-ready
 advance-requires-clause-ready c =

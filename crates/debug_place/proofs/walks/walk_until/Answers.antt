@@ -3,8 +3,8 @@ use Rattle.std.proofs.Math.ListN.{drop_of_length-le}
 use Rattle.replay_audit.specs.Determinate.{low_order_of}
 use Rattle.debug_place.specs.Walks.{IsWalking}
 use Rattle.debug_place.proofs.OwnCuts.{at_own, on_err}
-use Rattle.debug_place.proofs.StopTest.{past_all, past_more, stopped_here}
-use Rattle.debug_place.proofs.WalkedWay.{arrived, due_at, taken_at}
+use Rattle.debug_place.proofs.StopTest.{past_all, past_more, past_short, stopped_here}
+use Rattle.debug_place.proofs.WalkedWay.{arrived, due_at, gone_further, taken_at}
 use Rattle.debug_place.proofs.walks.walk_until.Goals as goal
 
 pub returns-then-stops-clause-ok : goal.returns-then-stops-clause-ok
@@ -22,7 +22,13 @@ take_place-requires-clause-due g c =
     due_at c.args.places.now c.loop-core.core-index (omega arith) c.loop-core.invariant.walking
 
 pub returns-in_err-take_place-clause-err : goal.returns-in_err-take_place-clause-err
-returns-in_err-take_place-clause-err g c = on_err c.from_residual.result _ c.in_err-take_place.ensures.err
+returns-in_err-take_place-clause-err g c =
+    let a = c.args.audited.now in
+    on_err c.from_residual.result _
+    (past_short (g.S.Stops.stops c.args.stops.now) a.which a.recording c.args.to.now c.args.replay.now
+    c.args.places.now c.loop-core.core-index c.loop-core.replay c.loop-core.invariant
+    (low_order_of a.which a.recording) c.outcome.ensures.passed.determinate c.take_place.new.replay
+    c.in_err-take_place.ensures.err_plan c.in_err-take_place.ensures.err_state)
 
 pub loop-core-preserved : goal.loop-core-preserved
 loop-core-preserved g c =
@@ -34,6 +40,7 @@ loop-core-preserved g c =
     past_more (g.S.Stops.stops c.args.stops.now) a.which a.recording c.args.to.now c.args.replay.now places i
     c.loop-core.replay past (omega arith) c.stops.result c.stops.ensures c.if-stops.false c.take_place.new.replay
     (taken_at places i (omega arith) past.walking taken) taken.state
+    (gone_further places i (omega arith) past.walking taken)
 
 pub returns-clause-ok : goal.returns-clause-ok
 returns-clause-ok g c =

@@ -1,8 +1,11 @@
 use Rattle.std.proofs.Common.{inl, inr}
 use Rattle.gdb_server.specs.Wires.{behind_byte}
 use Rattle.gdb_cli.proofs.AnswerLemmas.{keeps}
-use Rattle.gdb_cli.proofs.SessionLemmas.{declined}
-use Rattle.gdb_cli.specs.Sessions.{first_wire}
+use Rattle.gdb_cli.proofs.SessionLemmas.{declined, greeted_not, taken_whole}
+use Rattle.rtr_cli.specs.Answers.{one_more}
+use Rattle.rtr_cli.specs.Inputs.{most_of}
+use Rattle.rtr_cli.proofs.RefusalLemmas.{none_taken, taken_up_to}
+use Rattle.gdb_cli.specs.Sessions.{first_wire, replayed_by}
 use Rattle.gdb_cli.proofs.sessions.debug.Goals as goal
 
 pub returns-in-Ok-false-clause-answered : goal.returns-in-Ok-false-clause-answered
@@ -35,3 +38,74 @@ returns-in-Ok-converse-clause-answered g c =
       audited = c.in-Ok-audited_in.ensures.audited;
       session = c.in-Ok-converse.ensures.conversed (behind_byte greeted.before greeted.byte) greeted.shows;
     })
+
+-- ---- it broke off
+
+pub returns-in-Err-clause-answered : goal.returns-in-Err-clause-answered
+returns-in-Err-clause-answered g c = (
+  none_taken (one_more (most_of (replayed_by c.args.which))) (g.F.Source.left c.args.recording.now),
+  inl (greeted_not (g.C.Conversation.nothing c.args.conversation.now)),
+)
+
+pub returns-in-Err-ReadFault-clause-answered : goal.returns-in-Err-ReadFault-clause-answered
+returns-in-Err-ReadFault-clause-answered g c = (
+  none_taken (most_of (replayed_by c.args.which)) (g.F.Source.left c.args.recording.now),
+  inl (c.in-Err-ReadFault.ensures.broken first_wire c.in-Ok.ensures),
+)
+
+pub returns-in-Err-WriteFault-clause-answered : goal.returns-in-Err-WriteFault-clause-answered
+returns-in-Err-WriteFault-clause-answered g c = (
+  none_taken (most_of (replayed_by c.args.which)) (g.F.Source.left c.args.recording.now),
+  inl (c.in-Err-WriteFault.ensures.broken first_wire c.in-Ok.ensures),
+)
+
+pub returns-in-Err-OutOfMemory-clause-answered : goal.returns-in-Err-OutOfMemory-clause-answered
+returns-in-Err-OutOfMemory-clause-answered g c = (
+  none_taken (one_more (most_of (replayed_by c.args.which))) (g.F.Source.left c.args.recording.now),
+  inl (c.in-Err-OutOfMemory.ensures.broken first_wire c.in-Ok.ensures),
+)
+
+pub returns-in-Err-ReadFault-converse-clause-answered : goal.returns-in-Err-ReadFault-converse-clause-answered
+returns-in-Err-ReadFault-converse-clause-answered g c =
+    let greeted = rw c.in-Ok-true.field-0-test at (c.in-Ok-true.ensures.greeted first_wire c.in-Ok.ensures) in
+    let audited = c.in-Ok-audited_in.ensures.audited in (
+      taken_whole (most_of (replayed_by c.args.which)) _ _ audited.bytes audited.read,
+      inr (record {
+        line = c.greet.new.line;
+        behind = c.greet.new.conversation;
+        greeted = greeted;
+        findings = c.in-Ok-audited_in.audited;
+        audited = audited;
+        session = c.in-Err-ReadFault-converse.ensures.broken (behind_byte greeted.before greeted.byte) greeted.shows;
+      }),
+    )
+
+pub returns-in-Err-WriteFault-converse-clause-answered : goal.returns-in-Err-WriteFault-converse-clause-answered
+returns-in-Err-WriteFault-converse-clause-answered g c =
+    let greeted = rw c.in-Ok-true.field-0-test at (c.in-Ok-true.ensures.greeted first_wire c.in-Ok.ensures) in
+    let audited = c.in-Ok-audited_in.ensures.audited in (
+      taken_whole (most_of (replayed_by c.args.which)) _ _ audited.bytes audited.read,
+      inr (record {
+        line = c.greet.new.line;
+        behind = c.greet.new.conversation;
+        greeted = greeted;
+        findings = c.in-Ok-audited_in.audited;
+        audited = audited;
+        session = c.in-Err-WriteFault-converse.ensures.broken (behind_byte greeted.before greeted.byte) greeted.shows;
+      }),
+    )
+
+pub returns-clause-answered : goal.returns-clause-answered
+returns-clause-answered g c =
+    let greeted = rw c.in-Ok-true.field-0-test at (c.in-Ok-true.ensures.greeted first_wire c.in-Ok.ensures) in
+    let audited = c.in-Ok-audited_in.ensures.audited in (
+      taken_up_to (most_of (replayed_by c.args.which)) _ _ audited.bytes audited.read,
+      inr (record {
+        line = c.greet.new.line;
+        behind = c.greet.new.conversation;
+        greeted = greeted;
+        findings = c.in-Ok-audited_in.audited;
+        audited = audited;
+        session = c.in-Err-OutOfMemory-converse.ensures.broken (behind_byte greeted.before greeted.byte) greeted.shows;
+      }),
+    )

@@ -1,8 +1,9 @@
 use Rattle.std.proofs.Common.{◌≡◌, ◌∙◌, refl, sym, ap, subst, List, ℕ, true, false}
-use Rattle.gdb_packets.specs.Lines.{Shows, Wire}
+use Rattle.gdb_packets.specs.Lines.{Shows, Wire, payload_in}
 use Rattle.gdb_server.specs.Wires.{frames, last_frame, stops_acks}
-use Rattle.gdb_server.specs.Words.{saying}
+use Rattle.gdb_server.specs.Words.{IsFront, saying}
 use Rattle.gdb_server.proofs.SessionLemmas.{shows_on, shows_stopped}
+use Rattle.gdb_server.proofs.SessionFronts.{answers_in_part, on_err}
 use Rattle.gdb_server.proofs.hearing.answer.Goals as goal
 use Rattle.gdb_server.proofs.hearing.answer.Goals.{then-stops_acks, else-stops_acks}
 
@@ -32,3 +33,17 @@ returns-clause-said g c = λ wire s.
             rw w.line-is (shows_on wire made c.frames_of.new.line keeps framed)
       ];
     }
+
+pub returns-in_err-say-clause-broken : goal.returns-in_err-say-clause-broken
+returns-in_err-say-clause-broken g c = λ wire.
+    let made = c.in_ok-payloads.field-0 in
+    let spelled : c.as_slice.result.now ≡ made.payloads = cc in
+    let said : c.as_slice-2.result.now ≡ frames made.payloads =
+    c.as_slice-2.ensures.value ∙ c.in_ok-said.ensures.frames ∙ ap frames spelled in
+    let part = c.in_err-say.ensures.part in
+    on_err c.from_residual-in_err-say.result _
+    (answers_in_part g.P.Partner.answers g.P.Partner.interrupts g.C.Conversation.passed wire c.args.partner.now
+    (payload_in c.args.line.now) c.args.conversation.now c.say.new.self c.answer.new.self made part.0
+    (subst (λ (p : List ℕ). g.P.Partner.answers c.args.partner.now p c.answer.new.self made)
+    c.payload.ensures c.in_ok-payloads.ensures)
+    (subst (λ (l : List ℕ). IsFront part.0 (saying l)) said part.1) part.2)

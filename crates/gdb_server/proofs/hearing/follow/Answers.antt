@@ -38,3 +38,6 @@ returns-in-Again-clause-followed g c = λ wire s.
     (follows_quiet g.P.Partner.answers g.P.Partner.interrupts g.C.Conversation.passed g.C.Conversation.goes_on
     wire c.args.partner.now Again c.args.line.now
     c.args.conversation.now (g.C.Conversation.nothing c.args.conversation.now) tt s)
+
+pub returns-in-Packet-clause-broken : goal.returns-in-Packet-clause-broken
+returns-in-Packet-clause-broken g c = λ wire. rw c.in-Packet.is (c.answer.ensures.broken wire)

@@ -2,6 +2,7 @@ use Rattle.std.proofs.Common.{◌∙◌, refl, sym}
 use Rattle.gdb_server.specs.declared.hearing.TalkFault.TheVariants as faults
 use Rattle.gdb_server.proofs.SessionLemmas.{greets_no_more, greets_nobody, greets_told, no_fault, waits_first}
 use Rattle.gdb_server.proofs.SessionLemmas.{waits_told}
+use Rattle.gdb_server.proofs.SessionFronts.{greets_in_part, on_err}
 use Rattle.gdb_server.proofs.sessions.greet.Goals as goal
 
 pub loop-count-init : goal.loop-count-init
@@ -50,3 +51,11 @@ returns-clause-greeted g c = λ wire s.
     greets_no_more g.C.Conversation.passed g.C.Conversation.goes_on
     (g.C.Conversation.is_over c.loop-count.conversation) wire c.loop-count.line c.args.conversation.now
     c.loop-count.conversation c.loop-count.count (c.loop-count.invariant.waits wire s) c.loop-count-test.false
+
+pub returns-in_err-hear-clause-broken : goal.returns-in_err-hear-clause-broken
+returns-in_err-hear-clause-broken g c = λ wire s.
+    let w = c.loop-count.invariant.waits wire s in
+    on_err c.from_residual.result _
+    (greets_in_part g.C.Conversation.passed g.C.Conversation.goes_on wire c.loop-count.line c.args.conversation.now
+    c.loop-count.conversation c.hear.new.conversation c.loop-count.count w
+    (c.in_err-hear.ensures.broken w.behind w.shows))

@@ -1,7 +1,10 @@
 use Rattle.std.proofs.Common.{sym, ap, subst, ◌∙◌}
+use Rattle.std.specs.Prelude.{OnErr}
+use Rattle.std.proofs.lemmas.Result.{on_err_weaker}
 use Rattle.cut_replay.specs.ClosedCuts.{IsContained}
-use Rattle.debug_place.specs.Places.{IsReplayAt, cut_at}
+use Rattle.debug_place.specs.Places.{IsReplayAt, Placed, StandsBetween, cut_at}
 use Rattle.debug_place.proofs.OwnCuts.{at_either, cut_wanted, told_own}
+use Rattle.debug_place.proofs.ShortWay.{place_of, stands_between}
 use Rattle.debug_place.proofs.place.Place.move_on.Goals as goal
 
 pub go_on-requires-clause-at : goal.go_on-requires-clause-at
@@ -22,7 +25,8 @@ invariant_of-self c =
       valid = c.self.invariant.valid;
       determinate = c.self.invariant.determinate;
       timeline_is = c.self.invariant.timeline_is;
-      at = at_either c.go_on.result a.which a.recording c.args.to.now c.go_on.new.replay c.self.invariant.valid
+      at = at_either c.go_on.result a.which a.recording c.args.to.now c.self.inside.replay c.go_on.new.replay
+          c.self.invariant.valid
           c.go_on.ensures.ok c.go_on.ensures.err;
     }
 
@@ -31,3 +35,10 @@ returns-clause-ok c =
     let a = c.self.inside.audited.now in
     cut_wanted c.go_on.result a.which a.recording c.args.to.now c.go_on.new.replay c.self.invariant.valid
     c.go_on.ensures.ok
+
+pub returns-clause-err : goal.returns-clause-err
+returns-clause-err c =
+    let a = c.self.inside.audited.now in
+    let after : Placed = place_of a.which a.recording c.go_on.new.replay in
+    subst (λ (place : Placed). OnErr c.go_on.result (StandsBetween (cut_at place) c.args.to.now after)) c.self.view_is
+    (on_err_weaker c.go_on.result (λ short. stands_between c.self.invariant.at short) c.go_on.ensures.err)
