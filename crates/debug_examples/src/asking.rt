@@ -3,7 +3,8 @@ use crate::recordings::{cut_of, three};
 use cut_replay::has_instr;
 use log_codec::read;
 use race_queries::{
-    conflicts_of, edges_into, edges_out_of, history, last_write, leads_to, reads_since,
+    Ends, conflicts_of, edges_into, edges_out_of, history, last_write, leads_to, log_ends,
+    reads_since,
 };
 use replay_audit::{Audited, audit};
 use row_texts::Counts;
@@ -160,6 +161,35 @@ fn regulated_edges(rt: HostRuntime) -> Result<(), Fail> {
     assert!(rt; into.as_slice() == [instr(1, 4), instr(2, 4)].as_slice());
     let out = edges_out_of(rt.alloc(), &audited, instr(1, 4))?;
     assert!(rt; out.as_slice() == [instr(0, 5)].as_slice());
+    Ok(())
+}
+
+/// The edge at a place of a list, and the words that its instructions access.
+fn edge_at(list: &[Ends], place: usize) -> Option<(Instr, Instr, Option<u32>, Option<u32>)> {
+    let ends = list.get(place)?;
+    let from = ends.from.map(|access| access.word);
+    let to = ends.to.map(|access| access.word);
+    Some((ends.edge.from, ends.edge.to, from, to))
+}
+
+// All edges of the reduced log access the word, and of the regulated log all but those between last instructions.
+#[test]
+fn all_edges(rt: HostRuntime) -> Result<(), Fail> {
+    let audited = three(rt.alloc(), Which::Reduced)?;
+    let list = log_ends(rt.alloc(), &audited)?;
+    assert!(rt; list.len() == 5);
+    let last = Some((instr(2, 2), instr(1, 3), Some(16), Some(16)));
+    assert!(rt; edge_at(list.as_slice(), 4) == last);
+    Ok(())
+}
+
+#[test]
+fn all_regulated_edges(rt: HostRuntime) -> Result<(), Fail> {
+    let audited = three(rt.alloc(), Which::Regulated)?;
+    let list = log_ends(rt.alloc(), &audited)?;
+    assert!(rt; list.len() == 7);
+    let ending = Some((instr(1, 4), instr(0, 5), None, None));
+    assert!(rt; edge_at(list.as_slice(), 2) == ending);
     Ok(())
 }
 

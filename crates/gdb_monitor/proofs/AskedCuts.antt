@@ -21,6 +21,7 @@ use Rattle.gdb_monitor.specs.declared.moves.Extreme.{Extreme}
 use Rattle.gdb_monitor.specs.Moves.{AreCounts, BothComeNext, Comes, ComesWhere, GoesAround, GoesIfClosed, GoesTo}
 use Rattle.gdb_monitor.specs.Moves.{GoesToCut, GoesToDecision, IsDecision, decided_text}
 use Rattle.gdb_monitor.specs.Moves.{IsExtreme, IsOf, cut_with_counts}
+use Rattle.gdb_monitor.specs.Ordering.{AreBoth}
 use Rattle.gdb_monitor.specs.Texts.{open_text}
 
 -- two cuts that a test tells apart
@@ -61,7 +62,7 @@ module _ (a : Findings) (old : Placed) (run : IsOf a old) (new : Placed) (told :
       subst (λ (w : Which). IsDecision w a.recording at other cut) (sym run.which)
       (subst (λ (r : Recording). IsDecision old.which r at other cut) (sym run.recording) is)
 
-  pub goes_to_decision : (at other : Instr) (to : Cut) (r : Recording) → r ≡ a.recording → IsInstrOf r at →
+  pub goes_to_decision : (at other : Instr) (to : Cut) (r : Recording) → r ≡ a.recording → AreBoth r at other →
       IsGreatestWithout a.which a.recording at to → BothComeNext to at other → Comes to new told →
       GoesToDecision at other old new told
   goes_to_decision at other to r same there greatest both comes = record {
@@ -71,10 +72,10 @@ module _ (a : Findings) (old : Placed) (run : IsOf a old) (new : Placed) (told :
         (subst (λ (q : Recording). IsDecision old.which q at other to) run.recording
         (subst (λ (w : Which). IsDecision w a.recording at other to) run.which
         (record { greatest = greatest; both = both }))));
-    missing = λ no. absurd (no (subst (λ (q : Recording). IsInstrOf q at) (same ∙ run.recording) there));
+    missing = λ no. absurd (no (subst (λ (q : Recording). AreBoth q at other) (same ∙ run.recording) there));
   }
 
-  pub goes_nowhere : (at other : Instr) (to : Cut) (r : Recording) → r ≡ a.recording → IsInstrOf r at →
+  pub goes_nowhere : (at other : Instr) (to : Cut) (r : Recording) → r ≡ a.recording → AreBoth r at other →
       IsGreatestWithout a.which a.recording at to → (BothComeNext to at other → ⊥) → new ≡ old → told ≡ decided_text →
       GoesToDecision at other old new told
   goes_nowhere at other to r same there greatest not stays is = record {
@@ -83,7 +84,7 @@ module _ (a : Findings) (old : Placed) (run : IsOf a old) (new : Placed) (told :
         absurd (not (subst (λ (c : Cut). BothComeNext c at other)
         (one_greatest a.which a.recording at cut to d.greatest greatest) d.both));
     decided = λ _ none. record { place = stays; told_is = is };
-    missing = λ no. absurd (no (subst (λ (q : Recording). IsInstrOf q at) (same ∙ run.recording) there));
+    missing = λ no. absurd (no (subst (λ (q : Recording). AreBoth q at other) (same ∙ run.recording) there));
   }
 
   pub goes_around : (extreme : Extreme) (core : ℕ) (here to : Cut) → here ≡ cut_at old →

@@ -3,3 +3,6 @@ pub mod AskedCuts
 pub mod WordLemmas
 pub mod NotedPcs
 pub mod OnePc
+pub mod SameSites
+pub mod TableCounts
+pub mod AllDecisions

@@ -1,19 +1,24 @@
--- Rule: what is told of a word, an edge or a conflict: IsWriterTold
--- What is told of a word, of the edges at an instruction and of its conflicts, by the audit of a recording.
-use Rattle.std.specs.Prelude.{◌≡◌, ℕ, ◌≤◌, List, [], ◌++◌, length, codes, Option, Some, None, MatchOption}
-use Rattle.std.specs.Prelude.{if◌then◌else◌}
+-- Rule: what is told of a word, an edge, a conflict or all decisions: IsWriterTold, AreDecisionsTold
+-- What is told of a word, of the edges at an instruction, of its conflicts, and of all edges of the log, by the audit
+-- of a recording.
+use Rattle.std.specs.Prelude.{◌≡◌, ℕ, ◌≤◌, List, [], ◌++◌, length, codes, decimal, Option, Some, None}
+use Rattle.std.specs.Prelude.{MatchOption, if◌then◌else◌}
 use Rattle.std.specs.List.{flat_map}
 use Rattle.rtr_types.specs.declared.access.Access.{Access}
 use Rattle.rtr_types.specs.declared.cut.Cut.{Cut}
 use Rattle.rtr_types.specs.declared.instr.Instr.{Instr}
 use Rattle.replay_audit.specs.Audits.{Findings, IsInstrOf}
 use Rattle.race_queries.specs.declared.conflicts.Conflicts.{Conflicts}
+use Rattle.race_queries.specs.declared.ends.Ends.{Ends}
 use Rattle.race_queries.specs.Conflicts.{conflicts_at}
+use Rattle.race_queries.specs.Ends.{log_ends}
 use Rattle.race_queries.specs.Queries.{AreEdgesInto, AreEdgesOutOf, AreReadsSince, IsLastWrite, NoWriteIn, accesses_to}
 use Rattle.race_queries.specs.Queries.{is_held, loads_behind}
+use Rattle.gdb_monitor.specs.declared.decisions.Decision.{Decision}
 use Rattle.gdb_monitor.specs.declared.edges.End.{End}
 use Rattle.gdb_monitor.specs.declared.edges.End.TheVariants.{Source, Target}
-use Rattle.gdb_monitor.specs.Instrs.{instr_text, row_text}
+use Rattle.gdb_monitor.specs.Decisions.{AreDecisions}
+use Rattle.gdb_monitor.specs.Instrs.{instr_text, row_text, touch_text}
 use Rattle.gdb_monitor.specs.Pcs.{ArePcs}
 use Rattle.gdb_monitor.specs.Texts.{line, usage_text}
 
@@ -123,3 +128,29 @@ IsConflictTold a (Some conflicts) told = AreConflicts a conflicts told
 pub record AreConflictsTold (a : Findings) (at : Instr) (told : List ℕ) : Type 0 where
   pub there : IsInstrOf a.recording at → IsConflictTold a (conflicts_at a.accesses at) told
   pub missing : (IsInstrOf a.recording at → ⊥) → told ≡ usage_text
+
+-- ---- decisions
+
+-- how many edges there are this way, and how many the other
+abbrev pub times_text : Decision → List ℕ
+times_text d = decimal d.times ++ codes " this way, " ++ decimal d.turned ++ codes " the other: "
+
+-- before which instruction
+abbrev pub second_text : (pcs : List (List ℕ)) → Ends → List ℕ
+second_text pcs e = codes " before " ++ line (touch_text pcs e.edge.to e.to)
+
+-- and the last edge of them
+abbrev pub decision_row : (pcs : List (List ℕ)) → Decision → List ℕ
+decision_row pcs d = times_text d ++ touch_text pcs d.last.edge.from d.last.from ++ second_text pcs d.last
+
+pub record AreDecisionRows (a : Findings) (told : List ℕ) : Type 0 where
+  pub pcs : List (List ℕ)
+  pub are : ArePcs a.which a.recording pcs
+  pub list : List Decision
+  pub decisions : AreDecisions pcs (log_ends a) list
+  pub told_is : told ≡ flat_map (decision_row pcs) list
+
+-- `decisions`: all edges of the log, by the instructions of the program between which they lead
+pub record AreDecisionsTold (a : Findings) (told : List ℕ) : Type 0 where
+  pub none : length (log_ends a) ≡ 0 → told ≡ line (codes "no edge")
+  pub some : 1 ≤ length (log_ends a) → AreDecisionRows a told

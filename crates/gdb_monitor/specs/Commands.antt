@@ -7,7 +7,7 @@ use Rattle.rtr_types.specs.declared.instr.Instr.{Instr}
 use Rattle.gdb_monitor.specs.declared.commands.Command.{Command}
 use Rattle.gdb_monitor.specs.declared.commands.Command.TheVariants.{Cut, GoTo, GoToCut, Earliest, Latest, Edges}
 use Rattle.gdb_monitor.specs.declared.commands.Command.TheVariants.{Writer, Readers, History, Conflicts}
-use Rattle.gdb_monitor.specs.declared.commands.Command.TheVariants.{Decision, Order, Lead, Unknown}
+use Rattle.gdb_monitor.specs.declared.commands.Command.TheVariants.{Decision, Decisions, Order, Lead, Unknown}
 use Rattle.gdb_monitor.specs.Numbers.{core_of, count_of, named_instr, word_of}
 use Rattle.gdb_monitor.specs.Words.{words_of}
 
@@ -41,6 +41,11 @@ goto_of arguments =
 abbrev pub cut_of : List (List ℕ) → Option Command
 cut_of [] = Some Cut
 cut_of (word ∷ rest) = None
+
+-- `decisions`
+abbrev pub decisions_of : List (List ℕ) → Option Command
+decisions_of [] = Some Decisions
+decisions_of (word ∷ rest) = None
 
 -- `order C:N C:N`
 abbrev pub order_of : List (List ℕ) → Option Command
@@ -76,14 +81,15 @@ place_named name arguments =
     if bytes_eq name (codes "decision") then decision_of arguments else
     if bytes_eq name (codes "lead") then lead_of arguments else None
 
--- the commands that ask for a word or an instruction of the run
+-- the commands that ask for a word or an instruction of the run, and `decisions`
 abbrev pub run_named : (name : List ℕ) → (arguments : List (List ℕ)) → Option Command
 run_named name arguments =
     if bytes_eq name (codes "edges") then option_map Edges (one_instr arguments) else
     if bytes_eq name (codes "writer") then option_map Writer (one_word arguments) else
     if bytes_eq name (codes "readers") then option_map Readers (one_word arguments) else
     if bytes_eq name (codes "history") then option_map History (one_word arguments) else
-    if bytes_eq name (codes "conflicts") then option_map Conflicts (one_instr arguments) else None
+    if bytes_eq name (codes "conflicts") then option_map Conflicts (one_instr arguments) else
+    if bytes_eq name (codes "decisions") then decisions_of arguments else None
 
 -- a command by its name
 abbrev pub named : (name : List ℕ) → (arguments : List (List ℕ)) → Option Command

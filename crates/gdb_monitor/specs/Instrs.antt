@@ -42,6 +42,10 @@ abbrev pub accessed_text : Option Access → List ℕ
 accessed_text None = []
 accessed_text (Some access) = access_text access
 
+-- an instruction, with this access
+abbrev pub touch_text : (pcs : List (List ℕ)) → Instr → Option Access → List ℕ
+touch_text pcs at access = place_text pcs at ++ accessed_text access
+
 -- an instruction, with its access
 unfoldable pub instr_text : (pcs : List (List ℕ)) → (accesses : List Access) → Instr → List ℕ
-instr_text pcs accesses at = place_text pcs at ++ accessed_text (access_at at accesses)
+instr_text pcs accesses at = touch_text pcs at (access_at at accesses)

@@ -8,5 +8,7 @@ pub mod Moves
 pub mod Ordering
 pub mod Pcs
 pub mod Instrs
+pub mod Sites
+pub mod Decisions
 pub mod Asking
 pub mod Obeying

@@ -1,18 +1,22 @@
 -- Rule: where such a command goes: GoesTo
 -- What a command does to a place, and what it tells.
-use Rattle.std.specs.Prelude.{◌≡◌, ℕ, ◌+◌, ◌<◌, ◌≤◌, List, length, map, slice_index, codes}
+use Rattle.std.specs.Prelude.{◌≡◌, ℕ, ◌<◌, ◌≤◌, List, length, map, slice_index, codes}
 use Rattle.std.specs.List.{range_with_len}
 use Rattle.rtr_types.specs.declared.TheConstants.{CORES_MAX}
 use Rattle.rtr_types.specs.declared.cut.Cut.{Cut}
 use Rattle.rtr_types.specs.declared.instr.Instr.{Instr}
 use Rattle.rtr_types.specs.declared.pairs.Which.{Which}
+use Rattle.rtr_types.specs.declared.pairs.Which.TheVariants.{Reduced}
 use Rattle.race_log.specs.declared.recording.Recording.{Recording}
+use Rattle.race_log.specs.Sources.{HasEdge}
 use Rattle.replay_audit.specs.Audits.{Findings, IsInstrOf}
-use Rattle.cut_replay.specs.ClosedCuts.{IsClosed, IsGreatestWithout, IsLeastWith, count_in}
+use Rattle.cut_replay.specs.ClosedCuts.{IsClosed, IsGreatestWithout, IsLeastWith}
 use Rattle.cut_moves.specs.Steps.{IsHull, last_in, next_in}
+use Rattle.race_cuts.specs.OpenCuts.{ComesNext, HasLeastLog}
 use Rattle.debug_place.specs.Places.{Placed, cut_at}
 use Rattle.gdb_monitor.specs.declared.moves.Extreme.{Extreme}
 use Rattle.gdb_monitor.specs.declared.moves.Extreme.TheVariants.{Earliest, Latest}
+use Rattle.gdb_monitor.specs.Ordering.{AreBoth}
 use Rattle.gdb_monitor.specs.Texts.{here_text, line, open_text, usage_text}
 
 -- the place is one of this audited recording
@@ -58,10 +62,6 @@ pub record GoesAround (extreme : Extreme) (core : ℕ) (old new : Placed) (told 
       ComesWhere (IsExtreme extreme old.which old.recording (cut_at old) core) new told
   pub missing : old.recording.params.cores ≤ core → Refuses old new told
 
--- the instruction is the next one of its core
-abbrev pub ComesNext : Cut → Instr → Type 0
-ComesNext cut at = count_in cut at.core + 1 ≡ at.count
-
 pub record BothComeNext (cut : Cut) (at other : Instr) : Type 0 where
   pub first : ComesNext cut at
   pub second : ComesNext cut other
@@ -71,17 +71,22 @@ pub record IsDecision (which : Which) (r : Recording) (at other : Instr) (cut : 
   pub greatest : IsGreatestWithout which r at cut
   pub both : BothComeNext cut at other
 
+-- each edge of a least log is a decision
+abbrev pub EdgesAreDecisionsLaw : Type 0
+EdgesAreDecisionsLaw = (r : Recording) (x y : Instr) (cut : Cut) → HasLeastLog r → HasEdge Reduced r x y →
+    IsGreatestWithout Reduced r x cut → IsDecision Reduced r x y cut
+
 -- the log says more of the order of the two
 abbrev pub decided_text : List ℕ
 decided_text = line (codes "no decision: the log says more of their order")
 
 -- `decision C:N C:N`
 pub record GoesToDecision (at other : Instr) (old new : Placed) (told : List ℕ) : Type 0 where
-  pub there : (cut : Cut) → IsInstrOf old.recording at → IsDecision old.which old.recording at other cut →
+  pub there : (cut : Cut) → AreBoth old.recording at other → IsDecision old.which old.recording at other cut →
       ComesWhere (IsDecision old.which old.recording at other) new told
-  pub decided : IsInstrOf old.recording at → ((cut : Cut) → IsDecision old.which old.recording at other cut → ⊥) →
-      Tells old new told decided_text
-  pub missing : (IsInstrOf old.recording at → ⊥) → Refuses old new told
+  pub decided : AreBoth old.recording at other →
+      ((cut : Cut) → IsDecision old.which old.recording at other cut → ⊥) → Tells old new told decided_text
+  pub missing : (AreBoth old.recording at other → ⊥) → Refuses old new told
 
 -- one count for each core, at most its total
 pub record AreCounts (r : Recording) (counts : List ℕ) : Type 0 where

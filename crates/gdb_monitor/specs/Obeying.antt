@@ -7,21 +7,23 @@ use Rattle.debug_place.specs.Places.{Placed, cut_at}
 use Rattle.gdb_monitor.specs.declared.commands.Command.{Command}
 use Rattle.gdb_monitor.specs.declared.commands.Command.TheVariants.{Cut, GoTo, GoToCut, Earliest, Latest, Edges}
 use Rattle.gdb_monitor.specs.declared.commands.Command.TheVariants.{Writer, Readers, History, Conflicts}
-use Rattle.gdb_monitor.specs.declared.commands.Command.TheVariants.{Decision, Order, Lead, Unknown}
+use Rattle.gdb_monitor.specs.declared.commands.Command.TheVariants.{Decision, Decisions, Order, Lead, Unknown}
 use Rattle.gdb_monitor.specs.declared.moves.Extreme.TheVariants as extremes
-use Rattle.gdb_monitor.specs.Asking.{AreConflictsTold, AreEdgesTold, AreReadersTold, IsHistoryTold, IsWriterTold}
+use Rattle.gdb_monitor.specs.Asking.{AreConflictsTold, AreDecisionsTold, AreEdgesTold, AreReadersTold}
+use Rattle.gdb_monitor.specs.Asking.{IsHistoryTold, IsWriterTold}
 use Rattle.gdb_monitor.specs.Leading.{lead_told}
 use Rattle.gdb_monitor.specs.Moves.{GoesAround, GoesTo, GoesToCut, GoesToDecision, IsOf, Refuses, Tells}
 use Rattle.gdb_monitor.specs.Ordering.{IsOrderTold}
 use Rattle.gdb_monitor.specs.Texts.{here_text, usage_text}
 
--- what a command that asks for a word or an instruction is told, by the audit, at a cut
+-- what a command that asks for a word, an instruction or all decisions is told, by the audit, at a cut
 abbrev pub AuditTells : Command → Findings → cuts.Cut → (told : List ℕ) → Type 0
 AuditTells (Edges at) a cut told = AreEdgesTold a cut at told
 AuditTells (Writer word) a cut told = IsWriterTold a cut word told
 AuditTells (Readers word) a cut told = AreReadersTold a cut word told
 AuditTells (History word) a cut told = IsHistoryTold a cut word told
 AuditTells (Conflicts at) a cut told = AreConflictsTold a at told
+AuditTells Decisions a cut told = AreDecisionsTold a told
 AuditTells _ a cut told = told ≡ usage_text
 
 -- by the audit of the place's recording, at its cut, and nothing moves
@@ -43,6 +45,7 @@ Obeys (Writer word) old new told = Asks (Writer word) old new told
 Obeys (Readers word) old new told = Asks (Readers word) old new told
 Obeys (History word) old new told = Asks (History word) old new told
 Obeys (Conflicts at) old new told = Asks (Conflicts at) old new told
+Obeys Decisions old new told = Asks Decisions old new told
 Obeys (Order at other) old new told = (new ≡ old) × IsOrderTold at other old told
 Obeys (Decision at other) old new told = GoesToDecision at other old new told
 Obeys (Lead core) old new told = Tells old new told (lead_told core old.recording.params.cores)

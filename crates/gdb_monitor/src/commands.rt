@@ -3,7 +3,7 @@ ghost use Rattle.std.specs.Prelude.{◌≡◌, IfOk};
 ghost use Rattle.std.specs.Option.{option_map};
 ghost use Rattle.gdb_monitor.specs.Commands.{command_of, counts_of, cut_of, goto_of, meaning, named, one_core, only};
 ghost use Rattle.gdb_monitor.specs.Commands.{lead_of, leader_of, one_instr, one_word, order_of, place_named};
-ghost use Rattle.gdb_monitor.specs.Commands.{decision_of, run_named};
+ghost use Rattle.gdb_monitor.specs.Commands.{decision_of, decisions_of, run_named};
 
 use crate::numbers::{core_of, count_of, named_instr, word_of};
 use crate::words::words_of;
@@ -38,6 +38,8 @@ pub enum Command {
     Order(Instr, Instr),
     /// `decision C:N C:N`: to a cut at which both instructions come next.
     Decision(Instr, Instr),
+    /// `decisions`: the edges of the log by the instructions of the program between which they lead.
+    Decisions,
     /// `lead C` and `lead all`: all cores go on, and back, by this core alone, or each goes.
     Lead(Option<u8>),
     /// Every other text.
@@ -94,7 +96,7 @@ fn place_named(name: &[u8], arguments: &[Items<u8>]) -> Option<Command>
     }
 }
 
-/// The commands that ask for a word or an instruction of the run.
+/// The commands that ask for a word or an instruction of the run, and `decisions`.
 fn run_named(name: &[u8], arguments: &[Items<u8>]) -> Option<Command>
     ensures { result ≡ run_named name.now arguments.now }
 {
@@ -108,6 +110,8 @@ fn run_named(name: &[u8], arguments: &[Items<u8>]) -> Option<Command>
         one_word(arguments).map(Command::History)
     } else if is(name, "conflicts") {
         one_instr(arguments).map(Command::Conflicts)
+    } else if is(name, "decisions") {
+        decisions_of(arguments)
     } else {
         None
     }
@@ -119,6 +123,16 @@ fn cut_of(arguments: &[Items<u8>]) -> Option<Command>
 {
     match arguments {
         [] => Some(Command::Cut),
+        _ => None,
+    }
+}
+
+/// `decisions`, which has no argument.
+fn decisions_of(arguments: &[Items<u8>]) -> Option<Command>
+    ensures { result ≡ decisions_of arguments.now }
+{
+    match arguments {
+        [] => Some(Command::Decisions),
         _ => None,
     }
 }

@@ -2,7 +2,7 @@
 ghost use Rattle.std.specs.Prelude.{◌≡◌, ◌++◌, OnOk, string_bytes};
 ghost use Rattle.roomy_lists.specs.Lists.{items_in};
 ghost use Rattle.gdb_monitor.specs.Instrs.{access_text, hex_word, instr_text, kind_text, left_text};
-ghost use Rattle.gdb_monitor.specs.Instrs.{place_text, row_text};
+ghost use Rattle.gdb_monitor.specs.Instrs.{place_text, row_text, touch_text};
 
 use crate::pcs::{Known, pc_in};
 use crate::texts::Put;
@@ -75,8 +75,22 @@ pub(crate) fn put_instr(alloc: Global, text: &mut String, known: &Known, at: Ins
     ensures { OnOk result (string_bytes text.new
         ≡ string_bytes text.old ++ instr_text (items_in known.now.pcs) known.now.accesses.now at) }
 {
+    put_touch(alloc, text, known, at, access_at(known.accesses, at))
+}
+
+/// Puts an instruction, with this access, if it has one.
+pub(crate) fn put_touch(
+    alloc: Global,
+    text: &mut String,
+    known: &Known,
+    at: Instr,
+    access: Option<Access>,
+) -> Put
+    ensures { OnOk result (string_bytes text.new
+        ≡ string_bytes text.old ++ touch_text (items_in known.now.pcs) at access) }
+{
     put_place(alloc, text, known, at)?;
-    match access_at(known.accesses, at) {
+    match access {
         Some(access) => put_access(alloc, text, access),
         None => Ok(()),
     }

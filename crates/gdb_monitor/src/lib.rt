@@ -1,22 +1,30 @@
 //! The commands of the debugger's user: what their texts mean, where a place goes, and what is told of words, edges,
-//! conflicts and order.
+//! conflicts, order and decisions.
+//!
+//! `decisions` groups the edges of the log by pc and word, which say the kind of each access too: a program doesn't
+//! change itself. It counts by a hash, in one pass over the edges, and looks up the other way there.
 //!
 //! Proved: `command_of` gives each text the meaning that the grammar gives it, and `obey` obeys a command as follows.
 //! `goto C:N` comes to the least closed cut with the instruction. `goto N N ..` comes to that cut exactly where it is
 //! closed; else the least closed cut that contains it is told. `earliest` comes to the least closed cut with the core's
 //! last instruction, `latest` to the greatest without its next. `decision C:N C:N` comes to the greatest closed cut
-//! without the first instruction, exactly where both come next there. Every other command leaves the place as it is.
-//! What is told of a word, an edge or a conflict is that of `race_queries`' definitions at the place's cut, by the
-//! audit of its recording. What is told of order is by the log. An instruction's pc is where its core is in the state
-//! of a closed cut that has all of the core's instructions before it, and not it. There is one (`IsPcOf`, `one_pc`). If
-//! what is named isn't there, the commands that there are are told, and nothing moves. `payloads_of`: one payload, or
-//! one for each part of at most 1000 bytes, in order, and one more. Each is refused for want of memory alone; `obey`
-//! then leaves the place as it was.
+//! without the first instruction, exactly if both come next there; so it is for each edge of a least log
+//! (`edges_are_decisions`). Every other command leaves the place as it is. What is told of a word, an edge or a
+//! conflict is that of `race_queries`' definitions at the place's cut, by the audit of its recording. What is told of
+//! order is by the log. `decisions` tells one row for each two sites (pc and word) between which an edge of the log
+//! leads: how many edges lead this way, how many the other, and the last one. What goes both ways comes first, and then
+//! what is rare (`AreDecisions`). An instruction's pc is where its core is in the state of a closed cut that has all of
+//! the core's instructions before it, and not it. There is one (`IsPcOf`, `one_pc`). If what is named isn't there, the
+//! commands that there are are told, and nothing moves. `payloads_of`: one payload, or one for each part of at most
+//! 1000 bytes, in order, and one more. Each is refused for want of memory alone; `obey` then leaves the place as it
+//! was.
 #![tactic(auto)]
 
 mod asking;
 mod commands;
 mod conflicts;
+mod decisions;
+mod decisions_told;
 mod edges;
 mod instrs;
 pub mod laws;
@@ -27,6 +35,7 @@ mod obeying;
 mod ordering;
 mod payloads;
 mod pcs;
+mod sites;
 mod texts;
 mod words;
 

@@ -4,8 +4,10 @@ ghost use Rattle.race_log.specs.Validity.{Valid};
 ghost use Rattle.cut_replay.specs.ClosedCuts.{IsClosed, IsCutOf};
 ghost use Rattle.debug_place.specs.Places.{IsKept, cut_at};
 ghost use Rattle.gdb_monitor.specs.Moves.{AreCounts, Comes, GoesAround, GoesIfClosed, GoesTo, GoesToCut, IsExtreme};
-ghost use Rattle.gdb_monitor.specs.Moves.{BothComeNext, ComesNext, GoesToDecision, IsOf, cut_with_counts};
+ghost use Rattle.gdb_monitor.specs.Moves.{BothComeNext, GoesToDecision, IsOf, cut_with_counts};
+ghost use Rattle.race_cuts.specs.OpenCuts.{ComesNext};
 
+use crate::ordering::are_both;
 use crate::texts::{Told, cut_text, line, open_text, usage};
 use cut_moves::{earliest, hull, latest};
 use cut_replay::{cut_with, cut_without, has_instr};
@@ -45,7 +47,7 @@ pub(crate) fn go_to(alloc: Global, audited: &Audited, place: &mut Place, at: Ins
 }
 
 /// To the greatest closed cut without an instruction, if both it and another one come next there: the order of the two
-/// was still open. Every edge of a least log is such a pair.
+/// was still open. Every edge of a least log is such a pair (`edges_are_decisions`).
 pub(crate) fn go_to_decision(
     alloc: Global,
     audited: &Audited,
@@ -58,7 +60,7 @@ pub(crate) fn go_to_decision(
     ensures ok { IfOk result (GoesToDecision at other place.old place.new) }
     ensures err { OnErr result (place.new ≡ place.old) }
 {
-    if !has_instr(audited.recording(), at) {
+    if !are_both(audited.recording(), at, other) {
         return usage(alloc);
     }
     let to = cut_without(audited, at)?;

@@ -7,6 +7,7 @@ ghost use Rattle.gdb_monitor.specs.Obeying.{Asks, AuditTells, Obeys};
 use crate::asking::{history_told, readers_told, writer_told};
 use crate::commands::Command;
 use crate::conflicts::conflicts_told;
+use crate::decisions_told::decisions_told;
 use crate::edges::edges_told;
 use crate::leading::lead_told;
 use crate::moves::{Extreme, go_around, go_to, go_to_cut, go_to_decision};
@@ -42,6 +43,7 @@ pub fn obey(
         Command::Readers(_) => ask(alloc, audited, place, command),
         Command::History(_) => ask(alloc, audited, place, command),
         Command::Conflicts(_) => ask(alloc, audited, place, command),
+        Command::Decisions => ask(alloc, audited, place, command),
         Command::Order(at, other) => order_told(alloc, audited, place, *at, *other),
         Command::Decision(at, other) => go_to_decision(alloc, audited, place, *at, *other),
         Command::Lead(core) => lead_told(alloc, *core, place.cores()),
@@ -49,7 +51,7 @@ pub fn obey(
     }
 }
 
-/// What a command that asks for a word or an instruction is told.
+/// What a command that asks for a word, an instruction or all decisions is told.
 fn ask(
     alloc: Global,
     audited: &Audited,
@@ -79,6 +81,7 @@ fn audit_tells(
         Command::Readers(word) => readers_told(alloc, audited, cut, *word),
         Command::History(word) => history_told(alloc, audited, cut, *word),
         Command::Conflicts(at) => conflicts_told(alloc, audited, *at),
+        Command::Decisions => decisions_told(alloc, audited),
         _ => usage(alloc),
     }
 }

@@ -14,7 +14,8 @@ pub(crate) type Put = Result<(), AllocError>;
 /// The commands that there are.
 pub const USAGE: &[u8] =
     b"rtr_gdb: monitor cut | goto N .. | goto C:N | earliest C | latest C | lead C | lead all | \
-edges C:N | writer ADDR | readers ADDR | history ADDR | conflicts C:N | order C:N C:N | decision C:N C:N\n";
+edges C:N | writer ADDR | readers ADDR | history ADDR | conflicts C:N | order C:N C:N | decision C:N C:N | \
+decisions\n";
 
 /// The commands that there are, as a text.
 pub(crate) fn usage(alloc: Global) -> Told

@@ -1,6 +1,6 @@
 -- Rule: the accesses with which an instruction's conflicts: conflicts_at
 -- The accesses around an instruction's with which it conflicts, among the accesses of a run in their order.
-use Rattle.std.specs.Prelude.{ℕ, Bool, ◌&&◌, ◌||◌, not, nat_eq, List, [], ◌∷◌, filter, Option, Some, None}
+use Rattle.std.specs.Prelude.{Bool, ◌&&◌, ◌||◌, not, nat_eq, List, [], ◌∷◌, filter, Option, Some, None}
 use Rattle.std.specs.Prelude.{if◌then◌else◌}
 use Rattle.std.specs.List.{list_any}
 use Rattle.std.specs.Option.{option_map}

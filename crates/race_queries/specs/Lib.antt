@@ -1,3 +1,4 @@
 pub mod Queries
 pub mod Places
 pub mod Conflicts
+pub mod Ends

@@ -8,7 +8,7 @@ returns-then-both_come_next-clause-ok c =
     if_ok c.go.result
     (λ told comes. goes_to_decision c.args.audited.now c.args.place.now c.requires c.go.new.place told c.args.at
     c.args.other c.in_ok-to.to c.recording.result.now c.recording.ensures.recording
-    (c.if-not-has_instr.ensures.0 refl) c.in_ok-to.ensures (c.if-both_come_next.ensures.0 refl) comes)
+    (c.if-not-are_both.ensures.0 refl) c.in_ok-to.ensures (c.if-both_come_next.ensures.0 refl) comes)
     c.go.ensures.ok
 
 pub returns-else-both_come_next-clause-ok : goal.returns-else-both_come_next-clause-ok
@@ -16,6 +16,6 @@ returns-else-both_come_next-clause-ok c =
     if_ok c.line.result
     (λ told is. goes_nowhere c.args.audited.now c.args.place.now c.requires c.args.place.now told c.args.at
     c.args.other c.in_ok-to.to c.recording.result.now c.recording.ensures.recording
-    (c.if-not-has_instr.ensures.0 refl) c.in_ok-to.ensures
+    (c.if-not-are_both.ensures.0 refl) c.in_ok-to.ensures
     (λ both. let no = c.if-both_come_next.ensures.1 both in absurd cc) refl is)
     c.line.ensures

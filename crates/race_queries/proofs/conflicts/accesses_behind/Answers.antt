@@ -1,4 +1,4 @@
-use Rattle.std.proofs.Common.{◌+◌, ◌-◌, length, drop, length-drop, sym, ◌∙◌, arith}
+use Rattle.std.proofs.Common.{◌+◌, ◌-◌, length, length-drop, sym, ◌∙◌, arith}
 use Rattle.race_queries.proofs.ConflictLemmas.{behind_here, behind_nowhere, behind_on}
 use Rattle.race_queries.proofs.conflicts.accesses_behind.Goals as goal
 

@@ -1,4 +1,4 @@
-use Rattle.std.proofs.Common.{sym, ap, ◌∙◌}
+use Rattle.std.proofs.Common.{sym, ◌∙◌}
 use Rattle.race_queries.specs.Conflicts.{behind}
 use Rattle.race_queries.proofs.ConflictLemmas.{next_all, next_load, next_write}
 use Rattle.race_queries.proofs.conflicts.to_next_write.Goals as goal

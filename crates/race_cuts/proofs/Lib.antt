@@ -1,0 +1,4 @@
+pub mod OpenEdges
+pub mod BackSteps
+pub mod NextAccesses
+pub mod TwoCuts

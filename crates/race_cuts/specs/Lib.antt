@@ -1,0 +1,3 @@
+pub mod OpenCuts
+pub mod BackSteps
+pub mod Clashes
