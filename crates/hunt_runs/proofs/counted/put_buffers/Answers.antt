@@ -1,0 +1,8 @@
+use Rattle.turn_lists.specs.declared.actor.Actor.TheVariants.{Buffer}
+use Rattle.hunt_runs.proofs.PickCounts.{puts_more}
+use Rattle.hunt_runs.proofs.counted.put_buffers.Goals as goal
+
+pub loop-core-preserved : goal.loop-core-preserved
+loop-core-preserved c =
+    puts_more (λ k. Buffer k) c.loop-core.core c.args.picks.now.items c.loop-core.picks.items _ c.loop-core.invariant
+    c.in_ok-push.ensures.items

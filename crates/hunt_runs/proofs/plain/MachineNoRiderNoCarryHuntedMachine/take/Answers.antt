@@ -1,0 +1,28 @@
+use Rattle.std.proofs.Common.{◌∙◌, ap, refl, sym, subst}
+use Rattle.access_times.specs.declared.carry.NoCarry.{NoCarry}
+use Rattle.access_times.specs.declared.rider.NoRider.{NoRider}
+use Rattle.machine_plain.proofs.Shows.{plain_done}
+use Rattle.machine_plain.specs.Plain.{plain}
+use Rattle.msi_state.specs.States.{State, all_done}
+use Rattle.run_outcome.specs.Outcomes.{RunsAt}
+use Rattle.hunt_runs.specs.PlainSeen.{changes_in}
+use Rattle.hunt_runs.proofs.PlainRuns.{event_is, stands_next, told_changes}
+use Rattle.hunt_runs.proofs.plain.MachineNoRiderNoCarryHuntedMachine.take.Goals as goal
+
+pub returns-clause-stands : goal.returns-clause-stands
+returns-clause-stands c = λ image params schedule t rest is stands.
+    let s = c.make_room.new.self.state in
+    stands_next image params schedule t c.args.number (plain s) (plain c.step.new.self.state) rest c.step.result.taken
+    (sym (plain_done s) ∙ ap all_done c.make_room.ensures.state ∙ c.requires.going) c.step.ensures.taken.plainly
+    c.step.ensures.moved.plainly is
+    (subst (λ (u : State NoRider NoCarry). RunsAt image params schedule t (plain u) rest)
+    (sym c.make_room.ensures.state) stands)
+
+pub returns-clause-changes : goal.returns-clause-changes
+returns-clause-changes c = λ image params schedule t rest is stands.
+    let s = c.make_room.new.self.state in
+    told_changes _ _ _ c.step.new.clerk _ _ c.step.ensures.told refl
+    ∙ ap changes_in c.step.ensures.moved.tells
+    ∙ event_is image params schedule t c.args.number (plain s) rest c.step.result.taken c.step.ensures.taken.plainly is
+    (subst (λ (u : State NoRider NoCarry). RunsAt image params schedule t (plain u) rest)
+    (sym c.make_room.ensures.state) stands)

@@ -1,0 +1,11 @@
+pub mod Seen
+pub mod Jumping
+pub mod Directing
+pub mod Courses
+pub mod Counted
+pub mod Numbering
+pub mod Ends
+pub mod Told
+pub mod PlainSeen
+pub mod BufferedSeen
+pub mod Ways
