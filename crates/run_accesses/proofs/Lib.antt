@@ -1,0 +1,2 @@
+mod KeptAccesses
+mod TsoKeptAccesses

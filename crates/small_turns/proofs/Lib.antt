@@ -1,0 +1,3 @@
+pub mod PassSteps
+pub mod PlacesReached
+pub mod Weights

@@ -1,0 +1,4 @@
+pub mod Acts
+pub mod Orders
+pub mod Passes
+pub mod Small
