@@ -1,3 +1,6 @@
 pub mod HexLines
-pub mod LineLemmas
 pub mod NumberLines
+pub mod LineLemmas
+pub mod GivenLemmas
+pub mod TurnsRead
+pub mod Memories

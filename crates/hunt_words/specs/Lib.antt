@@ -1,1 +1,9 @@
 pub mod Lines
+pub mod Verbs
+pub mod Given
+pub mod Seen
+pub mod Values
+pub mod TurnTexts
+pub mod Options
+pub mod Fitting
+pub mod Meaning

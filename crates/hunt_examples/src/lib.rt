@@ -1,0 +1,10 @@
+//! `rtr_hunt` with values from outside. It has tests alone.
+//!
+//! Tested: `hunt_words` and `hunt_texts`: what words ask for, words that ask for nothing, and what is printed of runs and
+//! tables.
+#![tactic(auto)]
+
+#[cfg(test)]
+mod print_tests;
+#[cfg(test)]
+mod word_tests;

@@ -1,0 +1,4 @@
+pub mod Shown
+pub mod Seen
+pub mod Tables
+pub mod Reports
