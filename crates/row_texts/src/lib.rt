@@ -1,13 +1,15 @@
-//! What tests by rows share: the bytes and words of rows out of their texts, recordings that several crates read, and
-//! counts of three cores.
+//! What tests by rows share: the bytes and words of rows out of their texts, pieces of texts that rows name, recordings
+//! that several crates read, and counts of three cores.
 //!
 //! Tested: by the examples that use it; it has no tests of its own.
 #![tactic(auto)]
 
 mod counts;
+mod pieces;
 mod recordings;
 
 pub use counts::Counts;
+pub use pieces::{is_piece, piece};
 pub use recordings::{HANDED_ON, HANDED_OVER, HANDED_OVER_REDUCED, STORES};
 use std::alloc::{AllocError, Global};
 

@@ -2,7 +2,7 @@
 use crate::command_rows::{PLACES, RUN, Told, UNKNOWN, USAGE};
 use crate::handed_over::{handed_over, many_loads};
 use crate::lock::lock;
-use crate::rows::{Row, plays};
+use crate::rows::plays;
 use gdb_monitor::payloads_of;
 use gdb_server::Partner;
 use gdb_session::Session;
@@ -34,15 +34,10 @@ fn first_wrong(alloc: Global, session: &mut Session, rows: &[Told]) -> Result<&'
 
 /// Goes on to the load of the counter.
 fn goes_on(alloc: Global, session: &mut Session) -> Result<bool, Fail> {
-    let set = Row {
-        packet: "Z0,98,4",
-        answer: "OK",
-    };
-    let stopped = Row {
-        packet: "vCont;c",
-        answer: "T05thread:3;swbreak:;",
-    };
-    Ok(plays(alloc, session, &set)? && plays(alloc, session, &stopped)?)
+    Ok(
+        plays(alloc, session, "Z0,98,4", "OK")?
+            && plays(alloc, session, "vCont;c", "T05thread:3;swbreak:;")?,
+    )
 }
 
 #[test]
@@ -75,18 +70,17 @@ fn lengths(alloc: Global, count: usize) -> Result<Items<usize>, Fail> {
     Ok(lengths)
 }
 
+/// Whether the payloads of a text of so many bytes are so long.
+fn are_cut(alloc: Global, count: usize, wanted: &[usize]) -> Result<bool, Fail> {
+    Ok(lengths(alloc, count)?.as_slice() == wanted)
+}
+
 // One frame, or frames with a letter before and one frame behind them.
 #[test]
 fn long_texts_are_cut(rt: HostRuntime) -> Result<(), Fail> {
-    assert_eq!(rt; lengths(rt.alloc(), 1000)?.as_slice(), [2000].as_slice());
-    assert_eq!(rt;
-        lengths(rt.alloc(), 1001)?.as_slice(),
-        [2001, 3, 2].as_slice()
-    );
-    assert_eq!(rt;
-        lengths(rt.alloc(), 2000)?.as_slice(),
-        [2001, 2001, 2].as_slice()
-    );
+    assert!(rt; are_cut(rt.alloc(), 1000, &[2000])?);
+    assert!(rt; are_cut(rt.alloc(), 1001, &[2001, 3, 2])?);
+    assert!(rt; are_cut(rt.alloc(), 2000, &[2001, 2001, 2])?);
     Ok(())
 }
 

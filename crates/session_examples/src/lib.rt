@@ -3,7 +3,7 @@
 //!
 //! Tested, not proved of gdb: a session of gdb 13.1 on a program that ends by a fault is answered to the byte, but for
 //! one user's command. Steps, breakpoints of both kinds, watched ranges of each kind, refusals, interrupts and ends are
-//! worked out by hand on a recording of two cores.
+//! worked out by hand on a recording of two cores, and each fault on one of its own.
 #![tactic(auto)]
 
 #[cfg(test)]
@@ -14,6 +14,8 @@ mod command_tests;
 mod crash;
 #[cfg(test)]
 mod crash_rows;
+#[cfg(test)]
+mod fault_tests;
 #[cfg(test)]
 mod handed_over;
 #[cfg(test)]

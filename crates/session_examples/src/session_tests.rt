@@ -1,43 +1,43 @@
 //! Sessions on a recording of two cores.
 use crate::handed_over::{handed_over, one_break};
-use crate::rows::{Row, plays};
+use crate::rows::{first_wrong, plays};
 use crate::session_rows::{BREAK, BREAKS, STEPS, STILL, WATCHES};
 use crate::turn_rows::{BACK_ALONE, LEADS, ONE_CORE, OTHERS_BACK, TOLD, UNASKED, UNHEARD};
 use gdb_server::{Next, Partner};
 use gdb_session::Session;
 use std::alloc::{AllocError, Global};
+use std::process::Abort;
 use std::test::Fail;
 
-/// The first packet whose answer isn't that of its row.
-fn first_wrong(alloc: Global, rows: &[Row]) -> Result<&'static str, Fail> {
+/// The first packet whose answer isn't that of the text, from the beginning on.
+fn first_wrong_of<'a>(alloc: Global, text: &'a str) -> Result<Option<&'a str>, Fail> {
     let audited = handed_over(alloc)?;
     let mut session = Session::begin(alloc, &audited)?;
-    for row in rows {
-        if !plays(alloc, &mut session, row)? {
-            return Ok(row.packet);
-        }
-    }
-    Ok("none")
+    Ok(first_wrong(alloc, &mut session, text)?)
 }
 
 #[test]
 fn each_session_is_answered_so(rt: HostRuntime) -> Result<(), Fail> {
-    let alloc = rt.alloc();
-    assert_eq!(rt; first_wrong(alloc, &STEPS)?, "none");
-    assert_eq!(rt; first_wrong(alloc, &BREAKS)?, "none");
-    assert_eq!(rt; first_wrong(alloc, &WATCHES)?, "none");
-    // Some cores go on alone, and back.
-    assert_eq!(rt; first_wrong(alloc, &ONE_CORE)?, "none");
-    assert_eq!(rt; first_wrong(alloc, &UNHEARD)?, "none");
-    assert_eq!(rt; first_wrong(alloc, &TOLD)?, "none");
-    assert_eq!(rt; first_wrong(alloc, &BACK_ALONE)?, "none");
-    assert_eq!(rt; first_wrong(alloc, &UNASKED)?, "none");
-    // A step back stops for the others.
-    assert_eq!(rt; first_wrong(alloc, &OTHERS_BACK)?, "none");
-    // Core 1 leads on, and core 0 back; without a core that leads, all go.
-    assert_eq!(rt; first_wrong(alloc, &LEADS)?, "none");
-    // Other packets move nothing.
-    assert_eq!(rt; first_wrong(alloc, &STILL)?, "none");
+    for text in [STEPS, BREAKS, WATCHES, STILL] {
+        assert_eq!(rt; first_wrong_of(rt.alloc(), text)?, None);
+    }
+    Ok(())
+}
+
+// Some cores go on alone, and back; a step back stops for the others; and one core leads the others on or back.
+#[test]
+fn each_session_of_some_cores_is_answered_so(rt: HostRuntime) -> Result<(), Fail> {
+    for text in [
+        ONE_CORE,
+        UNHEARD,
+        TOLD,
+        BACK_ALONE,
+        UNASKED,
+        OTHERS_BACK,
+        LEADS,
+    ] {
+        assert_eq!(rt; first_wrong_of(rt.alloc(), text)?, None);
+    }
     Ok(())
 }
 
@@ -51,25 +51,30 @@ fn done(alloc: Global, session: &mut Session, packet: &str) -> Result<(Next, usi
 fn a_session_ends_where_it_is_asked_to(rt: HostRuntime) -> Result<(), Fail> {
     let audited = handed_over(rt.alloc())?;
     let mut session = Session::begin(rt.alloc(), &audited)?;
-    assert_eq!(rt;
-        done(rt.alloc(), &mut session, "QStartNoAckMode")?,
-        (Next::StopAcks, 1)
-    );
-    assert_eq!(rt; done(rt.alloc(), &mut session, "!")?, (Next::Listen, 1));
-    assert_eq!(rt; done(rt.alloc(), &mut session, "D;1")?, (Next::End, 1));
-    assert_eq!(rt; done(rt.alloc(), &mut session, "vKill;1")?, (Next::End, 1));
-    assert_eq!(rt; done(rt.alloc(), &mut session, "k")?, (Next::End, 0));
+    for (packet, wanted) in [
+        ("QStartNoAckMode", (Next::StopAcks, 1)),
+        ("!", (Next::Listen, 1)),
+        ("D;1", (Next::End, 1)),
+        ("vKill;1", (Next::End, 1)),
+        ("k", (Next::End, 0)),
+    ] {
+        assert!(rt;
+            done(rt.alloc(), &mut session, packet)? == wanted,
+            "{packet}"
+        );
+    }
     Ok(())
 }
 
-/// What a packet is answered, if that is the text.
-fn says(
-    alloc: Global,
-    session: &mut Session,
-    packet: &'static str,
-    answer: &'static str,
-) -> Result<bool, AllocError> {
-    plays(alloc, session, &Row { packet, answer })
+/// The session goes on to its end and back, and is interrupted before each.
+fn is_interrupted(rt: &impl Abort, alloc: Global, session: &mut Session) -> Result<(), AllocError> {
+    session.interrupt();
+    assert!(rt; plays(alloc, session, "vCont;c:2;c", "T02thread:2;")?);
+    assert!(rt; plays(alloc, session, "vCont;c", "T05thread:2;replaylog:end;")?);
+    session.interrupt();
+    assert!(rt; plays(alloc, session, "qXfer:threads:read::0,5", "m<?xml")?);
+    assert!(rt; plays(alloc, session, "bc", "T05thread:2;replaylog:begin;")?);
+    Ok(())
 }
 
 // The interrupt is told once, and not where the threads were asked for before.
@@ -77,34 +82,7 @@ fn says(
 fn an_interrupt_leaves_out_one_move(rt: HostRuntime) -> Result<(), Fail> {
     let audited = handed_over(rt.alloc())?;
     let mut session = Session::begin(rt.alloc(), &audited)?;
-    session.interrupt();
-    assert!(rt; says(rt.alloc(), &mut session, "vCont;c:2;c", "T02thread:2;")?);
-    assert!(rt;
-        says(
-            rt.alloc(),
-            &mut session,
-            "vCont;c",
-            "T05thread:2;replaylog:end;"
-        )?
-    );
-    session.interrupt();
-    assert!(rt;
-        says(
-            rt.alloc(),
-            &mut session,
-            "qXfer:threads:read::0,5",
-            "m<?xml"
-        )?
-    );
-    assert!(rt;
-        says(
-            rt.alloc(),
-            &mut session,
-            "bc",
-            "T05thread:2;replaylog:begin;"
-        )?
-    );
-    Ok(())
+    Ok(is_interrupted(&rt, rt.alloc(), &mut session)?)
 }
 
 /// Sets points of a kind at the first `count` addresses, and answers how many of them were taken.
@@ -126,9 +104,9 @@ fn so_many_breakpoints_are_kept(rt: HostRuntime) -> Result<(), Fail> {
     let audited = handed_over(rt.alloc())?;
     let mut session = Session::begin(rt.alloc(), &audited)?;
     assert_eq!(rt; taken(rt.alloc(), &mut session, 0, 257)?, 256);
-    assert!(rt; says(rt.alloc(), &mut session, "Z0,ff,4", "OK")?);
-    assert!(rt; says(rt.alloc(), &mut session, "Z0,100,4", "E01")?);
-    assert!(rt; says(rt.alloc(), &mut session, "Z1,100,4", "OK")?);
+    assert!(rt; plays(rt.alloc(), &mut session, "Z0,ff,4", "OK")?);
+    assert!(rt; plays(rt.alloc(), &mut session, "Z0,100,4", "E01")?);
+    assert!(rt; plays(rt.alloc(), &mut session, "Z1,100,4", "OK")?);
     Ok(())
 }
 
@@ -147,9 +125,6 @@ fn five_ranges_are_watched(rt: HostRuntime) -> Result<(), Fail> {
 fn a_break_is_shown_at_itself(rt: HostRuntime) -> Result<(), Fail> {
     let audited = one_break(rt.alloc())?;
     let mut session = Session::begin(rt.alloc(), &audited)?;
-    for row in &BREAK {
-        let right = plays(rt.alloc(), &mut session, row)?;
-        assert!(rt; right, "{}", row.packet);
-    }
+    assert_eq!(rt; first_wrong(rt.alloc(), &mut session, BREAK)?, None);
     Ok(())
 }

@@ -11,6 +11,7 @@ use state_text::{
     Exit, check_text, cut_state_text, fault_text, logs_text, needed_text, state_text,
 };
 use std::alloc::{AllocError, Global};
+use std::process::Abort;
 use std::test::Fail;
 use stride_vector::StrideVector;
 
@@ -36,108 +37,112 @@ fn one_each() -> Cut {
     Cut { cores: 2, counts }
 }
 
-// Every exit, with its status and its text.
-#[test]
-fn exits(rt: HostRuntime) {
-    let cut = one_each();
-    let first = Instr { core: 0, count: 2 };
-    let second = Instr { core: 1, count: 2 };
-    let edge = Edge {
-        from: first,
-        to: second,
-    };
-    let rows = [
-        (Exit::Done, 0, ""),
-        (Exit::Usage, 1, "rtr: usage\n"),
-        (Exit::TooLarge, 2, "rtr: input too large\n"),
-        (Exit::Bad { part: 4 }, 3, "rtr: bad input, part 4\n"),
-        (Exit::Bad { part: 255 }, 3, "rtr: bad input, part 255\n"),
-        (Exit::Stuck { cut }, 4, "rtr: stuck at 1 1\n"),
-        (
-            Exit::Short { core: 0, count: 3 },
-            5,
-            "rtr: core 0 stops at 3\n",
-        ),
-        (
-            Exit::Undetermined { first, second },
-            6,
-            "rtr: no order from 0:2 to 1:2\n",
-        ),
-        (
-            Exit::CheckFailed(CheckFailure::NotConflict { edge }),
-            7,
-            "rtr: edge 0:2 to 1:2 is no conflict\n",
-        ),
-        (
-            Exit::CheckFailed(CheckFailure::BadClock { core: 0, entry: 2 }),
-            7,
-            "rtr: clock 2 of core 0 is wrong\n",
-        ),
-        (
-            Exit::CheckFailed(CheckFailure::NotNeeded { edge }),
-            7,
-            "rtr: edge 0:2 to 1:2 is not needed\n",
-        ),
-        (
-            Exit::CheckFailed(CheckFailure::NotLeast { edge }),
-            7,
-            "rtr: edge 0:2 to 1:2 is not in the least log\n",
-        ),
-        (Exit::ReadFault, 8, "rtr: read fault\n"),
-        (Exit::WriteFault, 9, "rtr: write fault\n"),
-        (Exit::OutOfMemory, 10, "rtr: out of memory\n"),
-        (
-            Exit::NoInstr {
-                at: Instr { core: 0, count: 6 },
-            },
-            12,
-            "rtr: no instruction 0:6\n",
-        ),
-        (
-            Exit::TooMany {
-                vectors: 5000,
-                edges: 9000,
-            },
-            13,
-            "rtr: 5000 vectors with 9000 edges are too many\n",
-        ),
-        (
-            Exit::NotShown { vector: 1 },
-            14,
-            "rtr: vector 1 is not shown needed\n",
-        ),
-    ];
-    for (exit, status, text) in rows {
-        assert_eq!(rt; exit.status(), status);
-        assert_eq!(rt; fault_text(&exit).bytes(), text.as_bytes());
-    }
+/// The exit has this status and this text.
+fn is_told(rt: &impl Abort, exit: Exit, status: u8, text: &str) {
+    assert!(rt; exit.status() == status, "{text}");
+    assert!(rt; fault_text(&exit).bytes() == text.as_bytes(), "{text}");
 }
 
-// Every fault of an ELF file, with its text.
+// Every exit that bytes of a recording, words and streams have.
+#[test]
+fn exits(rt: HostRuntime) {
+    is_told(&rt, Exit::Done, 0, "");
+    is_told(&rt, Exit::Usage, 1, "rtr: usage\n");
+    is_told(&rt, Exit::TooLarge, 2, "rtr: input too large\n");
+    is_told(&rt, Exit::Bad { part: 4 }, 3, "rtr: bad input, part 4\n");
+    is_told(
+        &rt,
+        Exit::Bad { part: 255 },
+        3,
+        "rtr: bad input, part 255\n",
+    );
+    is_told(&rt, Exit::ReadFault, 8, "rtr: read fault\n");
+    is_told(&rt, Exit::WriteFault, 9, "rtr: write fault\n");
+    is_told(&rt, Exit::OutOfMemory, 10, "rtr: out of memory\n");
+}
+
+// Every exit that a replay has, or a state at an instruction.
+#[test]
+fn exits_of_replays(rt: HostRuntime) {
+    let cut = one_each();
+    is_told(&rt, Exit::Stuck { cut }, 4, "rtr: stuck at 1 1\n");
+    let (core, count) = (0, 3);
+    is_told(
+        &rt,
+        Exit::Short { core, count },
+        5,
+        "rtr: core 0 stops at 3\n",
+    );
+    let first = Instr { core: 0, count: 2 };
+    let second = Instr { core: 1, count: 2 };
+    let open = Exit::Undetermined { first, second };
+    is_told(&rt, open, 6, "rtr: no order from 0:2 to 1:2\n");
+    let at = Instr { core: 0, count: 6 };
+    is_told(&rt, Exit::NoInstr { at }, 12, "rtr: no instruction 0:6\n");
+}
+
+// Every exit that a certificate has, or a thin file.
+#[test]
+fn exits_of_checks(rt: HostRuntime) {
+    let from = Instr { core: 0, count: 2 };
+    let to = Instr { core: 1, count: 2 };
+    let edge = Edge { from, to };
+    let failed = Exit::CheckFailed(CheckFailure::NotConflict { edge });
+    is_told(&rt, failed, 7, "rtr: edge 0:2 to 1:2 is no conflict\n");
+    let failed = Exit::CheckFailed(CheckFailure::BadClock { core: 0, entry: 2 });
+    is_told(&rt, failed, 7, "rtr: clock 2 of core 0 is wrong\n");
+    let failed = Exit::CheckFailed(CheckFailure::NotNeeded { edge });
+    is_told(&rt, failed, 7, "rtr: edge 0:2 to 1:2 is not needed\n");
+    let failed = Exit::CheckFailed(CheckFailure::NotLeast { edge });
+    is_told(
+        &rt,
+        failed,
+        7,
+        "rtr: edge 0:2 to 1:2 is not in the least log\n",
+    );
+    let (vectors, edges) = (5000, 9000);
+    let many = Exit::TooMany { vectors, edges };
+    is_told(
+        &rt,
+        many,
+        13,
+        "rtr: 5000 vectors with 9000 edges are too many\n",
+    );
+    is_told(
+        &rt,
+        Exit::NotShown { vector: 1 },
+        14,
+        "rtr: vector 1 is not shown needed\n",
+    );
+}
+
+// Every fault of an ELF file.
 #[test]
 fn faults_of_elf_files(rt: HostRuntime) {
-    let rows = [
-        (ElfFault::NotElf, "rtr: not an ELF file\n"),
-        (ElfFault::Header, "rtr: ELF header not accepted\n"),
-        (
-            ElfFault::Segment { index: 0 },
-            "rtr: ELF segment 0 not accepted\n",
-        ),
-        (
-            ElfFault::Outside { index: 65_534 },
-            "rtr: ELF segment 65534 outside memory\n",
-        ),
-        (
-            ElfFault::Overlap { index: 1 },
-            "rtr: ELF segment 1 overlaps\n",
-        ),
-        (ElfFault::Entry, "rtr: ELF entry not accepted\n"),
-    ];
-    for (fault, text) in rows {
-        let exit = Exit::Elf(fault);
-        assert_eq!(rt; exit.status(), 11);
-        assert_eq!(rt; fault_text(&exit).bytes(), text.as_bytes());
-    }
+    is_told(
+        &rt,
+        Exit::Elf(ElfFault::NotElf),
+        11,
+        "rtr: not an ELF file\n",
+    );
+    is_told(
+        &rt,
+        Exit::Elf(ElfFault::Header),
+        11,
+        "rtr: ELF header not accepted\n",
+    );
+    let segment = Exit::Elf(ElfFault::Segment { index: 0 });
+    is_told(&rt, segment, 11, "rtr: ELF segment 0 not accepted\n");
+    let outside = Exit::Elf(ElfFault::Outside { index: 65_534 });
+    is_told(&rt, outside, 11, "rtr: ELF segment 65534 outside memory\n");
+    let overlap = Exit::Elf(ElfFault::Overlap { index: 1 });
+    is_told(&rt, overlap, 11, "rtr: ELF segment 1 overlaps\n");
+    is_told(
+        &rt,
+        Exit::Elf(ElfFault::Entry),
+        11,
+        "rtr: ELF entry not accepted\n",
+    );
 }
 
 // The longest text has a count of ten digits for each core.

@@ -155,116 +155,117 @@ fn words_that_mean_a_replay(rt: HostRuntime) -> Result<(), Fail> {
     Ok(())
 }
 
-static FAULTY: [&str; 104] = [
-    "",
-    "records",
-    "--help",
-    "record --help",
-    "record --",
-    "record --loads",
-    "record --words 6",
-    "record --words 262148",
-    "record --words 0",
-    "record --limit 0",
-    "record --limit 1000001",
-    "record --cores 16 --limit 250001",
-    "record --limit=1000000 --cores=5",
-    "run --limit 307693 --loads --cores 13",
-    "record --limit 4294967297",
-    "record --limit 010",
-    "record --limit +1",
-    "record --limit",
-    "record --limit --words",
-    "record --limit=",
-    "record --limit=1 --limit=1",
-    "record --lim 1",
-    "run --loads --loads",
-    "run --loads=",
-    "run --loads 1",
-    "run --log reduced",
-    "print --limit 1",
-    "replay --log",
-    "replay --log Reduced",
-    "replay --log=reduced --log=reduced",
-    "replay --loads=",
-    "replay --limit 1",
-    "migrates",
-    "migrate --words 16",
-    "certifies",
-    "certify --limit 1",
-    "check --log reduced",
-    "run --cores 0",
-    "run --cores 17",
-    "run --choices 0",
-    "run --choices 0A",
-    "run --choices=",
-    "run --choices 00 --choices 00",
-    "run --seed 18446744073709551616",
-    "record --elf --elf",
-    "record --elf=",
-    "record --elf 1",
-    "print --elf",
-    "replay --elf",
-    "certify --elf",
-    "gen",
-    "gen --shape mix",
-    "gen --number 3",
-    "gen --shape lock --number 0",
-    "gen --shape lock --number 2048",
-    "gen --number 2048 --shape=lock",
-    "gen --shape Mix --number 1",
-    "gen --shape mix --number 18446744073709551616",
-    "gen --shape mix --number 007",
-    "gen --shape mix --number 1 --number 1",
-    "gen --shape mix --number 1 --cores 2",
-    "gen --shape mix --number 1 --elf",
-    "soak --shape lock",
-    "soak --shape lock --number 2048",
-    "soak --shape mix --number 1 --choices 00",
-    "soak --shape mix --number 1 --loads",
-    "soak --shape mix --number 1 --cores 16 --limit 250001",
-    "at",
-    "at --core 1",
-    "at --count 2",
-    "at --core 16 --count 2",
-    "at --core 1 --count 0",
-    "at --core 1 --count 1000001",
-    "at --core 01 --count 2",
-    "at --core 1 --core 1 --count 2",
-    "at --core 1 --count 2 --latest --latest",
-    "at --core 1 --count 2 --latest=",
-    "at --core 1 --count 2 --limit 3",
-    "at --core 1 --count 2 --log least",
-    "replay --latest",
-    "thin --certify --certify",
-    "thin --certify=",
-    "thin --certify 1",
-    "thin --log regulated",
-    "checkthin --certify",
-    "certify --certify",
-    "check thin",
-    "replay --threads",
-    "replay --threads 0",
-    "replay --threads 9",
-    "replay --threads=02",
-    "replay --threads 2 --threads 2",
-    "run --threads 2",
-    "at --core 0 --count 1 --threads 2",
-    "tso",
-    "tsorun --elf",
-    "tsorecord --elf",
-    "tsoreplays",
-    "tsoreplay --loads --loads",
-    "tsoreplay --loads=",
-    "tsoreplay --log reduced",
-    "tsoreplay --threads 2",
-    "tsoreplay --elf",
-    "tsoreplay --cores 2",
-];
+/// Lines that mean nothing, beside the empty one.
+const FAULTY: &str = "\
+records
+--help
+record --help
+record --
+record --loads
+record --words 6
+record --words 262148
+record --words 0
+record --limit 0
+record --limit 1000001
+record --cores 16 --limit 250001
+record --limit=1000000 --cores=5
+run --limit 307693 --loads --cores 13
+record --limit 4294967297
+record --limit 010
+record --limit +1
+record --limit
+record --limit --words
+record --limit=
+record --limit=1 --limit=1
+record --lim 1
+run --loads --loads
+run --loads=
+run --loads 1
+run --log reduced
+print --limit 1
+replay --log
+replay --log Reduced
+replay --log=reduced --log=reduced
+replay --loads=
+replay --limit 1
+migrates
+migrate --words 16
+certifies
+certify --limit 1
+check --log reduced
+run --cores 0
+run --cores 17
+run --choices 0
+run --choices 0A
+run --choices=
+run --choices 00 --choices 00
+run --seed 18446744073709551616
+record --elf --elf
+record --elf=
+record --elf 1
+print --elf
+replay --elf
+certify --elf
+gen
+gen --shape mix
+gen --number 3
+gen --shape lock --number 0
+gen --shape lock --number 2048
+gen --number 2048 --shape=lock
+gen --shape Mix --number 1
+gen --shape mix --number 18446744073709551616
+gen --shape mix --number 007
+gen --shape mix --number 1 --number 1
+gen --shape mix --number 1 --cores 2
+gen --shape mix --number 1 --elf
+soak --shape lock
+soak --shape lock --number 2048
+soak --shape mix --number 1 --choices 00
+soak --shape mix --number 1 --loads
+soak --shape mix --number 1 --cores 16 --limit 250001
+at
+at --core 1
+at --count 2
+at --core 16 --count 2
+at --core 1 --count 0
+at --core 1 --count 1000001
+at --core 01 --count 2
+at --core 1 --core 1 --count 2
+at --core 1 --count 2 --latest --latest
+at --core 1 --count 2 --latest=
+at --core 1 --count 2 --limit 3
+at --core 1 --count 2 --log least
+replay --latest
+thin --certify --certify
+thin --certify=
+thin --certify 1
+thin --log regulated
+checkthin --certify
+certify --certify
+check thin
+replay --threads
+replay --threads 0
+replay --threads 9
+replay --threads=02
+replay --threads 2 --threads 2
+run --threads 2
+at --core 0 --count 1 --threads 2
+tso
+tsorun --elf
+tsorecord --elf
+tsoreplays
+tsoreplay --loads --loads
+tsoreplay --loads=
+tsoreplay --log reduced
+tsoreplay --threads 2
+tsoreplay --elf
+tsoreplay --cores 2";
 
 #[test]
 fn words_that_mean_nothing(rt: HostRuntime) -> Result<(), Fail> {
-    for line in FAULTY {
+    assert!(rt; meaning_of(rt.alloc(), "")?.is_none());
+    assert_eq!(rt; FAULTY.split('\n').count(), 103);
+    for line in FAULTY.split('\n') {
         assert!(rt; meaning_of(rt.alloc(), line)?.is_none(), "{line}");
     }
     Ok(())
@@ -388,28 +389,63 @@ fn words_that_mean_an_instruction(rt: HostRuntime) -> Result<(), Fail> {
     Ok(())
 }
 
-/// The line means a command of this form.
-macro_rules! means {
-    ($rt:ident, $line:literal => $($form:tt)*) => {
-        assert!($rt; matches!(meaning_of($rt.alloc(), $line)?, Some($($form)*)), $line);
+/// A command without an option, or with one that is set or isn't.
+#[derive(Clone, Copy, PartialEq, Eq)]
+enum Short {
+    Print,
+    Migrate,
+    Certify,
+    Check,
+    CheckThin,
+    Thin { certify: bool },
+    TsoReplay { loads: bool },
+}
+
+/// The command, if it is a short one.
+fn short_of(command: Option<Command>) -> Option<Short> {
+    match command? {
+        Command::Print => Some(Short::Print),
+        Command::Migrate => Some(Short::Migrate),
+        Command::Certify => Some(Short::Certify),
+        Command::Check => Some(Short::Check),
+        Command::CheckThin => Some(Short::CheckThin),
+        Command::Thin { certify } => Some(Short::Thin { certify }),
+        Command::TsoReplay { loads } => Some(Short::TsoReplay { loads }),
+        _ => None,
+    }
+}
+
+/// A line of words and the short command that it means.
+struct ShortRow {
+    line: &'static str,
+    short: Short,
+}
+
+macro_rules! short {
+    ($line:literal => $short:expr) => {
+        ShortRow { line: $line, short: $short }
     };
 }
 
-#[test]
-fn words_of_commands_without_options(rt: HostRuntime) -> Result<(), Fail> {
-    means!(rt, "print" => Command::Print);
-    means!(rt, "migrate" => Command::Migrate);
-    means!(rt, "certify" => Command::Certify);
-    means!(rt, "check" => Command::Check);
-    means!(rt, "checkthin" => Command::CheckThin);
-    Ok(())
+static SHORTS: [ShortRow; 9] = [
+    short!("print" => Short::Print),
+    short!("migrate" => Short::Migrate),
+    short!("certify" => Short::Certify),
+    short!("check" => Short::Check),
+    short!("checkthin" => Short::CheckThin),
+    short!("thin" => Short::Thin { certify: false }),
+    short!("thin --certify" => Short::Thin { certify: true }),
+    short!("tsoreplay" => Short::TsoReplay { loads: false }),
+    short!("tsoreplay --loads" => Short::TsoReplay { loads: true }),
+];
+
+/// Whether the command is the short one of the row.
+fn is_short(command: Option<Command>, row: &ShortRow) -> bool {
+    short_of(command) == Some(row.short)
 }
 
 #[test]
-fn words_of_commands_with_one_option(rt: HostRuntime) -> Result<(), Fail> {
-    means!(rt, "thin" => Command::Thin { certify: false });
-    means!(rt, "thin --certify" => Command::Thin { certify: true });
-    means!(rt, "tsoreplay" => Command::TsoReplay { loads: false });
-    means!(rt, "tsoreplay --loads" => Command::TsoReplay { loads: true });
+fn words_of_short_commands(rt: HostRuntime) -> Result<(), Fail> {
+    each_means!(rt, SHORTS by is_short);
     Ok(())
 }

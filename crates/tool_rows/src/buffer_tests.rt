@@ -1,33 +1,26 @@
 //! Recordings of cores with store buffers: each row, bytes that are cut and changed, and streams that fail.
 
-use crate::buffer_tables::{BUFFERED, CUT, DAMAGED, Damage, ONE_CALL, ONE_CALL_TEXT};
-use crate::calls::{Answer, ask, ask_over, asks, gives};
+use crate::buffer_tables::{CUT, DAMAGED, Damage, buffers};
+use crate::calls::{Answer, Streams, ask, ask_over, cut_names, gives, sink, source};
+use crate::table_calls::{Form, named};
 use replay_threads::OpenGate;
-use row_texts::bytes;
-use rtr_io::{MemSink, MemSource};
 use std::alloc::{AllocError, Global};
 use std::process::Abort;
 use std::sync::Wait;
 use std::test::Fail;
 use std::thread::Threads;
 
+/// The recording of which both loads are logged, and which no edge orders.
+fn buffered(alloc: Global) -> Result<Vec<u8>, Fail> {
+    named(alloc, buffers(), "BUFFERED", Form::Digits)
+}
+
 // A recording that is cut, at each byte.
 #[test]
 fn a_cut_of_a_recording_of_buffers_names_its_part(rt: HostRuntime) -> Result<(), Fail> {
-    let alloc = rt.alloc();
     for (len, part) in CUT.iter().enumerate() {
-        let mut cut = bytes(alloc, BUFFERED)?;
-        cut.truncate(len);
-        let report = format!(in alloc; "rtr: bad input, part {part}\n")?;
-        asks(
-            &rt,
-            alloc,
-            "tsoreplay --loads",
-            cut,
-            3,
-            b"".as_slice(),
-            &report,
-        )?;
+        let whole = buffered(rt.alloc())?;
+        cut_names(&rt, rt.alloc(), "tsoreplay --loads", whole, len, *part)?;
     }
     Ok(())
 }
@@ -66,14 +59,9 @@ fn wanted(alloc: Global, damage: &Damage) -> Result<(u8, String), AllocError> {
     })
 }
 
-/// Replays the recording with one byte changed, and compares how that ends. Nothing is given where it is refused.
-fn is_damaged(
-    rt: &(impl Abort + Threads + Wait + Sync),
-    alloc: Global,
-    at: usize,
-    damage: &Damage,
-) -> Result<(), AllocError> {
-    let whole = bytes(alloc, BUFFERED)?;
+/// The recording with one byte changed.
+fn damaged(alloc: Global, at: usize) -> Result<Vec<u8>, Fail> {
+    let whole = buffered(alloc)?;
     let mut input = Vec::new(alloc);
     for (place, byte) in whole.iter().enumerate() {
         input.push(if place == at {
@@ -82,11 +70,23 @@ fn is_damaged(
             *byte
         })?;
     }
+    Ok(input)
+}
+
+/// Replays the recording with one byte changed, and compares how that ends. Nothing is given where it is refused.
+fn is_damaged(
+    rt: &(impl Abort + Threads + Wait + Sync),
+    alloc: Global,
+    at: usize,
+    damage: &Damage,
+) -> Result<(), Fail> {
     let (status, report) = wanted(alloc, damage)?;
-    let answer = ask(rt, alloc, "tsoreplay", input)?;
-    assert_eq!(rt; answer.status, status, "{at}");
-    assert_eq!(rt; answer.report.as_slice(), report.as_bytes(), "{at}");
-    assert_eq!(rt; answer.output.is_empty(), status > 0, "{at}");
+    let answer = ask(rt, alloc, "tsoreplay", damaged(alloc, at)?)?;
+    assert!(rt;
+        answer.status == status && answer.output.is_empty() == (status > 0),
+        "{at}"
+    );
+    assert!(rt; answer.report.as_slice() == report.as_bytes(), "{at}");
     Ok(())
 }
 
@@ -107,11 +107,12 @@ fn failing(
     fails: (u64, u64),
     most: usize,
 ) -> Result<Answer, AllocError> {
-    let most = most.max(1);
-    let input = MemSource::new(input, vec![in alloc; fails.0]?, most);
-    let output = MemSink::new(alloc, 99, vec![in alloc; fails.1]?, most)?;
-    let report = MemSink::new(alloc, 99, Vec::new(alloc), 99)?;
-    ask_over(rt, alloc, "tsoreplay", input, output, report, &OpenGate)
+    let mut streams = Streams {
+        input: source(alloc, input, fails.0, most)?,
+        output: sink(alloc, 99, fails.1, most)?,
+        report: sink(alloc, 99, 0, 99)?,
+    };
+    ask_over(rt, alloc, "tsoreplay", &mut streams, &OpenGate)
 }
 
 // The recording has 47 bytes, so that its source is asked six times at least: five times for bytes, and once for its
@@ -120,25 +121,30 @@ fn failing(
 fn a_recording_of_buffers_cannot_be_read(rt: HostRuntime) -> Result<(), Fail> {
     let alloc = rt.alloc();
     for call in 1..7 {
-        let answer = failing(&rt, alloc, bytes(alloc, BUFFERED)?, (call, 0), 10)?;
+        let answer = failing(&rt, alloc, buffered(alloc)?, (call, 0), 10)?;
         assert!(rt; (answer.status, answer.output.len()) == (8, 0));
         assert!(rt; answer.report.as_slice() == b"rtr: read fault\n".as_slice());
     }
     Ok(())
 }
 
+/// The answer to `tsoreplay` of the recording of one ECALL, where this call of the output fails, and each takes a byte.
+fn unwritten(rt: &(impl Threads + Wait + Sync), alloc: Global, call: u64) -> Result<Answer, Fail> {
+    let recording = named(alloc, buffers(), "ONE_CALL", Form::Digits)?;
+    Ok(failing(rt, alloc, recording, (0, call), 1)?)
+}
+
 // The text is given byte by byte, and what was given before the call that fails is its front.
 #[test]
 fn the_text_of_a_replay_of_buffers_cannot_be_written(rt: HostRuntime) -> Result<(), Fail> {
     let alloc = rt.alloc();
-    let text = ONE_CALL_TEXT.as_bytes();
+    let text = named(alloc, buffers(), "ONE_CALL_TEXT", Form::Lines)?;
     for given in 0..text.len() {
-        let calls = (0, given as u64 + 1);
-        let answer = failing(&rt, alloc, bytes(alloc, ONE_CALL)?, calls, 1)?;
+        let answer = unwritten(&rt, alloc, given as u64 + 1)?;
         assert!(rt; answer.status == 9 && answer.output.as_slice() == &text[..given]);
         assert!(rt; answer.report.as_slice() == b"rtr: write fault\n".as_slice());
     }
-    let answer = failing(&rt, alloc, bytes(alloc, ONE_CALL)?, (0, 0), 1)?;
-    assert!(rt; answer.status == 0 && answer.output.as_slice() == text);
+    let answer = unwritten(&rt, alloc, 0)?;
+    assert!(rt; answer.status == 0 && answer.output.as_slice() == text.as_slice());
     Ok(())
 }

@@ -1,9 +1,8 @@
-//! One call of the tool over streams in memory, and the bytes that rows spell.
+//! One call of the tool over streams in memory.
 
-use crate::record_tables::{Pieces, Recorded};
-use crate::tables::Row;
+use crate::table_calls::Call;
 use replay_threads::{Gate, OpenGate};
-use row_texts::{bytes, words};
+use row_texts::words;
 use rtr_cli::run_tool;
 use rtr_io::{MemSink, MemSource};
 use std::alloc::{AllocError, Global};
@@ -17,6 +16,13 @@ const ROOM: usize = 1_000_000;
 /// More than any call moves.
 const ALL: usize = 1 << 20;
 
+/// How a call of the tool ended, and whether with a closed table.
+#[derive(Clone, Copy)]
+struct End {
+    status: u8,
+    joint: bool,
+}
+
 /// How a call of the tool ended, whether with a closed table, and what it gave.
 #[derive(Drop)]
 pub struct Answer {
@@ -26,54 +32,38 @@ pub struct Answer {
     pub report: Vec<u8>,
 }
 
-/// The bytes that the digits of these pieces spell, one after another.
-pub fn spelled(alloc: Global, pieces: &[&str]) -> Result<Vec<u8>, AllocError> {
-    let mut spelled = Vec::new(alloc);
-    for piece in pieces {
-        let piece = bytes(alloc, piece)?;
-        spelled.extend_from_slice(piece.as_slice())?;
-    }
-    Ok(spelled)
+/// The streams of a call.
+pub struct Streams {
+    pub input: MemSource,
+    pub output: MemSink,
+    pub report: MemSink,
 }
 
-/// The input of a row: so many copies of its piece, and the bytes behind them.
-pub fn input_of(alloc: Global, row: &Row) -> Result<Vec<u8>, AllocError> {
-    let piece = bytes(alloc, row.input)?;
-    let mut input = Vec::new(alloc);
-    for _ in 0..row.copies {
-        input.extend_from_slice(piece.as_slice())?;
+impl Drop for Streams {
+    fn drop(self) {
+        let Streams {
+            input: _input,
+            output: _output,
+            report: _report,
+        } = self;
     }
-    let more = bytes(alloc, row.more)?;
-    input.extend_from_slice(more.as_slice())?;
-    Ok(input)
 }
 
-/// The output that a row wants: its bytes, the input again where the row has it so, the bytes after it,
-/// and its text.
-pub fn output_of(alloc: Global, row: &Row, input: &[u8]) -> Result<Vec<u8>, AllocError> {
-    let mut output = bytes(alloc, row.output)?;
-    if row.echoes {
-        output.extend_from_slice(input)?;
-    }
-    let rest = bytes(alloc, row.rest)?;
-    output.extend_from_slice(rest.as_slice())?;
-    output.extend_from_slice(row.text.as_bytes())?;
-    output.extend_from_slice(row.loads.as_bytes())?;
-    Ok(output)
+/// A source of these bytes of which the call with this number fails (0 for none), and of which no call takes more than
+/// so many.
+pub fn source(
+    alloc: Global,
+    bytes: Vec<u8>,
+    fails: u64,
+    most: usize,
+) -> Result<MemSource, AllocError> {
+    Ok(MemSource::new(bytes, vec![in alloc; fails]?, most.max(1)))
 }
 
-/// The bytes of a recording in pieces.
-pub fn in_pieces(alloc: Global, pieces: &Pieces) -> Result<Vec<u8>, AllocError> {
-    spelled(alloc, &[pieces.header, pieces.image, pieces.rest])
-}
-
-/// The bytes of a recording that a row wants.
-pub fn recording_of(alloc: Global, row: &Recorded) -> Result<Vec<u8>, AllocError> {
-    let mut recording = in_pieces(alloc, &row.recording)?;
-    for _ in 0..row.zeros {
-        recording.push(0)?;
-    }
-    Ok(recording)
+/// A sink with so much room of which the call with this number fails (0 for none), and to which no call gives more than
+/// so many bytes.
+pub fn sink(alloc: Global, room: usize, fails: u64, most: usize) -> Result<MemSink, AllocError> {
+    MemSink::new(alloc, room, vec![in alloc; fails]?, most.max(1))
 }
 
 /// The tool's answer to these words and this input, where nothing fails and the gate stands open.
@@ -94,10 +84,12 @@ pub fn ask_at<R: Threads + Wait + Sync, G: Gate>(
     input: Vec<u8>,
     gate: &G,
 ) -> Result<Answer, AllocError> {
-    let input = MemSource::new(input, Vec::new(alloc), ALL);
-    let output = MemSink::new(alloc, ROOM, Vec::new(alloc), ALL)?;
-    let report = MemSink::new(alloc, ROOM, Vec::new(alloc), ALL)?;
-    ask_over(rt, alloc, line, input, output, report, gate)
+    let mut streams = Streams {
+        input: source(alloc, input, 0, ALL)?,
+        output: sink(alloc, ROOM, 0, ALL)?,
+        report: sink(alloc, ROOM, 0, ALL)?,
+    };
+    ask_over(rt, alloc, line, &mut streams, gate)
 }
 
 /// The tool's answer to these words over these streams, where workers pass this gate.
@@ -105,27 +97,54 @@ pub fn ask_over<R: Threads + Wait + Sync, G: Gate>(
     rt: &R,
     alloc: Global,
     line: &str,
-    mut input: MemSource,
-    mut output: MemSink,
-    mut report: MemSink,
+    streams: &mut Streams,
     gate: &G,
 ) -> Result<Answer, AllocError> {
+    let End { status, joint } = ended(rt, alloc, line, streams, gate)?;
+    Ok(Answer {
+        status,
+        joint,
+        output: streams.output.bytes().to_vec(alloc)?,
+        report: streams.report.bytes().to_vec(alloc)?,
+    })
+}
+
+/// How the call ends.
+fn ended<R: Threads + Wait + Sync, G: Gate>(
+    rt: &R,
+    alloc: Global,
+    line: &str,
+    streams: &mut Streams,
+    gate: &G,
+) -> Result<End, AllocError> {
     let words = words(alloc, line)?;
-    let ended = run_tool(
+    let told = run_tool(
         rt,
         alloc,
         words.as_slice(),
-        &mut input,
-        &mut output,
-        &mut report,
+        &mut streams.input,
+        &mut streams.output,
+        &mut streams.report,
         gate,
     );
-    Ok(Answer {
-        status: ended.exit.status(),
-        joint: ended.joint.is_some(),
-        output: output.bytes().to_vec(alloc)?,
-        report: report.bytes().to_vec(alloc)?,
+    Ok(End {
+        status: told.exit.status(),
+        joint: told.joint.is_some(),
     })
+}
+
+/// Compares an answer to these words.
+pub fn compare<R: Abort>(
+    rt: &R,
+    words: &str,
+    answer: &Answer,
+    status: u8,
+    output: &[u8],
+    report: &[u8],
+) {
+    assert_eq!(rt; answer.status, status, "{words}");
+    assert_eq!(rt; answer.output.as_slice(), output, "{words}");
+    assert_eq!(rt; answer.report.as_slice(), report, "{words}");
 }
 
 /// Asks with these words and this input, where nothing fails and the gate stands open, and compares the answer.
@@ -139,9 +158,7 @@ pub fn asks<R: Abort + Threads + Wait + Sync>(
     report: &str,
 ) -> Result<(), AllocError> {
     let answer = ask(rt, alloc, words, input)?;
-    assert_eq!(rt; answer.status, status, "{words}");
-    assert_eq!(rt; answer.output.as_slice(), output, "{words}");
-    assert_eq!(rt; answer.report.as_slice(), report.as_bytes(), "{words}");
+    compare(rt, words, &answer, status, output, report.as_bytes());
     Ok(())
 }
 
@@ -154,4 +171,40 @@ pub fn gives<R: Abort + Threads + Wait + Sync>(
     output: &[u8],
 ) -> Result<(), AllocError> {
     asks(rt, alloc, words, input, 0, output, "")
+}
+
+/// Asks with these words what the call asks, and compares the answer.
+pub fn is_answered<R: Abort + Threads + Wait + Sync>(
+    rt: &R,
+    alloc: Global,
+    words: &str,
+    call: &mut Call,
+) -> Result<(), AllocError> {
+    call.output.extend_from_slice(call.text.as_slice())?;
+    let answer = ask(rt, alloc, words, call.input.clone()?)?;
+    assert!(rt; call.is_plain, "{words}");
+    let output = call.output.as_slice();
+    compare(
+        rt,
+        words,
+        &answer,
+        call.status,
+        output,
+        call.report.as_slice(),
+    );
+    Ok(())
+}
+
+/// Asks with these words and so many bytes of the input, and compares the part that is named.
+pub fn cut_names<R: Abort + Threads + Wait + Sync>(
+    rt: &R,
+    alloc: Global,
+    words: &str,
+    mut input: Vec<u8>,
+    len: usize,
+    part: u8,
+) -> Result<(), AllocError> {
+    input.truncate(len);
+    let report = format!(in alloc; "rtr: bad input, part {part}\n")?;
+    asks(rt, alloc, words, input, 3, b"".as_slice(), &report)
 }

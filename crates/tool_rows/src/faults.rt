@@ -1,10 +1,10 @@
 //! Sources and sinks that fail.
 
-use crate::calls::{Answer, ask_over};
+use crate::calls::{Streams, ask_over, compare, sink, source};
 use replay_threads::OpenGate;
 use row_texts::bytes;
-use rtr_io::{MemSink, MemSource};
 use std::alloc::{AllocError, Global};
+use std::process::Abort;
 use std::sync::Wait;
 use std::test::Fail;
 use std::thread::Threads;
@@ -67,33 +67,34 @@ static ROWS: [Row; 22] = [
     fault!("", 0, 0, 1, 99, 1, 0, ""),
 ];
 
-/// The answer to the row's words and the image of one ECALL, where the streams fail as it says.
-fn answer_to(
-    rt: &(impl Threads + Wait + Sync),
+/// The streams of the row, over the image of one ECALL.
+fn streams_of(alloc: Global, row: &Row) -> Result<Streams, AllocError> {
+    Ok(Streams {
+        input: source(alloc, bytes(alloc, "73000000")?, row.input_fails, 99)?,
+        output: sink(alloc, 99, row.output_fails, row.most)?,
+        report: sink(alloc, 99, row.report_fails, 99)?,
+    })
+}
+
+/// Asks what the row asks, and compares the answer.
+fn is_failed(
+    rt: &(impl Abort + Threads + Wait + Sync),
     alloc: Global,
     row: &Row,
-) -> Result<Answer, AllocError> {
-    let input = MemSource::new(bytes(alloc, "73000000")?, one(alloc, row.input_fails)?, 99);
-    let output = MemSink::new(alloc, 99, one(alloc, row.output_fails)?, row.most.max(1))?;
-    let report = MemSink::new(alloc, 99, one(alloc, row.report_fails)?, 99)?;
-    ask_over(rt, alloc, row.words, input, output, report, &OpenGate)
+) -> Result<(), AllocError> {
+    let mut streams = streams_of(alloc, row)?;
+    let answer = ask_over(rt, alloc, row.words, &mut streams, &OpenGate)?;
+    let mut given = bytes(alloc, OUTPUT)?;
+    given.truncate(row.given);
+    let report = row.report.as_bytes();
+    compare(rt, row.words, &answer, row.status, given.as_slice(), report);
+    Ok(())
 }
 
 #[test]
 fn a_fault_is_told_and_a_fault_of_the_report_changes_nothing(rt: HostRuntime) -> Result<(), Fail> {
-    let alloc = rt.alloc();
     for row in &ROWS {
-        let mut given = bytes(alloc, OUTPUT)?;
-        given.truncate(row.given);
-        let answer = answer_to(&rt, alloc, row)?;
-        assert_eq!(rt; answer.status, row.status);
-        assert_eq!(rt; answer.output.as_slice(), given.as_slice());
-        assert_eq!(rt; answer.report.as_slice(), row.report.as_bytes());
+        is_failed(&rt, rt.alloc(), row)?;
     }
     Ok(())
-}
-
-/// The list of this one call.
-fn one(alloc: Global, call: u64) -> Result<Vec<u64>, AllocError> {
-    Ok(vec![in alloc; call]?)
 }

@@ -23,11 +23,19 @@ mod generated_tables;
 #[cfg(test)]
 mod lesson_tables;
 #[cfg(test)]
+mod lock;
+#[cfg(test)]
 mod record_tables;
+#[cfg(test)]
+mod record_tests;
 #[cfg(test)]
 mod replay_tables;
 #[cfg(test)]
 mod run_tables;
+#[cfg(test)]
+mod shared_pieces;
+#[cfg(test)]
+mod table_calls;
 #[cfg(test)]
 mod tables;
 #[cfg(test)]

@@ -1,14 +1,15 @@
 //! Replays on several threads, and a gate that sees whether two cores were worked at once.
 
-use crate::all_pairs::EACH_READS_ALL;
-use crate::calls::{ask, ask_at, recording_of, spelled};
-use crate::record_tables::RECORDINGS;
-use crate::run_tables::SUM;
+use crate::all_pairs::recorded;
+use crate::calls::{Answer, ask, ask_at};
+use crate::lock::of_the_lock;
+use crate::table_calls::{Form, named};
 use log_codec::read;
 use replay_threads::Gate;
 use row_texts::bytes;
 use rtr_types::Instr;
 use std::alloc::Global;
+use std::process::Abort;
 use std::sync::Wait;
 use std::sync::atomic::{AtomicU64, Ordering};
 use std::test::Fail;
@@ -86,78 +87,69 @@ fn totals_of(alloc: Global, bytes: &[u8]) -> Result<(u64, u64), Fail> {
     })
 }
 
+/// Compares a replay that passed the gate with the run, and the calls of the gate with the totals.
+fn is_worked<R: Abort>(rt: &R, replay: &Answer, run: &[u8], gate: &Meeting, totals: (u64, u64)) {
+    assert!(rt; replay.status == 0 && replay.joint);
+    assert!(rt; replay.output.as_slice() == run);
+    assert!(rt; gate.is_in_order() && gate.calls() == totals);
+}
+
 // Each of two cores takes the lock 500 times. Two workers replay it at the same time: each core is held until the other
 // has come, and then passes as often as its total says.
 #[test]
 fn two_workers_meet_and_pass_each_instruction_once(rt: HostRuntime) -> Result<(), Fail> {
     let alloc = rt.alloc();
-    let image = ask(&rt, alloc, "gen --shape lock --number 500", Vec::new(alloc))?.output;
-    let options = "--cores 2 --limit 100000 --words 128 --seed 7";
-    let run = ask(
-        &rt,
-        alloc,
-        &format!(in alloc; "run {options} --loads")?,
-        image.clone()?,
-    )?;
-    let made = ask(&rt, alloc, &format!(in alloc; "record {options}")?, image)?;
-    let totals = totals_of(alloc, made.output.as_slice())?;
+    let run = of_the_lock(&rt, alloc, "run", " --loads")?;
+    let made = of_the_lock(&rt, alloc, "record", "")?;
+    let totals = totals_of(alloc, made.as_slice())?;
     let gate = Meeting::new();
-    let words = "replay --threads 2 --loads";
-    let replay = ask_at(&rt, alloc, words, made.output, &gate)?;
-    assert_eq!(rt; replay.status, 0);
-    assert!(rt; replay.joint);
-    assert_eq!(rt; replay.output.as_slice(), run.output.as_slice());
-    assert!(rt; gate.is_in_order());
-    assert!(rt; gate.calls() == totals);
+    let replay = ask_at(&rt, alloc, "replay --threads 2 --loads", made, &gate)?;
+    is_worked(&rt, &replay, run.as_slice(), &gate, totals);
     Ok(())
 }
+
+/// Two cores that store to one word, and a reduced log that goes round.
+const GOES_ROUND: &str =
+    "52545201 02 904e 10 0c 93025500 23205002 73000000 0303 010202 010202 00 00";
 
 // A log that goes round: no worker starts, so that nobody passes the gate.
 #[test]
 fn no_worker_starts_where_the_log_goes_round(rt: HostRuntime) -> Result<(), Fail> {
     let alloc = rt.alloc();
-    let header = "52545201 02 904e 10 0c 93025500 23205002 73000000";
-    let rest = "0303 010202 010202 00 00";
-    let recording = spelled(alloc, &[header, rest])?;
+    let recording = bytes(alloc, GOES_ROUND)?;
     let gate = Meeting::new();
     let answer = ask_at(&rt, alloc, "replay --threads 2", recording, &gate)?;
-    assert_eq!(rt; answer.status, 4);
-    assert!(rt; !answer.joint);
-    assert_eq!(rt; answer.report.as_slice(), b"rtr: stuck at 1 1\n".as_slice());
+    assert!(rt; answer.status == 4 && !answer.joint);
+    assert!(rt; answer.report.as_slice() == b"rtr: stuck at 1 1\n".as_slice());
     assert!(rt; gate.calls() == (0, 0));
     Ok(())
 }
 
+/// Whether a replay by these words is one of workers, and gives these bytes.
+fn is_worked_alike<R: Threads + Wait + Sync>(
+    rt: &R,
+    alloc: Global,
+    words: &str,
+    recording: Vec<u8>,
+    alone: &[u8],
+) -> Result<bool, Fail> {
+    let replay = ask(rt, alloc, words, recording)?;
+    Ok(replay.joint && replay.output.as_slice() == alone)
+}
+
 /// Whether workers come to what one thread comes to: two by the reduced log, and eight by the regulated one.
-fn workers_agree<R: Threads + Wait + Sync>(
+pub fn workers_agree<R: Threads + Wait + Sync>(
     rt: &R,
     alloc: Global,
     recording: Vec<u8>,
 ) -> Result<bool, Fail> {
     let alone = ask(rt, alloc, "replay --loads", recording.clone()?)?;
-    let few = ask(rt, alloc, "replay --loads --threads 2", recording.clone()?)?;
-    let many = ask(
-        rt,
-        alloc,
-        "replay --log regulated --loads --threads 8",
-        recording,
-    )?;
-    let ended = alone.status == 0 && few.joint && many.joint;
-    Ok(
-        ended
-            && few.output.as_slice() == alone.output.as_slice()
-            && many.output.as_slice() == alone.output.as_slice(),
-    )
-}
-
-#[test]
-fn each_recording_is_replayed_by_workers(rt: HostRuntime) -> Result<(), Fail> {
-    let alloc = rt.alloc();
-    for row in &RECORDINGS {
-        let agree = workers_agree(&rt, alloc, recording_of(alloc, row)?)?;
-        assert!(rt; agree, "{}", row.words);
-    }
-    Ok(())
+    let given = alone.output.as_slice();
+    let words = "replay --loads --threads 2";
+    let few = is_worked_alike(rt, alloc, words, recording.clone()?, given)?;
+    let words = "replay --log regulated --loads --threads 8";
+    let many = is_worked_alike(rt, alloc, words, recording, given)?;
+    Ok(alone.status == 0 && few && many)
 }
 
 // Two cores add to a word by atomic memory operations, and each has what it found there among its loads.
@@ -165,7 +157,7 @@ fn each_recording_is_replayed_by_workers(rt: HostRuntime) -> Result<(), Fail> {
 fn workers_add_to_one_word(rt: HostRuntime) -> Result<(), Fail> {
     let alloc = rt.alloc();
     let words = "record --cores 2 --words 16 --choices 0000000000000000000000000000";
-    let made = ask(&rt, alloc, words, bytes(alloc, SUM)?)?.output;
+    let made = ask(&rt, alloc, words, named(alloc, "", "SUM", Form::Digits)?)?.output;
     let replay = ask(&rt, alloc, "replay --threads 2 --loads", made.clone()?)?;
     let loads = b"load 0 3 00000020 00000000\nload 1 3 00000020 00000001\n";
     assert!(rt; replay.output.ends_with(loads.as_slice()));
@@ -176,9 +168,7 @@ fn workers_add_to_one_word(rt: HostRuntime) -> Result<(), Fail> {
 // As many cores as there can be, each of which waits for every other, on fewer threads.
 #[test]
 fn sixteen_cores_are_worked_by_eight_threads(rt: HostRuntime) -> Result<(), Fail> {
-    let alloc = rt.alloc();
-    let words = "record --cores 16 --words 128 --seed 1";
-    let made = ask(&rt, alloc, words, bytes(alloc, EACH_READS_ALL)?)?;
-    assert!(rt; workers_agree(&rt, alloc, made.output)?);
+    let made = recorded(&rt, rt.alloc())?;
+    assert!(rt; workers_agree(&rt, rt.alloc(), made)?);
     Ok(())
 }
