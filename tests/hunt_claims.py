@@ -95,7 +95,7 @@ def read_number(text):
 
 
 def read_atom(text):
-    """A comparison, as its place, sign and right side; or how a core ended, as its number, none of all, and the stop."""
+    """A comparison, as place, sign and right side; or how a core ended, as its number (none for all) and its stop."""
     found = re.match(r"([^=<>!]*)(!=|<=|>=|=|<|>)(.*)", text, re.DOTALL)
     if found:
         left, right = value_place(found[1]), read_number(found[3])

@@ -21,6 +21,8 @@ class Names:
 
     def address(self, name):
         """The address of a word that is named, as `counter` or `sum[1]`."""
+        if not self.names:
+            raise Faulty(f"nothing is known of {name}: names need objdump for RISC-V, and symbols in the file")
         if name in self.twice:
             raise Faulty(f"two variables are called {name}")
         if name in self.places:
