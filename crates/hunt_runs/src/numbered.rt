@@ -125,7 +125,7 @@ impl Counted {
     }
 
     /// The list of few turns of this number. The only refusal is want of memory.
-    fn turns(&self, alloc: Global, number: u64) -> Made<Items<Turn>>
+    pub fn turns(&self, alloc: Global, number: u64) -> Made<Items<Turn>>
         ensures { IfOk result (λ turns. turns ≡ few self.now.each number) }
     {
         self.lists.list(alloc, number)
