@@ -7,3 +7,7 @@ found_report number = codes "rtr: run " ++ decimal number ++ codes " breaks it\n
 abbrev pub broken_report : (broken runs : ℕ) → List ℕ
 broken_report broken runs =
     codes "rtr: " ++ decimal broken ++ codes " of " ++ decimal runs ++ codes " runs break it\n"
+
+-- of a run that is given to be made small
+abbrev pub whole_report : List ℕ
+whole_report = codes "rtr: the run doesn't break it\n"
