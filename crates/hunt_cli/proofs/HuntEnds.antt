@@ -1,0 +1,133 @@
+-- How a hunt ends that found something, or was refused.
+use Rattle.std.proofs.Common.{◌≡◌, refl, sym, subst, ℕ, ◌==◌, Bool, true, false, cond, List, Option, Some, None}
+use Rattle.std.proofs.Common.{inl, inr}
+use Rattle.std.specs.Io.KnownBytes.{Appends, Keeps}
+use Rattle.state_text.specs.declared.exit.Exit.{Exit}
+use Rattle.state_text.specs.declared.exit.Exit.TheVariants as exits
+use Rattle.rtr_cli.specs.Answers.{Tells}
+use Rattle.end_claims.specs.declared.claim.Demand.{Demand}
+use Rattle.hunt_words.specs.declared.hunt.Hunt.{Hunt}
+use Rattle.hunt_words.specs.declared.hunt.Hunt.TheVariants.{First, Table, Small, Words, Record}
+use Rattle.hunt_words.specs.declared.hunt.RunName.{RunName}
+use Rattle.hunt_words.specs.declared.hunt.Runs.{Runs}
+use Rattle.hunt_words.specs.declared.hunt.Setup.{Setup}
+use Rattle.hunt_cli.specs.declared.exits.HuntExit.{HuntExit}
+use Rattle.hunt_cli.specs.declared.exits.HuntExit.TheVariants.{As, Breaks, Whole}
+use Rattle.hunt_cli.specs.Answers.{GivesNothing, HuntAnswers, IsFound, IsGiven, IsRefused, Moved}
+use Rattle.hunt_cli.specs.Finds.{FindsFirst, FindsOn, FindsSmall, broken_in, table_exit}
+use Rattle.hunt_cli.specs.Inputs.{setup_in}
+use Rattle.hunt_cli.specs.Kinds.{Setting, setting_of}
+
+pub keeps-same : (got : Option (List ℕ)) → Keeps got got
+keeps-same None = tt
+keeps-same (Some bytes) = refl
+
+-- a hunt that found something ends so
+abbrev Finishes : HuntExit → Type 0
+Finishes Breaks = Unit {0}
+Finishes Whole = Unit {0}
+Finishes (As exit) = exit ≡ exits.Done
+
+first-finishes : (setup : Setup) (s : Setting) (runs : Runs) (demand : Demand) (plain : Bool) (out report : List ℕ)
+    (exit : HuntExit) → FindsFirst setup s runs demand plain out report exit → Finishes exit
+first-finishes setup s runs demand plain out report Breaks h = tt
+first-finishes setup s runs demand plain out report Whole h = absurd h
+first-finishes setup s runs demand plain out report (As exits.Done) h = refl
+first-finishes setup s runs demand plain out report (As exits.Usage) h = absurd h
+first-finishes setup s runs demand plain out report (As exits.TooLarge) h = absurd h
+first-finishes setup s runs demand plain out report (As (exits.Bad part)) h = absurd h
+first-finishes setup s runs demand plain out report (As (exits.Stuck cut)) h = absurd h
+first-finishes setup s runs demand plain out report (As (exits.Short core count)) h = absurd h
+first-finishes setup s runs demand plain out report (As (exits.Undetermined first second)) h = absurd h
+first-finishes setup s runs demand plain out report (As (exits.CheckFailed failure)) h = absurd h
+first-finishes setup s runs demand plain out report (As exits.ReadFault) h = absurd h
+first-finishes setup s runs demand plain out report (As exits.WriteFault) h = absurd h
+first-finishes setup s runs demand plain out report (As exits.OutOfMemory) h = absurd h
+first-finishes setup s runs demand plain out report (As (exits.Elf fault)) h = absurd h
+first-finishes setup s runs demand plain out report (As (exits.NoInstr at)) h = absurd h
+first-finishes setup s runs demand plain out report (As (exits.TooMany vectors edges)) h = absurd h
+first-finishes setup s runs demand plain out report (As (exits.NotShown vector)) h = absurd h
+
+small-finishes : (setup : Setup) (s : Setting) (run : RunName) (demand : Demand) (out report : List ℕ)
+    (exit : HuntExit) → FindsSmall setup s run demand out report exit → Finishes exit
+small-finishes setup s run demand out report Breaks h = absurd h
+small-finishes setup s run demand out report Whole h = tt
+small-finishes setup s run demand out report (As exits.Done) h = refl
+small-finishes setup s run demand out report (As exits.Usage) h = absurd h
+small-finishes setup s run demand out report (As exits.TooLarge) h = absurd h
+small-finishes setup s run demand out report (As (exits.Bad part)) h = absurd h
+small-finishes setup s run demand out report (As (exits.Stuck cut)) h = absurd h
+small-finishes setup s run demand out report (As (exits.Short core count)) h = absurd h
+small-finishes setup s run demand out report (As (exits.Undetermined first second)) h = absurd h
+small-finishes setup s run demand out report (As (exits.CheckFailed failure)) h = absurd h
+small-finishes setup s run demand out report (As exits.ReadFault) h = absurd h
+small-finishes setup s run demand out report (As exits.WriteFault) h = absurd h
+small-finishes setup s run demand out report (As exits.OutOfMemory) h = absurd h
+small-finishes setup s run demand out report (As (exits.Elf fault)) h = absurd h
+small-finishes setup s run demand out report (As (exits.NoInstr at)) h = absurd h
+small-finishes setup s run demand out report (As (exits.TooMany vectors edges)) h = absurd h
+small-finishes setup s run demand out report (As (exits.NotShown vector)) h = absurd h
+
+table-finishes : (broken : ℕ) → Finishes (table_exit broken)
+table-finishes broken = by (broken == 0)
+  where
+    by : (none : Bool) → Finishes (cond none (As exits.Done) Breaks)
+    by true = refl
+    by false = tt
+
+finishes-so : (exit exit' : HuntExit) → exit ≡ exit' → Finishes exit' → Finishes exit
+finishes-so exit exit' is h = subst Finishes (sym is) h
+
+finishes : (s : Setting) (hunt : Hunt) (bytes out report : List ℕ) (exit : HuntExit)
+    → FindsOn s hunt bytes out report exit → Finishes exit
+finishes s (First setup runs demand plain) bytes out report exit h =
+    first-finishes setup s runs demand plain out report exit h
+finishes s (Table setup runs places demand) bytes out report exit h =
+    finishes-so exit (table_exit (broken_in h.0)) h.4 (table-finishes (broken_in h.0))
+finishes s (Small setup run demand) bytes out report exit h = small-finishes setup s run demand out report exit h
+finishes s (Words setup run) bytes out report exit h = finishes-so exit (As exits.Done) h.4 refl
+finishes s (Record setup run) bytes out report exit h = finishes-so exit (As exits.Done) h.4 refl
+
+-- what was found was printed and reported, so the hunt ends as it found
+printed : (hunt : Hunt) (exit : HuntExit) (out report : List ℕ) (m : Moved) → Finishes exit
+    → IsFound hunt exit out report m → Appends m.got m.got' out → Tells report m.told m.told' m.faults m.faults'
+    → HuntAnswers hunt exit m
+printed hunt Breaks out report m good found gave told = (out, report, found, gave, told)
+printed hunt Whole out report m good found gave told = (out, report, found, gave, told)
+printed hunt (As exit) out report m good found gave told =
+    subst (λ (e : Exit). HuntAnswers hunt (As e) m) (sym good) (
+      out,
+      report,
+      subst (λ (e : Exit). IsFound hunt (As e) out report m) good found,
+      gave,
+      told,
+    )
+
+pub given-answers : (hunt : Hunt) (found ends : HuntExit) (out report : List ℕ) (m : Moved)
+    → IsFound hunt found out report m
+    → IsGiven found out report ends m.got m.got' m.told m.told' m.faults m.faults' → HuntAnswers hunt ends m
+given-answers hunt found ends out report m is (inl all) =
+    subst (λ (e : HuntExit). HuntAnswers hunt e m) (sym all.0)
+    (printed hunt found out report m (finishes (setting_of (setup_in hunt) is.bytes) hunt is.bytes out report found
+    is.finds) is all.1 all.2)
+given-answers hunt found ends out report m is (inr part) =
+    subst (λ (e : HuntExit). HuntAnswers hunt e m) (sym part.0) (found, out, report, is, part.1, part.2)
+
+-- a hunt that was refused
+pub refused-answers : (hunt : Hunt) (exit : Exit) (m : Moved) → IsRefused (setup_in hunt) exit m.left m.left'
+    → GivesNothing exit m → HuntAnswers hunt (As exit) m
+refused-answers hunt exits.Done m h none = absurd h
+refused-answers hunt exits.Usage m h none = (h, none)
+refused-answers hunt exits.TooLarge m h none = (h, none)
+refused-answers hunt (exits.Bad part) m h none = (h, none)
+refused-answers hunt (exits.Stuck cut) m h none = (h, none)
+refused-answers hunt (exits.Short core count) m h none = (h, none)
+refused-answers hunt (exits.Undetermined first second) m h none = (h, none)
+refused-answers hunt (exits.CheckFailed failure) m h none = (h, none)
+refused-answers hunt exits.ReadFault m h none = (h, none)
+refused-answers hunt exits.WriteFault m h none = absurd h
+refused-answers hunt exits.OutOfMemory m h none = (h, none)
+refused-answers hunt (exits.Elf fault) m h none = (h, none)
+refused-answers hunt (exits.NoInstr at) m h none = (h, none)
+refused-answers hunt (exits.TooMany vectors edges) m h none = (h, none)
+refused-answers hunt (exits.NotShown vector) m h none = (h, none)

@@ -1,0 +1,5 @@
+pub mod PlacesWithin
+pub mod RunsSame
+pub mod ShownRuns
+pub mod FirstShown
+pub mod HuntEnds

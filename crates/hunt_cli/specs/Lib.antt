@@ -1,0 +1,6 @@
+pub mod Kinds
+pub mod RunEnds
+pub mod Inputs
+pub mod Statuses
+pub mod Finds
+pub mod Answers
