@@ -24,7 +24,8 @@ PROGRAMS = {
     ),
 }
 ROW = re.compile(r"^\| (.*) \|$", re.MULTILINE)
-BASE = re.compile(r"those of `(?:rtr )?(\w+)`(?: without `(--\w+)`)?")
+BASE = re.compile(r"those of `(?:rtr )?(\w+)`(?: without (`--\w+`(?: and `--\w+`)*))?")
+ONE_OF = re.compile(r"(?:exactly|at least) one of ([^;]*)")
 FLAGS = re.compile(r"the flags? (`--\w+`(?:(?:,| and) `--\w+`)*)")
 OPTION = re.compile(r"`--(\w+)`")
 
@@ -47,10 +48,12 @@ class Option:
 
 
 class Command:
-    """A command: its name, its options, what it reads and what it writes."""
+    """A command: its name, its options, what it reads and what it writes; the options that it requires, and groups of
+    options of which it requires one."""
 
-    def __init__(self, name, options, reads, writes, required):
-        self.name, self.options, self.reads, self.writes, self.required = name, options, reads, writes, required
+    def __init__(self, name, options, reads, writes):
+        self.name, self.options, self.reads, self.writes = name, options, reads, writes
+        self.required, self.groups = [], []
 
 
 def plain(text):
@@ -60,7 +63,7 @@ def plain(text):
 
 def values_of(text):
     """What is said of an option's value, between its name and the next option or flag."""
-    return re.sub(r"([,;]? both required.*|,? and|,)$", "", text.strip()).strip()
+    return re.sub(r"([,;]? both required.*|(,? |^)and|,)$", "", text.strip()).strip()
 
 
 def own_options(cell):
@@ -74,18 +77,32 @@ def own_options(cell):
 
 def options_of(cell, before, known):
     """The options of a command, where a cell may say that they are those of another one."""
-    base, left_out = [], None
+    base, left_out = [], []
     if cell.startswith("the same"):
         base = before
     found = BASE.search(cell)
     if found:
-        base, left_out = known[found[1]].options, found[2]
+        base, left_out = known[found[1]].options, OPTION.findall(found[2] or "")
         cell = cell.replace(found[0], "")
     own, like = own_options(cell), re.search(r"as for `(\w+)`", cell)
     if like:
         named = {it.name: it for it in known[like[1]].options}
-        own = [named.get(it.name, it) for it in own]
-    return [it for it in base if f"--{it.name}" != left_out] + own
+        own = [it if it.values and "as for" not in it.values else named.get(it.name, it) for it in own]
+    return [it for it in base if it.name not in left_out] + own
+
+
+def required_of(cell, known):
+    """The options that a command requires, by its cell."""
+    if "both required" in cell:
+        return [it.name for it in own_options(cell)[:2]]
+    others = [name for mark, name in (("`gen`", "gen"), ("`rtr at`", "at")) if mark in cell]
+    return known[others[0]].required if others else []
+
+
+def groups_of(cell, known):
+    """The groups of options of which a command requires one."""
+    found = BASE.search(cell)
+    return [OPTION.findall(it) for it in ONE_OF.findall(cell)] + (known[found[1]].groups if found else [])
 
 
 def sections():
@@ -100,20 +117,18 @@ def sections():
 
 def commands(known=None):
     """The commands of each program, in the order of the table."""
-    made, known = {}, {}
+    made, of_rtr = {}, {}
     for program, text in sections().items():
-        rows, before = [], []
+        rows, before, known = [], [], of_rtr if program == "rtr" else dict(of_rtr)
         for row in ROW.findall(text)[1:]:
             name, cell, reads, writes = row.split(" | ")
-            options = options_of(cell, before, known)
             found = re.fullmatch(r"`(\w+)`", name)
-            required = [it.name for it in own_options(cell)[:2]] if "both required" in cell else []
-            required = required or (known["gen"].required if "`gen`" in cell else [])
-            required = required or (known["at"].required if "`rtr at`" in cell else [])
-            rows.append(Command(found[1] if found else None, options, reads, writes, required))
-            before = options
-            if found and program == "rtr":
-                known[found[1]] = rows[-1]
+            command = Command(found[1] if found else None, options_of(cell, before, known), reads, writes)
+            command.required, command.groups = required_of(cell, known), groups_of(cell, known)
+            rows.append(command)
+            before = command.options
+            if found:
+                known[found[1]] = command
         made[program] = rows
     return made
 
@@ -133,11 +148,14 @@ def quoted(text):
 
 def usage(program, command):
     """The command's line of use."""
-    words = [program, command.name or "FILE"]
+    words, grouped = [program, command.name or "FILE"], {name: [] for group in command.groups for name in group}
     for it in command.options:
         word = f"--{it.name}" if it.is_flag else f"--{it.name} {'|'.join(it.words) or it.name.upper()}"
-        words.append(word if it.name in command.required else f"[{word}]")
-    return " ".join(words)
+        if it.name in grouped:
+            grouped[it.name] = word
+        else:
+            words.append(word if it.name in command.required else f"[{word}]")
+    return " ".join(words + [f"({'|'.join(grouped[name] for name in group)})" for group in command.groups])
 
 
 def manual(program, rows):
