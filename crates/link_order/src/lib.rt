@@ -142,6 +142,21 @@ impl<T: Drop + Blank> Link<T> {
         }
         Ok(Link::over(capacity, slots))
     }
+
+    /// Becomes an empty link with room for `capacity` items. If it has so many places, they are used again and no
+    /// memory is taken.
+    #[tactic(auto, using(crate::proofs::Rings::around_none))]
+    pub fn restart(&mut self, alloc: Global, capacity: u32) -> Result<(), AllocError>
+        ensures { OnOk result (self.new ≡ record { room = capacity; items = [] }) }
+    {
+        if self.capacity != capacity {
+            *self = Link::of_blanks(alloc, capacity)?;
+        }
+        self.first = 0;
+        self.next = 0;
+        self.count = 0;
+        Ok(())
+    }
 }
 
 // What moves no item.

@@ -70,6 +70,16 @@ impl<R: Rider> Cache<R> {
         Ok(Cache { lines, waiting: 0 })
     }
 
+    /// Holds nothing any more, as a new cache.
+    pub fn clear(&mut self)
+        ensures { self.new ≡ replicate LINES (empty_line R.riding.fresh) }
+    {
+        for place in 0..LINES {
+            self.lines[place].clear();
+        }
+        self.waiting = 0;
+    }
+
     /// Whether a core may read the block: its copy is held in S, M or on the way from S to M.
     pub fn can_read(&self, block: u32) -> bool
         ensures { result ≡ can_read (line_for R.riding.fresh self.now block) block }

@@ -64,6 +64,16 @@ impl<R: Rider> Line<R> {
         })
     }
 
+    /// Holds nothing any more.
+    pub(crate) fn clear(&mut self)
+        ensures { self.new ≡ empty_line R.riding.fresh }
+    {
+        self.state = State::I;
+        self.block = 0;
+        self.words = [0; BLOCK_WORDS];
+        self.rider.forget();
+    }
+
     /// Whether the line has the block's copy and it may be read.
     pub(crate) fn can_read(&self, block: u32) -> bool
         ensures { result ≡ can_read self.now block }

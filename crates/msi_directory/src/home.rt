@@ -76,6 +76,20 @@ impl<R: Rider> Home<R> {
         })
     }
 
+    /// Becomes a home over the image, as a new one, with the memory that it has. After want of memory nothing has
+    /// changed.
+    pub fn restart(&mut self, alloc: Global, image: &Image) -> Result<(), AllocError>
+        ensures opening { OnOk result (self.new.entries ≡ opening_entries R.riding.fresh image.now) }
+        ensures untouched { OnOk result (touched self.new.rooms ≡ 0) }
+        ensures err { OnErr result (self.new ≡ self.old) }
+    {
+        let bytes = image.bytes().to_vec(alloc)?;
+        self.opening = Image::flat(bytes, image.words()).unwrap();
+        self.fresh.forget();
+        self.kept.clear();
+        Ok(())
+    }
+
     /// How many blocks the memory has. Blocks are numbered from 0.
     pub fn blocks(&self) -> usize
         ensures { result ≡ length self.now.entries }

@@ -58,6 +58,16 @@ impl<R> KeptEntries<R> {
         }
     }
 
+    /// Keeps no entry any more.
+    pub(crate) fn clear(&mut self)
+    where
+        R: Drop,
+        ensures { self.new ≡ nothing_kept }
+    {
+        self.stages.clear();
+        self.copies.clear();
+    }
+
     /// How many entries there are.
     pub(crate) fn len(&self) -> usize
         ensures { result ≡ length self.now.blocks }

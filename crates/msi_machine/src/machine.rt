@@ -111,10 +111,49 @@ impl<R: Rider, K: Carry> Machine<R, K> {
         ensures one_writer { IfOk result (λ machine. OneWriterEach R.riding K.carrying machine.state) }
         ensures untouched { IfOk result (λ machine. touched machine.rooms ≡ 0) }
     {
-        let image = program.image();
+        let parts = Parts::new(alloc, program, params.cores, params.limit)?;
+        Machine::over(alloc, parts, params)
+    }
+
+    /// The machine of the same program before its first step again, with the memory that this one has: a run after
+    /// another one with as many cores takes hardly any.
+    pub fn restart(self, alloc: Global, params: Params) -> Result<Machine<R, K>, AllocError>
+        requires fits { Fits params }
+        requires words { self.state.image.words ≡ params.words }
+        ensures start { IfOk result (λ machine.
+            machine.state ≡ state_start R.riding K.carrying self.state.image params.cores params.limit) }
+        ensures plain { IfOk result (λ machine. plain machine.state ≡ opening_state self.state.image params) }
+        ensures coherent { IfOk result (λ machine.
+            Coherent R.riding K.carrying machine.state (opening_memory self.state.image)) }
+        ensures idle { IfOk result (λ machine. total_owed machine.state ≡ 0) }
+        ensures one_writer { IfOk result (λ machine. OneWriterEach R.riding K.carrying machine.state) }
+        ensures untouched { IfOk result (λ machine. touched machine.rooms ≡ 0) }
+    {
+        let Machine {
+            parts,
+            standings: _standings,
+            marks: _marks,
+            asker: _asker,
+        } = self;
+        let parts = parts.restart(alloc, params.cores, params.limit)?;
+        Machine::over(alloc, parts, params)
+    }
+
+    /// The machine over these parts, which are as at the start.
+    fn over(alloc: Global, parts: Parts<R, K>, params: Params) -> Result<Machine<R, K>, AllocError>
+        requires fits { Fits params }
+        requires words { parts.state.image.words ≡ params.words }
+        requires start { parts.state ≡ state_start R.riding K.carrying parts.state.image params.cores params.limit }
+        ensures parts { IfOk result (λ machine. machine ≡ parts) }
+        ensures plain { IfOk result (λ machine. plain parts.state ≡ opening_state parts.state.image params) }
+        ensures coherent { IfOk result (λ machine.
+            Coherent R.riding K.carrying parts.state (opening_memory parts.state.image)) }
+        ensures idle { IfOk result (λ machine. total_owed parts.state ≡ 0) }
+        ensures one_writer { IfOk result (λ machine. OneWriterEach R.riding K.carrying parts.state) }
+    {
+        let image = parts.program.image();
         let words = image.words();
         prove!(words == params.words);
-        let parts = Parts::new(alloc, program, params.cores, params.limit)?;
         let standings = first_standings(alloc, &parts.program, parts.cores.as_slice())?;
         let marks = first_marks(standings.as_slice());
         Ok(Machine {

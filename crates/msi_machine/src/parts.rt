@@ -66,6 +66,31 @@ impl<R: Rider, K: Carry> Parts<R, K> {
         })
     }
 
+    /// The parts at the start again, with the memory that they have.
+    pub(crate) fn restart(
+        self,
+        alloc: Global,
+        cores: u8,
+        limit: u32,
+    ) -> Result<Parts<R, K>, AllocError>
+        ensures state { IfOk result (λ parts.
+            parts.state ≡ state_start R.riding K.carrying self.state.image cores limit) }
+        ensures untouched { IfOk result (λ parts. touched parts.rooms ≡ 0) }
+    {
+        let Parts {
+            program,
+            cores: _cores,
+            mut memory,
+        } = self;
+        memory.restart(alloc, program.image(), cores)?;
+        let cores = first_cores(alloc, cores, limit)?;
+        Ok(Parts {
+            program,
+            cores,
+            memory,
+        })
+    }
+
     /// The program that the cores run.
     pub(crate) fn into_program(self) -> Program
         ensures { result ≡ self.state.image }

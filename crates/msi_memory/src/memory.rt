@@ -80,6 +80,22 @@ impl<R: Rider, K: Carry> MemorySystem<R, K> {
         })
     }
 
+    /// Becomes the memory system of so many cores at the start, with the memory that it has: as `new` makes it, but if
+    /// it has been used for so many cores, hardly any memory is taken.
+    pub fn restart(&mut self, alloc: Global, image: &Image, cores: u8) -> Result<(), AllocError>
+        ensures memory { OnOk result (self.new.memory ≡ memory_start R.riding K.carrying image.now cores) }
+        ensures untouched { OnOk result (touched self.new.rooms ≡ 0) }
+    {
+        if self.ports.len() == cores as usize {
+            restart_ports(alloc, self.ports.as_mut_slice())?;
+        } else {
+            self.ports = first_ports(alloc, cores)?;
+        }
+        self.home.restart(alloc, image)?;
+        self.carry = K::none();
+        Ok(())
+    }
+
     /// Whether the core's cache allows an access of this kind to the block now.
     pub fn allows(&self, core: u8, block: u32, kind: Kind) -> bool
         requires { core < length self.now.memory.ports }
@@ -300,6 +316,19 @@ fn first_ports<R: Rider, K: Carry>(alloc: Global, cores: u8) -> Result<Vec<Port<
         made.push(Port::new(alloc)?)?;
     }
     Ok(made)
+}
+
+/// Each of these ports becomes one at the start.
+fn restart_ports<R: Rider, K: Carry>(
+    alloc: Global,
+    ports: &mut [Port<R, K>],
+) -> Result<(), AllocError>
+    ensures { OnOk result (ports.new ≡ replicate (length ports.old) (port_start R.riding K.carrying)) }
+{
+    for place in 0..ports.len() {
+        ports[place].restart(alloc)?;
+    }
+    Ok(())
 }
 
 /// The words that a cache's copy of the block has, where it may be read.

@@ -1,5 +1,5 @@
 //! A core's side of the memory system.
-ghost use Rattle.std.specs.Prelude.{◌≡◌, ◌<◌, IfOk, IsTrue, None, Some, false, length};
+ghost use Rattle.std.specs.Prelude.{◌≡◌, ◌<◌, IfOk, IsTrue, None, OnOk, Some, false, length};
 ghost use Rattle.msi_cache.specs.Lines.{answer, has_row, line_for, lines_after, waits};
 ghost use Rattle.msi_cache.specs.Messages.{block_of, message_seen, signal};
 ghost use Rattle.msi_memory.specs.Acts.{data_next, port_taking};
@@ -83,6 +83,17 @@ impl<R: Rider, K: Carry> Port<R, K> {
             responses,
             messages,
         })
+    }
+
+    /// Becomes a port at the start, with the memory that it has.
+    pub(crate) fn restart(&mut self, alloc: Global) -> Result<(), AllocError>
+        ensures { OnOk result (self.new ≡ port_start R.riding K.carrying) }
+    {
+        self.carry = K::none();
+        self.cache.clear();
+        self.requests.restart(alloc, 1)?;
+        self.responses.restart(alloc, CORES_MAX as u32)?;
+        self.messages.restart(alloc, CORES_MAX as u32)
     }
 
     /// Takes the oldest message from home, and answers it where the cache's table has an answer. Whether some
