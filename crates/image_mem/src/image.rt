@@ -1,9 +1,10 @@
 //! Images: the bytes that a machine starts with.
 ghost use Rattle.std.specs.Prelude.{◌≡◌, ◌+◌, ◌*◌, ◌%◌, ◌<◌, ◌≤◌, ◌≢◌, ◌↔◌, ◌⊎◌, IsErr, IsNone, IfOk, length};
 ghost use Rattle.std.specs.Prelude.{slice_index};
-ghost use Rattle.image_mem.specs.Contents.{Contents, fetched, opening_word};
+ghost use Rattle.image_mem.specs.Contents.{Contents, fetched, opening_word, opening_words};
 
 use byteorder::{ByteOrder, LittleEndian};
+use std::alloc::{AllocError, Global};
 use std::marker::Model;
 
 /// The image has more bytes than the memory.
@@ -75,6 +76,20 @@ impl Image {
             byte(bytes, start + 3),
         ];
         LittleEndian::read_u32(&lanes)
+    }
+
+    /// What each word of the memory holds at the start, by index. Words that the image doesn't reach are filled in as a
+    /// whole. The only refusal is want of memory.
+    pub fn opening(&self, alloc: Global) -> Result<Vec<u32>, AllocError>
+        ensures { IfOk result (λ words. words.items ≡ opening_words self.now) }
+    {
+        let mut words = Vec::with_capacity(alloc, self.words as usize)?;
+        let reached = self.bytes().len().div_ceil(4) as u32;
+        for word in 0..reached {
+            words.push(self.word(word))?;
+        }
+        words.resize(self.words as usize, 0)?;
+        Ok(words)
     }
 
     /// How many words the memory has.

@@ -26,11 +26,9 @@ impl Memory {
         ensures words { IfOk result (λ memory. memory ≡ opening_words image.now) }
         ensures length { IfOk result (λ memory. length memory ≡ image.now.words) }
     {
-        let mut words = Vec::with_capacity(alloc, image.words() as usize)?;
-        for word in 0..image.words() {
-            words.push(image.word(word))?;
-        }
-        Ok(Memory { words })
+        Ok(Memory {
+            words: image.opening(alloc)?,
+        })
     }
 
     /// The value of a word.
@@ -47,5 +45,13 @@ impl Memory {
         ensures { self.new ≡ slice_set self.old word value }
     {
         self.words[word as usize] = value;
+    }
+
+    /// All words by index, without taking memory.
+    pub fn into_words(self) -> Vec<u32>
+        ensures { result.items ≡ self }
+    {
+        let Memory { words } = self;
+        words
     }
 }

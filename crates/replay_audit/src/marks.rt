@@ -7,6 +7,7 @@ ghost use Rattle.replay_audit.specs.Marks.{AreMarksCovered, IsElsewhere, IsMark,
 ghost use Rattle.replay_audit.specs.Marks.{crowd_of, first_mark, HasRead, mark_at};
 
 use crate::clock_of::ClockOf;
+use block_lists::BlockList;
 use clock_core::Clock;
 use rtr_types::{Access, CORES_MAX, Instr};
 use std::alloc::{AllocError, Global};
@@ -32,10 +33,11 @@ struct Mark {
     crowd: usize,
 }
 
-/// A mark for each word, and the crowds: for each core the count of a read, or 0. Each word has its own.
+/// A mark for each word, and the crowds: for each core the count of a read, or 0. Each word has its own. Marks of words
+/// that nobody touched take no memory.
 #[derive(Drop)]
 pub struct Marks {
-    marks: Vec<Mark>,
+    marks: BlockList<Mark>,
     crowds: Vec<Clock>,
 }
 
@@ -44,9 +46,9 @@ impl Model for Marks {
 
     ghost Value = { Marked };
 
-    ghost view = { λ a. record { marks = a.marks.items; crowds = a.crowds.items } };
+    ghost view = { λ a. record { marks = a.marks; crowds = a.crowds.items } };
 
-    ghost invariant = { λ a. AreSound (record { marks = a.marks.items; crowds = a.crowds.items }) };
+    ghost invariant = { λ a. AreSound (record { marks = a.marks; crowds = a.crowds.items }) };
 }
 
 impl Marks {
@@ -55,14 +57,9 @@ impl Marks {
         ensures marks { IfOk result (λ marks. marks.marks ≡ replicate words first_mark) }
         ensures crowds { IfOk result (λ marks. marks.crowds ≡ []) }
     {
-        let mut marks = Vec::with_capacity(alloc, words as usize)?;
-        for word in 0..words {
-            marks.push(Mark::first())?;
-        }
-        Ok(Marks {
-            marks,
-            crowds: Vec::new(alloc),
-        })
+        let marks = BlockList::new(alloc, words as usize, Mark::first())?;
+        let crowds = Vec::new(alloc);
+        Ok(Marks { marks, crowds })
     }
 
     /// Whether the clock covers the last write of the access's word and, where the access writes, the reads
@@ -71,13 +68,12 @@ impl Marks {
     pub fn are_covered(&self, access: &Access, clock: &ClockOf) -> bool
         ensures { IsTrue result → AreMarksCovered self.now access.now clock.now }
     {
-        match self.marks.get(access.word as usize) {
-            Some(mark) => {
-                clock.covers(mark.write)
-                    && (!access.kind.is_write() || self.are_reads_covered(mark, clock))
-            }
-            None => false,
+        let word = access.word as usize;
+        if word >= self.marks.len() {
+            return false;
         }
+        let mark = self.marks.get(word);
+        clock.covers(mark.write) && (!access.kind.is_write() || self.are_reads_covered(mark, clock))
     }
 
     /// Marks an access, whose clock this is.
@@ -91,8 +87,7 @@ impl Marks {
             return Ok(());
         }
         if access.kind.is_write() {
-            self.write(word, access.at);
-            return Ok(());
+            return self.write(word, access.at);
         }
         self.read(word, access.at, clock)
     }
@@ -113,18 +108,19 @@ impl Marks {
 
     /// Marks a write: it forgets the reads before it.
     #[inline(always)]
-    fn write(&mut self, word: usize, at: Instr)
+    fn write(&mut self, word: usize, at: Instr) -> Result<(), AllocError>
         requires word { word < length self.old.marks }
         requires core { at.core < CORES_MAX }
-        ensures elsewhere { IsElsewhere self.old word self.new }
-        ensures write { (mark_at self.new word).write ≡ at }
+        ensures elsewhere { OnOk result (IsElsewhere self.old word self.new) }
+        ensures write { OnOk result ((mark_at self.new word).write ≡ at) }
     {
-        let crowd = self.marks[word].crowd;
-        self.marks[word] = Mark {
+        let crowd = self.marks.get(word).crowd;
+        let mark = Mark {
             write: at,
             reads: Reads::Unread,
             crowd,
         };
+        self.marks.set(word, mark)
     }
 
     /// Marks a read, whose clock this is. It takes the place of one that its clock covers.
@@ -135,38 +131,41 @@ impl Marks {
         ensures elsewhere { OnOk result (IsElsewhere self.old word self.new) }
         ensures read { OnOk result (IsReadNext self.old word at clock.now self.new) }
     {
-        match self.marks[word].reads {
+        match self.marks.get(word).reads {
             Reads::Unread => self.replace(word, at),
             Reads::One { at: one } => {
                 if !clock.covers(one) {
                     return self.gather(word, one, at);
                 }
-                self.replace(word, at);
+                self.replace(word, at)
             }
-            Reads::Crowd => self.join(word, at),
+            Reads::Crowd => {
+                self.join(word, at);
+                Ok(())
+            }
         }
-        Ok(())
     }
 
     /// Has this as the one read.
     #[inline(always)]
-    fn replace(&mut self, word: usize, at: Instr)
+    fn replace(&mut self, word: usize, at: Instr) -> Result<(), AllocError>
         requires word { word < length self.old.marks }
         requires core { at.core < CORES_MAX }
-        ensures elsewhere { IsElsewhere self.old word self.new }
-        ensures write { (mark_at self.new word).write ≡ (mark_at self.old word).write }
-        ensures read { IsReader self.new word at }
+        ensures elsewhere { OnOk result (IsElsewhere self.old word self.new) }
+        ensures write { OnOk result ((mark_at self.new word).write ≡ (mark_at self.old word).write) }
+        ensures read { OnOk result (IsReader self.new word at) }
     {
         let Mark {
             write,
             reads: _reads,
             crowd,
-        } = self.marks[word];
-        self.marks[word] = Mark {
+        } = *self.marks.get(word);
+        let mark = Mark {
             write,
             reads: Reads::One { at },
             crowd,
         };
+        self.marks.set(word, mark)
     }
 
     /// Has two reads in the word's crowd.
@@ -196,23 +195,24 @@ impl Marks {
             write,
             reads: _reads,
             crowd,
-        } = self.marks[word];
+        } = *self.marks.get(word);
         if crowd > 0 {
             self.crowds[crowd - 1] = reads;
-            self.marks[word] = Mark {
+            let mark = Mark {
                 write,
                 reads: Reads::Crowd,
                 crowd,
             };
+            self.marks.set(word, mark)?;
             return Ok(());
         }
         self.crowds.push(reads)?;
-        self.marks[word] = Mark {
+        let mark = Mark {
             write,
             reads: Reads::Crowd,
             crowd: self.crowds.len(),
         };
-        Ok(())
+        self.marks.set(word, mark)
     }
 
     /// Has one read more in the word's crowd.
@@ -226,7 +226,7 @@ impl Marks {
         ensures read { IsReader self.new word at }
         ensures reads { (x : SomeInstr) → IsReader self.old word x → IsReader self.new word x }
     {
-        let crowd = self.marks[word].crowd - 1;
+        let crowd = self.marks.get(word).crowd - 1;
         raise(&mut self.crowds[crowd], at);
     }
 }

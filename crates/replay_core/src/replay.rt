@@ -240,21 +240,21 @@ impl<'a> Replay<'a> {
         self.loads.has_room()
     }
 
-    /// What the play has come to.
-    pub fn into_outcome(self, alloc: Global) -> Result<Outcome, AllocError>
+    /// What the play has come to. The words of the memory are handed on as they are.
+    pub fn into_outcome(self, _alloc: Global) -> Result<Outcome, AllocError>
         ensures { IfOk result (λ outcome. outcome ≡ self.entry.state) }
     {
         let Replay {
             recording: _recording,
             which: _which,
-            program,
+            program: _program,
             cores,
             memory,
             loads,
         } = self;
         Ok(Outcome {
             cores: Items::from_vec(cores),
-            words: words_of(alloc, &memory, program.image().words())?,
+            words: Items::from_vec(memory.into_words()),
             loads: loads.into_items(),
         })
     }
@@ -358,18 +358,6 @@ fn cores_of(alloc: Global, cores: u8, limit: u32) -> Result<Vec<Core>, AllocErro
     let mut list = Vec::new(alloc);
     for id in 0..cores {
         list.push(Core::new(id, limit))?;
-    }
-    Ok(list)
-}
-
-/// The words of the memory, of which there are `words`.
-fn words_of(alloc: Global, memory: &Memory, words: u32) -> Result<Items<u32>, AllocError>
-    requires { length memory.now ≡ words }
-    ensures { IfOk result (λ list. list ≡ memory.now) }
-{
-    let mut list = Items::new(alloc);
-    for word in 0..words {
-        list.push(memory.get(word))?;
     }
     Ok(list)
 }

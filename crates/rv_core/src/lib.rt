@@ -5,7 +5,8 @@
 //! A core's fields are public plain data, since layers above compare whole cores. A register past x31 reads 0, so the
 //! core needs no premise about it. The laws of a step go by whether the needed access reads or writes, never by its
 //! name. An instruction retires by one match, in place of one for each part of the state. `Program` decodes each word
-//! of the image once.
+//! of the image once. The parts of an instruction (`operations`, `branches`, `lane_access`, `atomics`) are public, for
+//! crates that carry many instructions out in one go.
 //!
 //! Proved: `Core::need` and `finish` are the definitions `need`, `after` and `wrote`. The module `laws` has the laws of
 //! a step, by whether the needed access reads and writes its word. `Program::op` is the instruction at an address by
@@ -13,12 +14,12 @@
 //! and the bits lie within the mask (`masks_give_what_stores_write`).
 #![tactic(auto)]
 
-mod atomics;
-mod branches;
+pub mod atomics;
+pub mod branches;
 mod core_state;
-mod lane_access;
+pub mod lane_access;
 pub mod laws;
-mod operations;
+pub mod operations;
 mod outcome;
 mod program;
 

@@ -1,5 +1,5 @@
 //! The text of the state that a run or a replay left.
-ghost use Rattle.std.specs.Prelude.{◌≡◌, ◌<◌, ◌≤◌, ◌++◌, OnOk, IfOk, All, length, string_bytes};
+ghost use Rattle.std.specs.Prelude.{◌≡◌, ◌+◌, ◌<◌, ◌≤◌, ◌++◌, OnOk, IfOk, IsTrue, All, length, string_bytes};
 ghost use Rattle.std.specs.List.{flat_map, enumerate_from};
 ghost use Rattle.state_text.specs.States.{stop_name, stop_line, register_line, register_lines, core_lines, memory_line};
 ghost use Rattle.state_text.specs.States.{load_line, load_lines, state_lines, IsOutcomeOf, LoadsWithin};
@@ -9,6 +9,9 @@ use image_mem::Image;
 use rtr_types::{Items, WORDS_MAX};
 use rv_core::{Core, LoadNote, Outcome, REGISTERS, Stop};
 use std::alloc::{AllocError, Global};
+
+/// How many words are looked at in one step where the image doesn't reach.
+const STRETCH: usize = 64;
 
 /// The state that a run or a replay left, as text: for each core by number how it stopped and its
 /// registers that aren't 0, then each memory word that doesn't have its opening value, by address,
@@ -121,8 +124,57 @@ fn put_memory(text: &mut String, words: &[u32], image: &Image) -> Result<(), All
     ensures { OnOk result (string_bytes text.new ≡ string_bytes text.old
         ++ flat_map (memory_line image.now) (enumerate_from 0 words.now)) }
 {
-    for (word, value) in words.iter().enumerate() {
-        put_word(text, word as u32, *value, image)?;
+    let stretches = words.len().div_ceil(STRETCH);
+    for stretch in 0..stretches {
+        let start = stretch * STRETCH;
+        let end = (start + STRETCH).min(words.len());
+        put_stretch(text, start, &words[start..end], image)?;
+    }
+    Ok(())
+}
+
+// Puts the words of a stretch that begins at `first` and don't have their opening values. Past the image these are 0:
+// so a stretch that nobody wrote is looked at as a whole.
+fn put_stretch(
+    text: &mut String,
+    first: usize,
+    words: &[u32],
+    image: &Image,
+) -> Result<(), AllocError>
+    requires { first + length words.now ≤ WORDS_MAX }
+    ensures { OnOk result (string_bytes text.new ≡ string_bytes text.old
+        ++ flat_map (memory_line image.now) (enumerate_from first words.now)) }
+{
+    if 4 * first >= image.bytes().len() && are_zero(words) {
+        return Ok(());
+    }
+    put_words(text, first, words, image)
+}
+
+// Whether each word is 0. There is no way out of the loop, so that several words are looked at in one step.
+fn are_zero(words: &[u32]) -> bool
+    ensures { IsTrue result → All (λ word. word ≡ 0) words.now }
+{
+    let mut most: u32 = 0;
+    for word in words {
+        most = most.max(*word);
+    }
+    most == 0
+}
+
+// Puts the words from `first` on that don't have their opening values, one by one.
+fn put_words(
+    text: &mut String,
+    first: usize,
+    words: &[u32],
+    image: &Image,
+) -> Result<(), AllocError>
+    requires { first + length words.now ≤ WORDS_MAX }
+    ensures { OnOk result (string_bytes text.new ≡ string_bytes text.old
+        ++ flat_map (memory_line image.now) (enumerate_from first words.now)) }
+{
+    for (k, value) in words.iter().enumerate() {
+        put_word(text, (first + k) as u32, *value, image)?;
     }
     Ok(())
 }

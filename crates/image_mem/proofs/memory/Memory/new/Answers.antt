@@ -1,14 +1,8 @@
 use Rattle.std.proofs.Common.{arith}
 use Rattle.std.proofs.lemmas.Grind.{common_steps}
-use Rattle.std.proofs.lemmas.List.FromFn.{map-range_with_len_more, length-map-range_with_len}
+use Rattle.std.proofs.lemmas.List.FromFn.{length-map-range_with_len}
 use Rattle.image_mem.specs.Contents.{opening_word}
 use Rattle.image_mem.proofs.memory.Memory.new.Goals as goal
-
-pub loop-word-preserved : goal.loop-word-preserved
-loop-word-preserved c =
-    let more = map-range_with_len_more (opening_word c.args.image.now) 0 c.loop-word.word c.loop-word.word
-    (omega arith) in
-    grind (arith, common_steps, more)
 
 pub returns-clause-length : goal.returns-clause-length
 returns-clause-length c =

@@ -1,0 +1,6 @@
+-- the greatest so far
+use Rattle.std.proofs.Common.{ℕ, ◌<◌, ◌≤◌, get_or}
+use Rattle.state_text.proofs.states.are_zero.Given as goal
+
+abbrev pub invariant-loop-word : goal.invariant-loop-word
+invariant-loop-word l = (k : ℕ) → k < l.word-index → get_or l.words k 0 ≤ l.most
