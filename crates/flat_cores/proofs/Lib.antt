@@ -1,0 +1,3 @@
+pub mod Hits
+pub mod Writes
+pub mod AskingNodes

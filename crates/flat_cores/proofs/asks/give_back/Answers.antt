@@ -1,0 +1,13 @@
+use Rattle.std.proofs.Common.{refl}
+use Rattle.flat_state.proofs.NodeReads.{in_nodes}
+use Rattle.flat_cores.proofs.AskingNodes.{give_back_stands}
+use Rattle.flat_cores.proofs.asks.give_back.Goals as goal
+
+pub returns : goal.returns
+returns c = λ s memory stands on.
+    let f = c.args.flat.now in
+    let n = c.index_mut-node.result.now in
+    let is = in_nodes f.nodes.items c.args.core n c.requires.core c.index_mut-node.ensures.value in
+    give_back_stands f _ s memory c.args.core c.args.word n c.wait_for.new.node _ _ _ c.requires.core is
+    c.requires.need c.requires.copy c.requires.other refl c.leaving-state.ensures c.put_of-ask.ensures
+    c.wait_for.ensures refl refl refl stands on

@@ -1,0 +1,29 @@
+use Rattle.std.proofs.Common.{ap, refl}
+use Rattle.rv_core.specs.Steps.{is_done}
+use Rattle.flat_state.proofs.NodeReads.{going_on, in_nodes, op_kept}
+use Rattle.flat_cores.proofs.Hits.{local_stands}
+use Rattle.flat_cores.proofs.retire.retire_local.Goals as goal
+
+pub retire-value-requires-clause-more : goal.retire-value-requires-clause-more
+retire-value-requires-clause-more c =
+    let f = c.args.flat.now in
+    let w = c.requires.stands in
+    let n = c.index_mut-node.result.now in
+    going_on f w.s c.args.core w.stands.shows c.requires.core n
+    (in_nodes f.nodes.items c.args.core n c.requires.core c.index_mut-node.ensures.value) (ap is_done c.requires.local)
+
+pub retire-value-requires-clause-op : goal.retire-value-requires-clause-op
+retire-value-requires-clause-op c =
+    let f = c.args.flat.now in
+    let w = c.requires.stands in
+    let n = c.index_mut-node.result.now in
+    op_kept f w.s c.args.core w.stands.shows c.requires.core n
+    (in_nodes f.nodes.items c.args.core n c.requires.core c.index_mut-node.ensures.value)
+
+pub returns : goal.returns
+returns c = λ s memory stands on.
+    let f = c.args.flat.now in
+    let n = c.index_mut-node.result.now in
+    local_stands f _ s memory c.args.core n c.retire-value.new.self c.requires.core
+    (in_nodes f.nodes.items c.args.core n c.requires.core c.index_mut-node.ensures.value) c.retire-value.ensures.node
+    refl refl refl c.requires.local stands on

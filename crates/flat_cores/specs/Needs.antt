@@ -1,0 +1,52 @@
+-- What a core's own move looks at, and how it asks.
+use Rattle.std.specs.Prelude.{ℕ, Bool, true, false, Option, Some, None, slice_set}
+use Rattle.rv_core.specs.declared.core_state.Need.{Need}
+use Rattle.rv_core.specs.declared.core_state.Need.TheVariants.{Load, Store, Amo}
+use Rattle.msi_cache.specs.declared.line.State.{State as LineState}
+use Rattle.msi_cache.specs.declared.line.State.TheVariants.{S, M, IsD, ImD, SiA, MiA}
+use Rattle.flat_state.specs.declared.node.Ask.{Ask}
+use Rattle.flat_state.specs.declared.node.Ask.TheVariants.{GetS, GetM, PutS, PutM}
+use Rattle.flat_state.specs.declared.node.KeptLine.{KeptLine}
+use Rattle.flat_state.specs.declared.node.Node.{Node}
+
+-- the word that the instruction writes, if it may write one
+abbrev pub written : Need → Option ℕ
+written (Store word whole) = Some word
+written (Amo word) = Some word
+written _ = None
+
+-- the word that the instruction looks at, if it looks at one
+abbrev pub looked : Need → Option ℕ
+looked (Load word) = Some word
+looked (Store word whole) = Some word
+looked (Amo word) = Some word
+looked _ = None
+
+-- a copy that its core may read, and that waits for nothing
+abbrev pub is_copy : LineState → Bool
+is_copy S = true
+is_copy M = true
+is_copy _ = false
+
+-- what is asked for, for what an instruction needs, and how the line then waits
+abbrev pub get_of : Need → Ask
+get_of (Load word) = GetS
+get_of _ = GetM
+
+abbrev pub getting : Need → LineState
+getting (Load word) = IsD
+getting _ = ImD
+
+-- how a copy is given back, and how the line then waits
+abbrev pub put_of : LineState → Ask
+put_of M = PutM
+put_of _ = PutS
+
+abbrev pub leaving : LineState → LineState
+leaving M = MiA
+leaving _ = SiA
+
+-- the node with this line, for whose block it asks
+abbrev pub node_asked : Node → (index : ℕ) → KeptLine → Ask → Node
+node_asked n index line ask =
+    record n { lines = slice_set n.lines index line; asks = true; ask = ask; place = line.place }

@@ -1,0 +1,4 @@
+pub mod Turning
+pub mod Requests
+pub mod Responses
+pub mod Tells

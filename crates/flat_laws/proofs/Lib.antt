@@ -1,0 +1,4 @@
+pub mod MarkedMoves
+pub mod Followed
+pub mod LastWords
+pub mod LeftSteps

@@ -1,0 +1,3 @@
+pub mod HeardNodes
+pub mod WordMoves
+pub mod DataMoves

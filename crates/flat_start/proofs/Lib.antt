@@ -1,0 +1,2 @@
+pub mod StartNodes
+pub mod MoreBlocks

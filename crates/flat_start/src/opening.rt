@@ -1,0 +1,78 @@
+//! The flat state at the start.
+ghost use Rattle.std.specs.Prelude.{◌≡◌, ◌≤◌, ◌*◌, [], IfOk, length, map};
+ghost use Rattle.std.specs.List.{range_with_len};
+ghost use Rattle.access_times.specs.Riding.{none_carrying, none_riding};
+ghost use Rattle.rtr_types.specs.declared.params.TheConstants.{LIMIT_MAX};
+ghost use Rattle.rtr_types.specs.declared.TheConstants.{CORES_MAX};
+ghost use Rattle.machine_data.specs.Coherent.{opening_memory};
+ghost use Rattle.msi_state.specs.States.{state_start};
+ghost use Rattle.flat_state.specs.Shows.{Stands};
+ghost use Rattle.flat_start.specs.Starts.{node_start};
+
+use flat_state::{Ask, Flat, KeptLine, MessageRing, Node, ReplyRing};
+use image_mem::Image;
+use msi_cache::State;
+use rv_core::{Core, Program};
+use std::alloc::{AllocError, Global};
+
+/// The flat state of so many cores that are to run an image, each with this limit, before its first move. The only
+/// refusal is want of memory.
+pub fn start(alloc: Global, image: Image, cores: u8, limit: u32) -> Result<Flat, AllocError>
+    requires cores { cores ≤ CORES_MAX }
+    requires limit { limit ≤ LIMIT_MAX }
+    requires room { length image.bytes ≤ 4 * image.words }
+    ensures stands { IfOk result (λ f. Stands f (state_start none_riding none_carrying image cores limit)
+        (opening_memory image)) }
+    ensures empty { IfOk result (λ f. f.home.items ≡ []) }
+{
+    let program = Program::new(alloc, image)?;
+    let nodes = nodes_at_start(alloc, &program, cores, limit)?;
+    let home = Vec::new(alloc);
+    Ok(Flat {
+        program,
+        nodes,
+        home,
+    })
+}
+
+/// The cores at their ports, by number. The only refusal is want of memory.
+#[tactic(auto, using(rtr_types::proofs::Ranges::map_range_more))]
+fn nodes_at_start(
+    alloc: Global,
+    program: &Program,
+    cores: u8,
+    limit: u32,
+) -> Result<Vec<Node>, AllocError>
+    ensures { IfOk result (λ nodes. nodes.items
+        ≡ map (λ id. node_start program.now id limit) (range_with_len 0 cores)) }
+{
+    let mut nodes = Vec::new(alloc);
+    for id in 0..cores {
+        nodes.push(node_at_start(program, id, limit))?;
+    }
+    Ok(nodes)
+}
+
+/// A core at its port: its lines hold nothing, and nothing is on its way.
+fn node_at_start(program: &Program, id: u8, limit: u32) -> Node
+    ensures { result ≡ node_start program.now id limit }
+{
+    let core = Core::new(id, limit);
+    let op = program.op(core.pc());
+    let need = core.need_by_op(program.image(), op);
+    Node {
+        core,
+        need,
+        op,
+        lines: [KeptLine {
+            block: 0,
+            place: 0,
+            state: State::I,
+        }; 16],
+        asks: false,
+        ask: Ask::GetS,
+        place: 0,
+        replies: ReplyRing::new(),
+        messages: MessageRing::new(),
+    }
+}
