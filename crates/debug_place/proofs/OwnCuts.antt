@@ -1,6 +1,6 @@
--- A replay is at the cut of its own counts, which is closed; and where it's at a cut, that is the one.
+-- One is at the cut of its own counts, which is closed; and where it's at a cut, that is the one.
 use Rattle.std.proofs.Common.{◌≡◌, inl, inr, ℕ, ◌<◌, List, refl, sym, ap, subst, ◌∙◌, arith}
-use Rattle.std.specs.Prelude.{IsTrue, nat_lt, slice_index, Result, Ok, Err, OnErr, OnOk}
+use Rattle.std.specs.Prelude.{IsTrue, nat_lt, slice_index}
 use Rattle.std.proofs.Math.Path.{fun_ext}
 use Rattle.std.proofs.lemmas.Bool.{cases_lt, lt-ltb, ltb-true}
 use Rattle.std.proofs.lemmas.List.{get_or_past}
@@ -13,19 +13,17 @@ use Rattle.replay_core.specs.Answers.{UnderWay, cut_of}
 use Rattle.replay_core.specs.Laws.{PlayKnown}
 use Rattle.replay_core.specs.Orders.{counts, counts_in, nought}
 use Rattle.replay_core.specs.Plans.{Plan, plan_of}
-use Rattle.replay_core.specs.Play.{played, start}
-use Rattle.replay_core.proofs.Places.{play_law, start_known}
+use Rattle.replay_core.specs.Play.{played}
+use Rattle.replay_core.proofs.Places.{play_law}
 use Rattle.replay_audit.specs.Audits.{IsInstrOf}
 use Rattle.replay_audit.specs.Determinate.{Decides}
 use Rattle.cut_replay.specs.ClosedCuts.{count_in, IsClosed, IsContained}
 use Rattle.cut_replay.specs.Dues.{IsOnTheWay}
 use Rattle.cut_replay.proofs.Unique.{one_cut}
-use Rattle.cut_replay.proofs.Ways.{state_at, way_start}
+use Rattle.cut_replay.proofs.Ways.{state_at}
 use Rattle.cut_moves.proofs.Fronts.{count_is, order_cut}
-use Rattle.cut_moves.proofs.Hulls.{empty_closed, empty_cut, none_in}
 use Rattle.cut_moves.specs.Steps.{last_in, next_in}
 use Rattle.debug_place.specs.Places.{IsReplayAt}
-use Rattle.debug_place.specs.Walks.{FallsShort}
 
 -- the cut of a replay's own counts
 abbrev pub own_cut : Which → Recording → UnderWay → Cut
@@ -132,59 +130,6 @@ module _ {which : Which} {r : Recording} {cut : Cut} {u : UnderWay} (at : IsRepl
 pub told_own : {which : Which} {r : Recording} {u : UnderWay} → IsReplayAt which r (own_cut which r u) u → {cut : Cut} →
     cut ≡ cut_of u.plan (counts_in u.state) → cut ≡ own_cut which r u
 told_own {u = u} at is = is ∙ ap (λ (plan : Plan). cut_of plan (counts_in u.state)) at.plan_is
-
--- room was made
-pub with_room : {which : Which} {r : Recording} {cut : Cut} {u : UnderWay} → IsOnTheWay which r cut u → (v : UnderWay) →
-    v.plan ≡ u.plan → v.state ≡ u.state → IsOnTheWay which r cut v
-with_room way v same_plan same_state = record {
-  valid = way.valid;
-  closed = way.closed;
-  plan_is = same_plan ∙ way.plan_is;
-  order = way.order;
-  ordered = way.ordered;
-  state_is = same_state ∙ way.state_is;
-  within = way.within;
-}
-
--- ---- what a call answered
-
-pub on_err : {T E : Type 0} (answer : Result T E) (P : Type 0) → P → OnErr answer P
-on_err (Ok x) P h = tt
-on_err (Err e) P h = h
-
--- at the cut that was wanted or, refused, at its own, so at its own anyway
-pub at_either : {T E : Type 0} (answer : Result T E) (which : Which) (r : Recording) (to : Cut) (old u : UnderWay) →
-    Valid r → OnOk answer (IsReplayAt which r to u) → OnErr answer (FallsShort which r to old u) →
-    IsReplayAt which r (own_cut which r u) u
-at_either (Ok x) which r to old u valid ok err = own_at ok valid
-at_either (Err e) which r to old u valid ok err = err.at
-
-pub cut_wanted : {T E : Type 0} (answer : Result T E) (which : Which) (r : Recording) (to : Cut) (u : UnderWay) →
-    Valid r →
-    OnOk answer (IsReplayAt which r to u) → OnOk answer (own_cut which r u ≡ to)
-cut_wanted (Ok x) which r to u valid ok = own_is ok valid
-cut_wanted (Err e) which r to u valid ok = tt
-
--- ---- the beginning
-
-module _ (which : Which) (r : Recording) (u : UnderWay) (valid : Valid r) (plan_is : u.plan ≡ plan_of which r)
-    (state_is : u.state ≡ start (plan_of which r)) where
-  pub starts : (cores : ℕ) → cores ≡ r.params.cores → IsOnTheWay which r (empty_cut cores) u
-  starts cores is = way_start which r (empty_cut cores) u (empty_closed which r cores valid is) plan_is state_is valid
-
-  pub starts_at : (cores : ℕ) → cores ≡ r.params.cores → (whole : List ℕ) → Decides (plan_of which r) whole →
-      IsReplayAt which r (empty_cut cores) u
-  starts_at cores is whole decides = record {
-    plan_is = plan_is;
-    closed = empty_closed which r cores valid is;
-    state = state_at (starts cores is) whole decides
-        (λ core due. let none = none_in cores core in let below = due.below in absurd (omega arith)) u.state refl;
-  }
-
-  pub starts_with_nothing : (core : ℕ) → count_in (own_cut which r u) core ≡ 0
-  starts_with_nothing core =
-      own_count (starts r.params.cores refl) core ∙ ap (λ (s : Outcome). counts_in s core) state_is
-      ∙ ap (λ (g : ℕ → ℕ). g core) (start_known (plan_of which r)).counts
 
 -- ---- the instructions around a cut
 

@@ -9,7 +9,7 @@ use Rattle.rtr_types.specs.declared.pairs.Which.{Which}
 use Rattle.rv_core.specs.declared.outcome.Outcome.{Outcome}
 use Rattle.race_log.specs.declared.recording.Recording.{Recording}
 use Rattle.race_log.specs.Validity.{Valid}
-use Rattle.replay_core.specs.Answers.{UnderWay, cut_of}
+use Rattle.replay_core.specs.Answers.{cut_of}
 use Rattle.replay_core.specs.Orders.{IsReplayOrder, Ordered, counts, counts_in, nought}
 use Rattle.replay_core.specs.Plans.{Plan, plan_of}
 use Rattle.replay_core.specs.Play.{play, played, start}
@@ -21,7 +21,7 @@ use Rattle.cut_replay.specs.CutStates.{IsStateAt}
 use Rattle.cut_moves.proofs.Fronts.{count_is, order_cut}
 use Rattle.cut_moves.specs.Rounds.{rounds_of}
 use Rattle.debug_place.specs.Backs.{IsLastStop, IsNoted, NotesOnWay}
-use Rattle.debug_place.specs.Places.{Fits, Placed, Stands, cut_at, plan_at}
+use Rattle.debug_place.specs.Places.{Placed, Stands, cut_at, plan_at}
 use Rattle.debug_place.specs.declared.backs.Seen.{Seen}
 
 module _ (which : Which) (r : Recording) (valid : Valid r) (order : List ℕ)
@@ -102,17 +102,14 @@ came_back test old new from s places past seen same_recording same_which valid s
     }
 
 -- what was noted along the way to here, said of the place
-pub notes_here : (test : Plan → Outcome → ℕ → Bool) (which : Which) (r : Recording) (old : Placed) (from here : Cut)
-    (line timeline : List ℕ) (u : UnderWay) → Fits which r timeline u →
-    record { recording = r; which = which; state = u.state } ≡ old → here ≡ cut_of u.plan (counts_in u.state) →
-    line ≡ timeline → (seen found : Option Seen) → found ≡ seen → NotesOnWay test which r from here line found →
+pub notes_here : (test : Plan → Outcome → ℕ → Bool) (which : Which) (r : Recording) (state : Outcome) (old : Placed) →
+    record { recording = r; which = which; state = state } ≡ old → (from here : Cut) (line : List ℕ) →
+    here ≡ cut_at old → line ≡ rounds_of which r → (seen found : Option Seen) → found ≡ seen →
+    NotesOnWay test which r from here line found →
     NotesOnWay test old.which old.recording from (cut_at old) (rounds_of old.which old.recording) seen
-notes_here test which r old from here line timeline u fits view_is here_is line_is seen found is noted =
-    let cut_is : here ≡ cut_of (plan_of which r) (counts_in u.state) =
-    here_is ∙ ap (λ (p : Plan). cut_of p (counts_in u.state)) fits.at.plan_is in
+notes_here test which r state old view_is from here line here_is line_is seen found is noted =
     subst (λ (place : Placed).
-    NotesOnWay test place.which place.recording from (cut_at place) (rounds_of place.which place.recording) seen)
-    view_is
-    (subst (λ (k : Cut). NotesOnWay test which r from k (rounds_of which r) seen) cut_is
-    (subst (λ (l : List ℕ). NotesOnWay test which r from here l seen) (line_is ∙ fits.timeline_is)
+    NotesOnWay test place.which place.recording from (cut_at old) (rounds_of place.which place.recording) seen) view_is
+    (subst (λ (k : Cut). NotesOnWay test which r from k (rounds_of which r) seen) here_is
+    (subst (λ (l : List ℕ). NotesOnWay test which r from here l seen) line_is
     (subst (λ (s : Option Seen). NotesOnWay test which r from here line s) is noted)))

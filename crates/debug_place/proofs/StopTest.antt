@@ -1,8 +1,8 @@
--- A replay goes on until a test stops it: so far the test has stopped it nowhere, and its state is what the places so
--- far play to.
+-- Going on until a test stops it: so far the test has stopped it nowhere, and its state is what the places so far play
+-- to.
 use Rattle.std.proofs.Common.{◌≡◌, ℕ, ◌+◌, ◌<◌, ◌≤◌, Bool, true, false, List, [], ◌∷◌, ◌++◌, length, take, drop, get_or}
 use Rattle.std.proofs.Common.{refl, sym, ap, subst, ◌∙◌, add-one, arith}
-use Rattle.std.specs.Prelude.{Option, Some, None, Result, Ok, Err, IfOk, OnErr, MatchOption}
+use Rattle.std.specs.Prelude.{Option, Some, None, Result, Ok, Err, MatchOption, OnErr}
 use Rattle.std.proofs.Math.Seq.{drop-cons}
 use Rattle.std.proofs.lemmas.List.{take-append-drop, take_all, take_more}
 use Rattle.rtr_types.specs.declared.cut.Cut.{Cut}
@@ -10,17 +10,18 @@ use Rattle.rtr_types.specs.declared.pairs.Which.{Which}
 use Rattle.rv_core.specs.declared.outcome.Outcome.{Outcome}
 use Rattle.race_log.specs.declared.recording.Recording.{Recording}
 use Rattle.race_log.specs.Validity.{Valid}
-use Rattle.replay_core.specs.Answers.{UnderWay}
+use Rattle.replay_core.specs.Answers.{UnderWay, cut_of}
 use Rattle.replay_core.specs.Orders.{counts_in}
 use Rattle.replay_core.specs.Plans.{Plan, plan_of}
 use Rattle.replay_core.specs.Play.{place, play}
 use Rattle.replay_core.proofs.Lists.{play_on}
-use Rattle.replay_audit.specs.Determinate.{Decides}
-use Rattle.debug_place.specs.Places.{IsReplayAt}
-use Rattle.debug_place.specs.Stops.{BreaksOff, IsFirstStop, NoneStops, way_to}
-use Rattle.debug_place.specs.Walks.{EndsWalk, FallsShortUnstopped, IsWalking}
+use Rattle.cut_replay.specs.ClosedCuts.{IsContained, count_in}
+use Rattle.cut_moves.specs.Rounds.{rounds_of}
+use Rattle.cut_moves.specs.Ways.{way_of}
+use Rattle.debug_place.specs.Places.{IsReplayAt, Placed, Stands, cut_at}
+use Rattle.debug_place.specs.Stops.{BreaksOff, GoesOn, IsFirstStop, NoneStops, way_to}
+use Rattle.debug_place.specs.Walks.{EndsWalk, IsWalking}
 use Rattle.debug_place.proofs.OwnCuts.{own_at, own_cut, own_is}
-use Rattle.debug_place.proofs.ShortWay.{place_of, short_on, stands_between}
 
 none_more : (test : Plan → Outcome → ℕ → Bool) (p : Plan) (s : Outcome) (places : List ℕ) (core : ℕ) →
     NoneStops test p s places → test p (play p s places) core ≡ false → NoneStops test p s (places ++ core ∷ [])
@@ -79,18 +80,6 @@ module _ (test : Plan → Outcome → ℕ → Bool) (which : Which) (r : Recordi
         gone_on = λ of. let before = past.gone_on of in let more = further of in omega arith;
       }
 
-  -- memory ran out before the next place
-  pub past_short : (whole : List ℕ) → Decides (plan_of which r) whole → (v : UnderWay) → v.plan ≡ u.plan →
-      v.state ≡ u.state → FallsShortUnstopped test which r to old places v
-  past_short whole decides v same_plan same_state = record {
-    short = short_on past.walking.way whole decides old past.gone_on v same_plan same_state;
-    front = take i places;
-    rest = drop i places;
-    split = sym (take-append-drop i places);
-    before = past.none;
-    state = same_state ∙ past.state;
-  }
-
   pub past_all : length places ≤ i → NoneStops test (plan_of which r) old.state places
   past_all all = subst (λ (front : List ℕ). NoneStops test p old.state front) (take_all i places all) past.none
 
@@ -103,36 +92,55 @@ past_none test which r to old places walking = record {
   gone_on = λ core. omega arith;
 }
 
--- the place of a replay that fell short
-pub broken_off : {test : Plan → Outcome → ℕ → Bool} {which : Which} {r : Recording} {to : Cut} {old new : UnderWay} →
-    IsReplayAt which r (own_cut which r old) old →
-    FallsShortUnstopped test which r to old (way_to (place_of which r old) to) new →
-    BreaksOff test (place_of which r old) to (place_of which r new)
-broken_off at walked = record {
-  between = stands_between at walked.short;
-  front = walked.front;
-  rest = walked.rest;
-  split = walked.split;
-  before = walked.before;
-  state = walked.state;
+-- one that didn't move broke off before the first place
+pub stayed : (test : Plan → Outcome → ℕ → Bool) (place : Placed) (to : Cut) → Stands place →
+    IsContained (cut_at place) to → BreaksOff test place to place
+stayed test place to stands within = record {
+  between = record { stands = stands; contains = λ core. omega arith; contained = within };
+  front = [];
+  rest = way_to place to;
+  split = refl;
+  before = tt;
+  state = refl;
 }
 
--- ---- what a call answered
+-- ---- where a walk ends
 
-module _ {E : Type 0} (test : Plan → Outcome → ℕ → Bool) (which : Which) (r : Recording) (to : Cut) (old new : UnderWay)
+module _ (test : Plan → Outcome → ℕ → Bool) (which : Which) (r : Recording) (to : Cut) (old new : UnderWay)
     (places : List ℕ) (valid : Valid r) where
-  pub at_walked : (answer : Result (Option ℕ) E) →
-      IfOk answer (λ stopped. EndsWalk test which r to old places new stopped) →
-      OnErr answer (FallsShortUnstopped test which r to old places new) → IsReplayAt which r (own_cut which r new) new
-  at_walked (Ok None) ok err = own_at ok.1 valid
-  at_walked (Ok (Some core)) ok err = ok.1
-  at_walked (Err e) ok err = err.short.at
+  pub at_walked : (stopped : Option ℕ) → EndsWalk test which r to old places new stopped →
+      IsReplayAt which r (own_cut which r new) new
+  at_walked None ends = own_at ends.1 valid
+  at_walked (Some core) ends = ends.1
 
-  pub walk_wanted : (answer : Result (Option ℕ) E) →
-      IfOk answer (λ stopped. EndsWalk test which r to old places new stopped) →
-      IfOk answer (λ stopped. MatchOption stopped
+  pub walk_wanted : (stopped : Option ℕ) → EndsWalk test which r to old places new stopped → MatchOption stopped
       (NoneStops test (plan_of which r) old.state places × (own_cut which r new ≡ to))
-      (λ core. IsFirstStop test (plan_of which r) old.state places core new.state))
-  walk_wanted (Ok None) ok = (ok.0, own_is ok.1 valid)
-  walk_wanted (Ok (Some core)) ok = ok.0
-  walk_wanted (Err e) ok = tt
+      (λ core. IsFirstStop test (plan_of which r) old.state places core new.state)
+  walk_wanted None ends = (ends.0, own_is ends.1 valid)
+  walk_wanted (Some core) ends = ends.0
+
+-- where a call was refused
+pub on_err : {T E : Type 0} (answer : Result T E) (P : Type 0) → P → OnErr answer P
+on_err (Ok x) P h = tt
+on_err (Err e) P h = h
+
+-- a place that went on as a walk did
+pub goes_by : (test : Plan → Outcome → ℕ → Bool) (which : Which) (r : Recording) → Valid r → (s t : Outcome) (to : Cut)
+    (u v : UnderWay) (low : Cut) (line : List ℕ) → low ≡ cut_of (plan_of which r) (counts_in s) →
+    line ≡ rounds_of which r → u.state ≡ s → v.state ≡ t → (stopped : Option ℕ) →
+    EndsWalk test which r to u (way_of (count_in low) (count_in to) line) v stopped →
+    GoesOn test (record { recording = r; which = which; state = s }) to
+    (record { recording = r; which = which; state = t }) stopped
+goes_by test which r valid s t to u v low line low_is line_is u_is v_is stopped ends =
+    let p : Plan = plan_of which r in
+    let places : List ℕ = way_of (count_in (cut_of (plan_of which r) (counts_in s))) (count_in to)
+    (rounds_of which r) in
+    let way_is : way_of (count_in low) (count_in to) line ≡ places =
+    ap (λ (k : Cut). way_of (count_in k) (count_in to) line) low_is
+    ∙ ap (λ (l : List ℕ). way_of (count_in (cut_of (plan_of which r) (counts_in s))) (count_in to) l) line_is in
+    subst (λ (x : Outcome). MatchOption stopped (NoneStops test p s places × (cut_of p (counts_in x) ≡ to))
+    (λ core. IsFirstStop test p s places core x)) v_is
+    (subst (λ (x : Outcome). MatchOption stopped (NoneStops test p x places × (cut_of p (counts_in v.state) ≡ to))
+    (λ core. IsFirstStop test p x places core v.state)) u_is
+    (walk_wanted test which r to u v places valid stopped
+    (subst (λ (l : List ℕ). EndsWalk test which r to u l v stopped) way_is ends)))

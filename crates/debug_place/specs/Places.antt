@@ -9,12 +9,13 @@ use Rattle.race_log.specs.Validity.{Valid}
 use Rattle.replay_core.specs.Answers.{UnderWay, cut_of}
 use Rattle.replay_core.specs.Orders.{counts_in}
 use Rattle.replay_core.specs.Plans.{Plan, plan_of}
+use Rattle.replay_audit.specs.Audits.{Findings}
 use Rattle.replay_audit.specs.Determinate.{IsDeterminate}
 use Rattle.cut_replay.specs.ClosedCuts.{IsClosed, IsContained}
 use Rattle.cut_replay.specs.CutStates.{IsStateAt}
 use Rattle.cut_moves.specs.Rounds.{rounds_of}
 
--- what a place shows: the recording and the log by which it's replayed, and the state of its replay
+-- what a place shows: the recording and the log by which it's looked at, and the state
 pub record Placed : Type 0 where
   pub recording : Recording
   pub which : Which
@@ -43,16 +44,17 @@ pub record StandsBetween (low high : Cut) (place : Placed) : Type 0 where
   pub contains : IsContained low (cut_at place)
   pub contained : IsContained (cut_at place) high
 
--- a replay of this recording by this log stands at this cut
+-- what a replay of this recording by this log shows stands at this cut
 pub record IsReplayAt (which : Which) (r : Recording) (cut : Cut) (replay : UnderWay) : Type 0 where
   pub plan_is : replay.plan ≡ plan_of which r
   pub closed : IsClosed which r cut
   pub state : IsStateAt which r cut replay.state
 
 -- what the parts of a place have to do with each other: the recording is determinate by the log, the timeline is the
--- one by rounds, and the replay is at the cut of its own counts
-pub record Fits (which : Which) (r : Recording) (timeline : List ℕ) (replay : UnderWay) : Type 0 where
-  pub valid : Valid r
-  pub determinate : IsDeterminate which r
-  pub timeline_is : timeline ≡ rounds_of which r
-  pub at : IsReplayAt which r (cut_of (plan_of which r) (counts_in replay.state)) replay
+-- one by rounds, the index is the audit's, and the cut is closed
+pub record Fits (a : Findings) (timeline : List ℕ) (index : Findings) (cut : Cut) : Type 0 where
+  pub valid : Valid a.recording
+  pub determinate : IsDeterminate a.which a.recording
+  pub timeline_is : timeline ≡ rounds_of a.which a.recording
+  pub index_is : index ≡ a
+  pub closed : IsClosed a.which a.recording cut

@@ -1,5 +1,5 @@
--- How far a replay has come on its way.
-use Rattle.std.specs.Prelude.{◌≡◌, ◌≤◌, ◌++◌, ℕ, Bool, List, Option, MatchOption}
+-- How far one has come on a way.
+use Rattle.std.specs.Prelude.{◌≡◌, ℕ, Bool, List, Option, MatchOption}
 use Rattle.rtr_types.specs.declared.cut.Cut.{Cut}
 use Rattle.rtr_types.specs.declared.pairs.Which.{Which}
 use Rattle.race_log.specs.declared.recording.Recording.{Recording}
@@ -7,7 +7,7 @@ use Rattle.rv_core.specs.declared.outcome.Outcome.{Outcome}
 use Rattle.replay_core.specs.Answers.{UnderWay, cut_of}
 use Rattle.replay_core.specs.Orders.{Ordered, counts_in}
 use Rattle.replay_core.specs.Plans.{Plan, plan_of}
-use Rattle.replay_core.specs.Play.{place, play}
+use Rattle.replay_core.specs.Play.{place}
 use Rattle.cut_replay.specs.ClosedCuts.{count_in}
 use Rattle.cut_replay.specs.Dues.{IsOnTheWay}
 use Rattle.cut_moves.specs.Ways.{LeadsTo}
@@ -20,7 +20,7 @@ pub record IsWalking (which : Which) (r : Recording) (to : Cut) (replay : UnderW
   pub ordered : Ordered (plan_of which r) (counts_in replay.state) places
   pub leads : LeadsTo (counts_in replay.state) (count_in to) places
 
--- the core's place was taken, and the replay is still on the way to the cut
+-- the core's place was taken, and it's still on the way to the cut
 pub record HasTaken (which : Which) (r : Recording) (to : Cut) (old : UnderWay) (core : ℕ) (new : UnderWay) : Type 0
   where
     pub way : IsOnTheWay which r to new
@@ -34,20 +34,3 @@ EndsWalk test which r to old places new stopped =
     MatchOption stopped (NoneStops test (plan_of which r) old.state places × IsReplayAt which r to new)
     (λ core. IsFirstStop test (plan_of which r) old.state places core new.state
     × IsReplayAt which r (cut_of (plan_of which r) (counts_in new.state)) new)
-
--- a walk to a cut broke off: the replay has gone on from where it was, is at the cut of its own counts, and is within
--- the cut
-pub record FallsShort (which : Which) (r : Recording) (to : Cut) (old new : UnderWay) : Type 0 where
-  pub at : IsReplayAt which r (cut_of (plan_of which r) (counts_in new.state)) new
-  pub gone_on : (core : ℕ) → counts_in old.state core ≤ counts_in new.state core
-  pub within : (core : ℕ) → counts_in new.state core ≤ count_in to core
-
--- and the places that it took are the first ones, before none of which the test stops it
-pub record FallsShortUnstopped (test : Plan → Outcome → ℕ → Bool) (which : Which) (r : Recording) (to : Cut)
-    (old : UnderWay) (places : List ℕ) (new : UnderWay) : Type 0 where
-  pub short : FallsShort which r to old new
-  pub front : List ℕ
-  pub rest : List ℕ
-  pub split : places ≡ front ++ rest
-  pub before : NoneStops test (plan_of which r) old.state front
-  pub state : new.state ≡ play (plan_of which r) old.state front

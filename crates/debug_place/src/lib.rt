@@ -1,9 +1,9 @@
-//! Where a debugger stands in a recorded run: one live replay, always at a closed cut, which moves on and back along
-//! the timeline.
+//! Where a debugger stands in a recorded run: always at a closed cut, from which it moves on and back along the
+//! timeline.
 //!
-//! Going on costs what is retired, and going back replays from the beginning. What stops a place is a test of the state
-//! and of the core whose instruction comes next, given by a trait. If memory runs out, a move that goes on stays where
-//! it came to.
+//! A place is a cut and an index: no move replays anything. A move without a test takes no memory, and costs what the
+//! clocks say of it. One with a test looks at each instruction of its way. What stops a place is a test of the state
+//! and of the core whose instruction comes next, given by a trait. If memory runs out, the place stays where it was.
 //!
 //! Proved: a `Place` is always at a closed cut, and its state is the one that every replay order has that comes there
 //! (`cut`: `stands`). `core`, `word` and `next_use` tell that state. `step` comes to the least closed cut with the

@@ -7,10 +7,10 @@ ghost use Rattle.debug_place.specs.Walks.{IsWalking};
 
 use crate::backs::Seen;
 use crate::stops::Stops;
-use crate::walks::{replay_at, take_place};
+use crate::walks::take_place;
+use cut_index::{Index, Standing};
 use cut_moves::{Timeline, way};
 use replay_audit::Audited;
-use replay_core::Replay;
 use rtr_types::Cut;
 use std::alloc::{AllocError, Global};
 
@@ -19,11 +19,13 @@ pub(crate) fn last_stop<S: Stops>(
     alloc: Global,
     audited: &Audited,
     timeline: &Timeline,
+    index: &Index,
     stops: &S,
     from: &Cut,
     to: &Cut,
 ) -> Result<Option<Seen>, AllocError>
     requires timeline { timeline.now ≡ rounds_of audited.now.which audited.now.recording }
+    requires index { index.now ≡ audited.now }
     requires from { IsClosed audited.now.which audited.now.recording from.now }
     requires to { IsClosed audited.now.which audited.now.recording to.now }
     requires within { IsContained from.now to.now }
@@ -33,40 +35,40 @@ pub(crate) fn last_stop<S: Stops>(
     // The audit passed, so each order plays.
     let _ = audited.outcome();
     let _ = audited.recording();
-    let mut replay = replay_at(alloc, audited, timeline, from)?;
+    let mut standing = Standing::at(index, from);
     let places = way(alloc, audited, timeline, from, to)?;
-    look(audited, stops, &mut replay, to, places.as_slice())
+    Ok(look(audited, stops, &mut standing, to, places.as_slice()))
 }
 
-/// The last of the places before which it stops, played from where the replay stands.
+/// The last of the places before which it stops, from where it stands on.
 fn look<S: Stops>(
     audited: &Audited,
     stops: &S,
-    replay: &mut Replay,
+    standing: &mut Standing,
     to: &Cut,
     places: &[u8],
-) -> Result<Option<Seen>, AllocError>
-    requires { IsWalking audited.now.which audited.now.recording to.now replay.old places.now }
-    ensures { IfOk result (NotesLast (S.stops stops.now) audited.now.which audited.now.recording replay.old.state
-        places.now (length places.now)) }
+) -> Option<Seen>
+    requires { IsWalking audited.now.which audited.now.recording to.now standing.old places.now }
+    ensures { NotesLast (S.stops stops.now) audited.now.which audited.now.recording standing.old.state places.now
+        (length places.now) result }
 {
     // The audit passed, so each order plays.
     let _ = audited.outcome();
     let mut last = None;
     for core in places {
-        last = noted(stops, replay, *core).or(last);
-        take_place(audited, replay, to, *core)?;
+        last = noted(stops, standing, *core).or(last);
+        take_place(audited, standing, to, *core);
     }
-    Ok(last)
+    last
 }
 
 /// The stop before the core's next place, if it stops there.
-fn noted<S: Stops>(stops: &S, replay: &Replay, core: u8) -> Option<Seen>
-    requires { core < length replay.now.plan.totals }
-    ensures { result ≡ noted (S.stops stops.now) replay.now core }
+fn noted<S: Stops>(stops: &S, standing: &Standing, core: u8) -> Option<Seen>
+    requires { core < length standing.now.plan.totals }
+    ensures { result ≡ noted (S.stops stops.now) standing.now core }
 {
-    if stops.stops(replay, core) {
-        let cut = replay.cut();
+    if stops.stops(standing, core) {
+        let cut = standing.cut();
         Some(Seen { core, cut })
     } else {
         None

@@ -7,32 +7,37 @@ ghost use Rattle.replay_audit.specs.Audits.{IsInstrOf};
 ghost use Rattle.cut_replay.specs.ClosedCuts.{IsClosed, IsContained, count_in};
 ghost use Rattle.cut_moves.specs.Rounds.{rounds_of};
 ghost use Rattle.cut_moves.specs.Steps.{IsStep, IsStepBack, last_in, next_in};
-ghost use Rattle.debug_place.specs.Places.{IsKept, Stands, StandsBetween, cut_at, plan_at};
+ghost use Rattle.debug_place.specs.Places.{IsKept, IsReplayAt, Stands, StandsBetween, cut_at, plan_at};
 ghost use Rattle.debug_place.specs.Backs.{GoesBack};
 ghost use Rattle.debug_place.specs.Stops.{BreaksOff, GoesOn};
 
 use crate::looks::last_stop;
 use crate::stops::Stops;
-use crate::walks::{Stopped, go_on, go_until, replay_at};
+use crate::walks::{Stopped, go_until};
+use cut_index::{Index, Standing};
 use cut_moves::{Timeline, step, step_back};
 use replay_audit::Audited;
-use replay_core::Replay;
-use rtr_types::{Cut, Kind};
+use rtr_types::{CORES_MAX, Cut, Kind};
 use rv_core::Core;
 use std::alloc::{AllocError, Global};
 use std::marker::Model;
 
+/// A place for each core, as the length of an array.
+const PLACES: usize = CORES_MAX as usize;
+
 /// A place in a recorded run: a cut that is closed under the audit's log, with the state that every replay order has
-/// that comes there. It holds one live replay, and the timeline by rounds, with where each core's instructions stand in
-/// it.
+/// that comes there. It holds the cut alone, an index that tells the state, and the timeline by rounds, with where each
+/// core's instructions stand in it.
 #[derive(Drop)]
 pub struct Place<'a> {
     audited: &'a Audited,
     timeline: Timeline,
-    replay: Replay<'a>,
+    index: Index<'a>,
+    cut: Cut,
 }
 
 impl<'a> Model for Place<'a> {
+    ghost use Rattle.cut_index.specs.Standings.{reached};
     ghost use Rattle.debug_place.specs.Places.{Fits, Placed};
 
     ghost Value = { Placed };
@@ -40,10 +45,10 @@ impl<'a> Model for Place<'a> {
     ghost view = { λ a. record {
       recording = a.audited.now.recording;
       which = a.audited.now.which;
-      state = a.replay.state;
+      state = reached a.audited.now.which a.audited.now.recording a.cut;
     } };
 
-    ghost invariant = { λ a. Fits a.audited.now.which a.audited.now.recording a.timeline a.replay };
+    ghost invariant = { λ a. Fits a.audited.now a.timeline a.index a.cut };
 }
 
 impl<'a> Place<'a> {
@@ -55,13 +60,29 @@ impl<'a> Place<'a> {
     {
         // The audit passed, so the recording is determinate.
         let _ = audited.outcome();
+        let cores = audited.recording().params.cores;
         let timeline = Timeline::by_rounds(alloc, audited)?;
-        let replay = Replay::new(alloc, audited.recording(), audited.which())?;
+        let index = Index::of(alloc, audited)?;
+        let cut = Cut {
+            cores,
+            counts: [0; PLACES],
+        };
         Ok(Place {
             audited,
             timeline,
-            replay,
+            index,
+            cut,
         })
+    }
+
+    /// The place as a replay shows it that has come there.
+    fn standing(&self) -> Standing<'_, 'a>
+        ensures { IsReplayAt self.now.which self.now.recording (cut_at self.now) result
+            × (result.state ≡ self.now.state) }
+    {
+        // The audit passed, so the recording is determinate.
+        let _ = self.audited.outcome();
+        Standing::at(&self.index, &self.cut)
     }
 
     /// The cut: how many instructions of each core are done. It is closed, and the place's state is the one that
@@ -70,7 +91,9 @@ impl<'a> Place<'a> {
         ensures cut { result ≡ cut_at self.now }
         ensures stands { Stands self.now }
     {
-        self.replay.cut()
+        // What always holds of a place: its cut is closed.
+        let _ = self.audited.outcome();
+        self.cut
     }
 
     /// How many cores there are.
@@ -88,11 +111,13 @@ impl<'a> Place<'a> {
     }
 
     /// A core, as it stands in the place's state.
-    pub fn core(&self, core: u8) -> &Core
+    pub fn core(&self, core: u8) -> Core
         requires { core < self.now.recording.params.cores }
-        ensures { result.now ≡ core_at self.now.state core }
+        ensures { result ≡ core_at self.now.state core }
     {
-        self.replay.core(core)
+        // A valid recording has a total for each core.
+        let _ = self.audited.recording();
+        self.standing().core(core)
     }
 
     /// A word of memory in the place's state, by its index.
@@ -100,7 +125,7 @@ impl<'a> Place<'a> {
         requires { word < self.now.recording.params.words }
         ensures { result ≡ slice_index self.now.state.words word }
     {
-        self.replay.word(word)
+        self.standing().word(word)
     }
 
     /// The access that the core's next instruction makes, and the index of its word. None for a local instruction,
@@ -110,40 +135,36 @@ impl<'a> Place<'a> {
         ensures used { result ≡ use_of (need_at (plan_at self.now) self.now.state core) }
         ensures within { UsesWithin result self.now.recording.params.words }
     {
-        self.replay.next_use(core)
+        // A valid recording has a total for each core.
+        let _ = self.audited.recording();
+        self.standing().next_use(core)
     }
 
-    /// Goes to a closed cut, wherever it lies, by a replay from the beginning. A refusal, which comes for want of
-    /// memory alone, leaves the place as it was.
-    pub fn seek(&mut self, alloc: Global, to: &Cut) -> Result<(), AllocError>
+    /// Goes to a closed cut, wherever it lies. It takes no memory, and is never refused.
+    pub fn seek(&mut self, _alloc: Global, to: &Cut) -> Result<(), AllocError>
         requires { IsClosed self.old.which self.old.recording to.now }
         ensures kept { IsKept self.old self.new }
         ensures ok { OnOk result (cut_at self.new ≡ to.now) }
         ensures err { OnErr result (self.new ≡ self.old) }
     {
-        let replay = replay_at(alloc, self.audited, &self.timeline, to)?;
-        self.replay = replay;
+        // The audit passed, so the cut has a state.
+        let _ = self.audited.outcome();
+        self.cut = *to;
         Ok(())
     }
 
-    /// Goes on to a closed cut that contains the present one, without replaying anything again. It is refused for
-    /// want of memory alone, and then the place is at a closed cut between the two.
-    pub fn move_on(&mut self, alloc: Global, to: &Cut) -> Result<(), AllocError>
+    /// Goes on to a closed cut that contains the present one. It takes no memory, and is never refused.
+    pub fn move_on(&mut self, _alloc: Global, to: &Cut) -> Result<(), AllocError>
         requires closed { IsClosed self.old.which self.old.recording to.now }
         requires within { IsContained (cut_at self.old) to.now }
         ensures kept { IsKept self.old self.new }
         ensures ok { OnOk result (cut_at self.new ≡ to.now) }
         ensures err { OnErr result (StandsBetween (cut_at self.old) to.now self.new) }
     {
-        let low = self.replay.cut();
-        go_on(
-            alloc,
-            self.audited,
-            &self.timeline,
-            &mut self.replay,
-            &low,
-            to,
-        )
+        // The audit passed, so the cut has a state.
+        let _ = self.audited.outcome();
+        self.cut = *to;
+        Ok(())
     }
 
     /// Whether a core has a next instruction.
@@ -151,7 +172,10 @@ impl<'a> Place<'a> {
         requires { core < self.now.recording.params.cores }
         ensures { IsTrue result ↔ IsInstrOf self.now.recording (next_in (cut_at self.now) core) }
     {
-        self.replay.count(core) < self.replay.total(core)
+        // A valid recording has a total for each core.
+        let _ = self.audited.recording();
+        let standing = self.standing();
+        standing.count(core) < standing.total(core)
     }
 
     /// Whether a core has done an instruction.
@@ -159,13 +183,14 @@ impl<'a> Place<'a> {
         requires { core < self.now.recording.params.cores }
         ensures { IsTrue result ↔ IsInstrOf self.now.recording (last_in (cut_at self.now) core) }
     {
-        self.replay.count(core) > 0
+        // A valid recording has a total for each core.
+        let _ = self.audited.recording();
+        self.standing().count(core) > 0
     }
 
     /// Goes on to a closed cut that contains the present one, place by place along the timeline, until the test stops
     /// it before a core takes its next instruction. It answers which core that is, or that it came to the cut. It is
-    /// refused for want of memory alone, and then the place is at a closed cut between the two, and the test stopped it
-    /// before none of the places that it took.
+    /// refused for want of memory alone, and then the place is where it was.
     pub fn go_to<S: Stops>(&mut self, alloc: Global, stops: &S, to: &Cut) -> Stopped
         requires closed { IsClosed self.old.which self.old.recording to.now }
         requires within { IsContained (cut_at self.old) to.now }
@@ -173,16 +198,21 @@ impl<'a> Place<'a> {
         ensures ok { IfOk result (GoesOn (S.stops stops.now) self.old to.now self.new) }
         ensures err { OnErr result (BreaksOff (S.stops stops.now) self.old to.now self.new) }
     {
-        let low = self.replay.cut();
-        go_until(
+        // The audit passed, so each cut has one state.
+        let _ = self.audited.outcome();
+        let low = self.cut;
+        let mut standing = Standing::at(&self.index, &low);
+        let stopped = go_until(
             alloc,
             self.audited,
             &self.timeline,
             stops,
-            &mut self.replay,
+            &mut standing,
             &low,
             to,
-        )
+        )?;
+        self.cut = standing.cut();
+        Ok(stopped)
     }
 
     /// Goes back to a closed cut within the present one, place by place along the timeline, until the test stops it: to
@@ -196,9 +226,9 @@ impl<'a> Place<'a> {
         ensures ok { IfOk result (GoesBack (S.stops stops.now) self.old to.now self.new) }
         ensures err { OnErr result (self.new ≡ self.old) }
     {
-        let here = self.replay.cut();
+        let here = self.cut();
         let timeline = &self.timeline;
-        match last_stop(alloc, self.audited, timeline, stops, to, &here)? {
+        match last_stop(alloc, self.audited, timeline, &self.index, stops, to, &here)? {
             Some(seen) => {
                 self.seek(alloc, &seen.cut)?;
                 // The cut at which it stands by now is the one that was seen.

@@ -4,10 +4,10 @@ ghost use Rattle.cut_replay.specs.ClosedCuts.{IsClosed};
 ghost use Rattle.replay_core.specs.Play.{core_at};
 
 use crate::handed_over::{counts, handed_over};
+use cut_index::Standing;
 use cut_replay::{cut_with, has_instr};
 use debug_place::{Place, Stops};
 use replay_audit::Audited;
-use replay_core::Replay;
 use rtr_types::{Cut, Instr};
 use std::alloc::{AllocError, Global};
 use std::test::Fail;
@@ -19,8 +19,8 @@ struct Breakpoint(u32);
 impl Stops for Breakpoint {
     ghost stops = { λ point plan state core. nat_eq (core_at state core).pc point.0 };
 
-    fn stops(&self, replay: &Replay, core: u8) -> bool {
-        replay.core(core).pc() == self.0
+    fn stops(&self, standing: &Standing, core: u8) -> bool {
+        standing.pc(core) == self.0
     }
 }
 

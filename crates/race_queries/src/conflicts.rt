@@ -56,13 +56,29 @@ fn conflicts_among(
     ensures { IfOk result (λ conflicts. conflicts ≡ conflicts_among audited.now.accesses access) }
 {
     let to = history(alloc, audited, access.word)?;
-    let near = since_last_write(alloc, to.as_slice(), access.at)?;
-    let next = to_next_write(alloc, to.as_slice(), access.at)?;
+    let earlier = earlier_of(alloc, access, to.as_slice())?;
+    let later = later_of(alloc, access, to.as_slice())?;
     Ok(Conflicts {
         access,
-        earlier: fighting(alloc, access, near.as_slice())?,
-        later: fighting(alloc, access, next.as_slice())?,
+        earlier,
+        later,
     })
+}
+
+/// Of the accesses to an access's word those before it with which it conflicts.
+fn earlier_of(alloc: Global, access: Access, to: &[Access]) -> Result<Items<Access>, AllocError>
+    ensures { IfOk result (λ list. list ≡ filter (fights access) (since_last_write (before access.at to.now))) }
+{
+    let near = since_last_write(alloc, to, access.at)?;
+    fighting(alloc, access, near.as_slice())
+}
+
+/// And those behind it.
+fn later_of(alloc: Global, access: Access, to: &[Access]) -> Result<Items<Access>, AllocError>
+    ensures { IfOk result (λ list. list ≡ filter (fights access) (to_next_write (behind access.at to.now))) }
+{
+    let next = to_next_write(alloc, to, access.at)?;
+    fighting(alloc, access, next.as_slice())
 }
 
 /// The accesses before an instruction's, from the last write on.

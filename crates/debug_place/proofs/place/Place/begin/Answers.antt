@@ -1,31 +1,30 @@
-use Rattle.std.proofs.Common.{refl, ap, ◌≡◌, ◌∙◌}
-use Rattle.replay_core.specs.Plans.{plan_of}
-use Rattle.replay_core.specs.Play.{start}
-use Rattle.replay_audit.specs.Determinate.{low_order_of}
-use Rattle.debug_place.proofs.OwnCuts.{at_own, starts, starts_with_nothing}
+use Rattle.std.proofs.Common.{◌≡◌, ◌∙◌, ap, refl, sym}
+use Rattle.rtr_types.specs.declared.cut.Cut.{Cut}
+use Rattle.race_log.specs.declared.recording.Recording.{Recording}
+use Rattle.cut_moves.proofs.Hulls.{empty_closed, none_in}
+use Rattle.cut_replay.specs.ClosedCuts.{count_in}
+use Rattle.debug_place.proofs.AtCuts.{cut_is}
 use Rattle.debug_place.proofs.place.Place.begin.Goals as goal
 
 pub invariant_of-result : goal.invariant_of-result
 invariant_of-result c =
     let a = c.args.audited.now in
-    let same : plan_of c.which.result c.recording.result.now ≡ plan_of a.which a.recording =
-    ap (λ w. plan_of w c.recording.result.now) c.which.ensures
-    ∙ ap (λ r. plan_of a.which r) c.recording.ensures.recording in
+    let cores = c.recording.result.now.params.cores in
     record {
       valid = c.recording.ensures.valid;
       determinate = c.outcome.ensures.passed.determinate;
       timeline_is = c.in_ok-timeline.ensures.rounds;
-      at = at_own (starts a.which a.recording c.in_ok-replay.replay c.recording.ensures.valid
-          (c.in_ok-replay.ensures.plan ∙ same) (c.in_ok-replay.ensures.state ∙ ap start same)
-          a.recording.params.cores refl)
-          (low_order_of a.which a.recording) c.outcome.ensures.passed.determinate;
+      index_is = c.in_ok-index.ensures;
+      closed = empty_closed a.which a.recording cores c.recording.ensures.valid
+          (ap (λ (r : Recording). r.params.cores) c.recording.ensures.recording);
     }
 
 pub returns-clause-nothing : goal.returns-clause-nothing
-returns-clause-nothing c =
+returns-clause-nothing c core =
     let a = c.args.audited.now in
-    let same : plan_of c.which.result c.recording.result.now ≡ plan_of a.which a.recording =
-    ap (λ w. plan_of w c.recording.result.now) c.which.ensures
-    ∙ ap (λ r. plan_of a.which r) c.recording.ensures.recording in
-    starts_with_nothing a.which a.recording c.in_ok-replay.replay c.recording.ensures.valid
-    (c.in_ok-replay.ensures.plan ∙ same) (c.in_ok-replay.ensures.state ∙ ap start same)
+    let cores = c.recording.result.now.params.cores in
+    ap (λ (k : Cut). count_in k core)
+    (cut_is a.which a.recording c.recording.ensures.valid c.outcome.ensures.passed.determinate _
+    (empty_closed a.which a.recording cores c.recording.ensures.valid
+    (ap (λ (r : Recording). r.params.cores) c.recording.ensures.recording)))
+    ∙ none_in cores core

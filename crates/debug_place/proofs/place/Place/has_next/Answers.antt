@@ -1,17 +1,26 @@
-use Rattle.std.proofs.Common.{◌<◌, subst, sym}
-use Rattle.std.specs.Prelude.{IsTrue, nat_lt}
-use Rattle.replay_audit.specs.Audits.{IsInstrOf}
-use Rattle.cut_moves.specs.Steps.{next_in}
-use Rattle.debug_place.specs.Places.{Placed, cut_at}
+use Rattle.std.proofs.Common.{subst}
+use Rattle.race_log.specs.Validity.{Valid}
+use Rattle.debug_place.specs.Places.{Placed}
+use Rattle.debug_place.proofs.AtCuts.{inside_plan}
 use Rattle.debug_place.proofs.OwnCuts.{next_there}
 use Rattle.debug_place.proofs.place.Place.has_next.Goals as goal
 
+pub count-requires : goal.count-requires
+count-requires c =
+    let place = c.args.self.now in
+    inside_plan place.which place.recording
+    (subst (λ (p : Placed). Valid p.recording) c.self.view_is c.self.invariant.valid) c.standing-standing.result
+    c.standing-standing.ensures.0.plan_is c.args.core c.requires
+
+pub total-requires : goal.total-requires
+total-requires c =
+    let place = c.args.self.now in
+    inside_plan place.which place.recording
+    (subst (λ (p : Placed). Valid p.recording) c.self.view_is c.self.invariant.valid) c.standing-standing.result
+    c.standing-standing.ensures.0.plan_is c.args.core c.requires
+
 pub returns : goal.returns
 returns c =
-    subst (λ (p : Placed).
-    (IsTrue (nat_lt c.count.result c.total.result) → IsInstrOf p.recording (next_in (cut_at p) c.args.core))
-    × (IsInstrOf p.recording (next_in (cut_at p) c.args.core) → IsTrue (nat_lt c.count.result c.total.result)))
-    c.self.view_is
-    (next_there c.self.invariant.at c.self.invariant.valid c.args.core
-    (subst (λ (p : Placed). c.args.core < p.recording.params.cores) (sym c.self.view_is) c.requires) c.count.result
-    c.count.ensures c.total.result c.total.ensures)
+    next_there c.standing-standing.ensures.0
+    (subst (λ (p : Placed). Valid p.recording) c.self.view_is c.self.invariant.valid) c.args.core c.requires
+    c.count.result c.count.ensures c.total.result c.total.ensures

@@ -1,0 +1,9 @@
+pub mod OwnLoads
+pub mod CoresAlone
+pub mod WordsLeft
+pub mod HeldAccesses
+pub mod Running
+pub mod WritesHeld
+pub mod AtCuts
+pub mod Indexed
+pub mod Shown

@@ -1,0 +1,48 @@
+-- What is kept of a core on its own.
+use Rattle.std.specs.Prelude.{◌≡◌, ℕ, ◌+◌, ◌*◌, ◌/◌, ◌%◌, ◌<◌, ◌==◌, ◌^◌, false, List, [], ◌∷◌, ◌++◌, length}
+use Rattle.std.specs.Prelude.{slice_index_or, if◌then◌else◌}
+use Rattle.image_mem.specs.Contents.{Contents}
+use Rattle.rv_core.specs.declared.core_state.Core.{Core}
+use Rattle.rv_core.specs.declared.outcome.LoadNote.{LoadNote}
+use Rattle.rv_core.specs.Steps.{is_done, need}
+use Rattle.cut_index.specs.declared.alone.Alone.{Alone}
+use Rattle.cut_index.specs.declared.alone.Next.{Next}
+use Rattle.cut_index.specs.declared.runs.Run.{Run}
+use Rattle.cut_index.specs.Alone.{alone_after}
+
+-- what comes next at a core
+abbrev pub next_of : Contents → Core → Next
+next_of image core = record { pc = core.pc; need = need image core }
+
+-- a snapshot is taken behind so many instructions, if these are whole spans
+abbrev pub marked : List Alone → (count : ℕ) → Alone → List Alone
+marked marks count alone = if count % 1024 == 0 then marks ++ alone ∷ [] else marks
+
+-- the core isn't done before its total, and each count fits
+pub record CanRun (image : Contents) (loads : List LoadNote) (first : Alone) (total : ℕ) : Type 0 where
+  pub going : (count : ℕ) → count < total → is_done (need image (alone_after image loads first count).core) ≡ false
+  pub fits : first.read + total < 2 ^ 32
+
+-- of so many instructions it is noted what comes next before each
+pub record AreNoted (image : Contents) (loads : List LoadNote) (first : Alone) (past : ℕ) (nexts : List Next) : Type 0
+  where
+    pub all : length nexts ≡ past
+    pub each : (count : ℕ) (d : Next) → count < past →
+        slice_index_or nexts count d ≡ next_of image (alone_after image loads first count).core
+
+-- and there is a snapshot behind each whole number of spans
+pub record AreMarked (image : Contents) (loads : List LoadNote) (first : Alone) (past : ℕ) (marks : List Alone) : Type 0
+  where
+    pub all : length marks ≡ past / 1024 + 1
+    pub each : (k : ℕ) (d : Alone) → k < length marks →
+        slice_index_or marks k d ≡ alone_after image loads first (k * 1024)
+
+pub record IsRun (image : Contents) (loads : List LoadNote) (first : Alone) (past : ℕ) (run : Run) : Type 0 where
+  pub noted : AreNoted image loads first past run.nexts
+  pub marked : AreMarked image loads first past run.marks
+
+-- a run that has come so far, with the core there
+pub record IsRunTo (image : Contents) (loads : List LoadNote) (first : Alone) (past : ℕ) (run : Run) (alone : Alone)
+    : Type 0 where
+  pub is_run : IsRun image loads first past run
+  pub here : alone ≡ alone_after image loads first past

@@ -1,0 +1,4 @@
+pub mod Others
+pub mod Going
+pub mod Told
+pub mod Laws

@@ -1,0 +1,20 @@
+//! What if the other core had gone first: what a run comes to that at a cut takes another core's instruction first.
+//!
+//! Up to the cut the run is the recorded one. From there on nothing waits for the log. Each core goes on where the
+//! recorded timeline has it next, so that as little as may be changes, and then round by round, until no core can.
+//! Any such order is a run of a sequentially consistent machine.
+//!
+//! Proved: `other_way` answers what the definition's order comes to (`other_outcome`). What is left of an order if
+//! cores that can't go on are passed over plays, and falls short nowhere (`taken_places_play`). Where the order has
+//! come to the cut, the state is the cut's (`the_cut_comes_first`). `other_told` tells how each core ends, and the
+//! words that differ from those at the recording's end. Both are refused for want of memory alone.
+#![tactic(auto)]
+
+mod free;
+mod going;
+pub mod laws;
+mod others;
+mod telling;
+
+pub use others::other_way;
+pub use telling::other_told;
