@@ -18,10 +18,12 @@ use Rattle.cut_replay.proofs.Unique.{one_cut, one_greatest}
 use Rattle.cut_moves.specs.Steps.{IsHull}
 use Rattle.debug_place.specs.Places.{Placed, cut_at}
 use Rattle.gdb_monitor.specs.declared.moves.Extreme.{Extreme}
-use Rattle.gdb_monitor.specs.Moves.{AreCounts, BothComeNext, Comes, ComesWhere, GoesAround, GoesIfClosed, GoesTo}
-use Rattle.gdb_monitor.specs.Moves.{GoesToCut, GoesToDecision, IsDecision, decided_text}
+use Rattle.gdb_monitor.specs.Moves.{AreCounts, BothComeNext, Comes, ComesWhere, GoesAround, GoesBefore, GoesIfClosed}
+use Rattle.gdb_monitor.specs.Moves.{GoesTo, GoesToCut, GoesToDecision, IsDecision, decided_text}
 use Rattle.gdb_monitor.specs.Moves.{IsExtreme, IsOf, cut_with_counts}
+use Rattle.gdb_monitor.specs.declared.moves.Extreme.TheVariants.{Earliest, Latest}
 use Rattle.gdb_monitor.specs.Ordering.{AreBoth}
+use Rattle.gdb_monitor.specs.Slack.{IsSlackTold, slack_rows}
 use Rattle.gdb_monitor.specs.Texts.{open_text}
 
 -- two cuts that a test tells apart
@@ -55,6 +57,13 @@ module _ (a : Findings) (old : Placed) (run : IsOf a old) (new : Placed) (told :
     missing = λ no. absurd (no (subst (λ (q : Recording). IsInstrOf q at) (same ∙ run.recording) there));
   }
 
+  pub goes_before : (at : Instr) (to : Cut) (r : Recording) → r ≡ a.recording → IsInstrOf r at →
+      IsGreatestWithout a.which a.recording at to → Comes to new told → GoesBefore at old new told
+  goes_before at to r same there greatest comes = record {
+    there = λ is. comes_there (λ w r c. IsGreatestWithout w r at c) to greatest comes;
+    missing = λ no. absurd (no (subst (λ (q : Recording). IsInstrOf q at) (same ∙ run.recording) there));
+  }
+
   -- of the audited recording, by its own log
   decided_there : (at other : Instr) (cut : Cut) → IsDecision old.which old.recording at other cut →
       IsDecision a.which a.recording at other cut
@@ -72,7 +81,9 @@ module _ (a : Findings) (old : Placed) (run : IsOf a old) (new : Placed) (told :
         (subst (λ (q : Recording). IsDecision old.which q at other to) run.recording
         (subst (λ (w : Which). IsDecision w a.recording at other to) run.which
         (record { greatest = greatest; both = both }))));
-    missing = λ no. absurd (no (subst (λ (q : Recording). AreBoth q at other) (same ∙ run.recording) there));
+    missing = λ no. absurd (no (subst (λ (q : Recording). IsInstrOf q at) (same ∙ run.recording) there.one));
+    other_missing = λ _ no.
+        absurd (no (subst (λ (q : Recording). IsInstrOf q other) (same ∙ run.recording) there.two));
   }
 
   pub goes_nowhere : (at other : Instr) (to : Cut) (r : Recording) → r ≡ a.recording → AreBoth r at other →
@@ -84,7 +95,9 @@ module _ (a : Findings) (old : Placed) (run : IsOf a old) (new : Placed) (told :
         absurd (not (subst (λ (c : Cut). BothComeNext c at other)
         (one_greatest a.which a.recording at cut to d.greatest greatest) d.both));
     decided = λ _ none. record { place = stays; told_is = is };
-    missing = λ no. absurd (no (subst (λ (q : Recording). AreBoth q at other) (same ∙ run.recording) there));
+    missing = λ no. absurd (no (subst (λ (q : Recording). IsInstrOf q at) (same ∙ run.recording) there.one));
+    other_missing = λ _ no.
+        absurd (no (subst (λ (q : Recording). IsInstrOf q other) (same ∙ run.recording) there.two));
   }
 
   pub goes_around : (extreme : Extreme) (core : ℕ) (here to : Cut) → here ≡ cut_at old →
@@ -95,6 +108,28 @@ module _ (a : Findings) (old : Placed) (run : IsOf a old) (new : Placed) (told :
         (subst (λ (c : Cut). IsExtreme extreme a.which a.recording c core to) is_here is) comes;
     missing = λ past. absurd (omega arith);
   }
+
+  pub slack_is : (core : ℕ) (here least greatest : Cut) → here ≡ cut_at old → core < old.recording.params.cores →
+      IsExtreme Earliest a.which a.recording here core least →
+      IsExtreme Latest a.which a.recording here core greatest →
+      told ≡ slack_rows old.recording.params.cores least greatest here → IsSlackTold core old told
+  slack_is core here least greatest is_here there from to is = record {
+    there = λ _. record {
+      least = least;
+      greatest = greatest;
+      least_is = at_place Earliest least from;
+      greatest_is = at_place Latest greatest to;
+      told_is = is ∙ ap (λ (c : Cut). slack_rows old.recording.params.cores least greatest c) is_here;
+    };
+    missing = λ past. absurd (omega arith);
+  }
+    where
+      at_place : (extreme : Extreme) (cut : Cut) → IsExtreme extreme a.which a.recording here core cut →
+          IsExtreme extreme old.which old.recording (cut_at old) core cut
+      at_place extreme cut holds =
+          subst (λ (w : Which). IsExtreme extreme w old.recording (cut_at old) core cut) run.which
+          (subst (λ (r : Recording). IsExtreme extreme a.which r (cut_at old) core cut) run.recording
+          (subst (λ (c : Cut). IsExtreme extreme a.which a.recording c core cut) is_here holds))
 
   -- a closed cut is the least one that contains it
   pub not_closed : (to hull : Cut) → IsCutOf old.recording to → IsHull a.which a.recording to hull →

@@ -1,4 +1,4 @@
--- Rule: what is told of a word, an edge, a conflict or all decisions: IsWriterTold, AreDecisionsTold
+-- Rule: what is told of a word, an edge, a chain of waits, a conflict or all decisions: IsWriterTold, AreDecisionsTold
 -- What is told of a word, of the edges at an instruction, of its conflicts, and of all edges of the log, by the audit
 -- of a recording.
 use Rattle.std.specs.Prelude.{◌≡◌, ℕ, ◌≤◌, List, [], ◌++◌, length, codes, decimal, Option, Some, None}
@@ -14,13 +14,15 @@ use Rattle.race_queries.specs.Conflicts.{conflicts_at}
 use Rattle.race_queries.specs.Ends.{log_ends}
 use Rattle.race_queries.specs.Queries.{AreEdgesInto, AreEdgesOutOf, AreReadsSince, IsLastWrite, NoWriteIn, accesses_to}
 use Rattle.race_queries.specs.Queries.{is_held, loads_behind}
+use Rattle.wait_chains.specs.Chains.{chain_of}
 use Rattle.gdb_monitor.specs.declared.decisions.Decision.{Decision}
 use Rattle.gdb_monitor.specs.declared.edges.End.{End}
 use Rattle.gdb_monitor.specs.declared.edges.End.TheVariants.{Source, Target}
+use Rattle.gdb_monitor.specs.declared.waits_told.TheConstants.{CHAIN_MAX}
 use Rattle.gdb_monitor.specs.Decisions.{AreDecisions}
 use Rattle.gdb_monitor.specs.Instrs.{instr_text, row_text, touch_text}
 use Rattle.gdb_monitor.specs.Pcs.{ArePcs}
-use Rattle.gdb_monitor.specs.Texts.{line, usage_text}
+use Rattle.gdb_monitor.specs.Texts.{line, no_instr_text}
 
 -- ---- a word
 
@@ -103,7 +105,36 @@ pub record AreEdges (a : Findings) (cut : Cut) (at : Instr) (told : List ℕ) : 
 -- `edges C:N`
 pub record AreEdgesTold (a : Findings) (cut : Cut) (at : Instr) (told : List ℕ) : Type 0 where
   pub there : IsInstrOf a.recording at → AreEdges a cut at told
-  pub missing : (IsInstrOf a.recording at → ⊥) → told ≡ usage_text
+  pub missing : (IsInstrOf a.recording at → ⊥) → told ≡ no_instr_text at
+
+-- ---- waits
+
+-- the most edges of a chain that are told; `sizes_law` ties the code's constant, which the definitions cite, to it
+abbrev pub chain_max : ℕ
+chain_max = 32
+
+-- behind which instruction it came
+abbrev pub source_text : (pcs : List (List ℕ)) → Ends → List ℕ
+source_text pcs e = codes " after " ++ line (touch_text pcs e.edge.from e.from)
+
+unfoldable pub indent_text : List ℕ
+indent_text = codes "  "
+
+-- an instruction to which an edge leads, and the one behind which it came
+abbrev pub wait_row : (pcs : List (List ℕ)) → Ends → List ℕ
+wait_row pcs e = indent_text ++ touch_text pcs e.edge.to e.to ++ source_text pcs e
+
+-- the instruction, and the chain of edges by which it waited, the nearest first
+pub record AreWaits (a : Findings) (at : Instr) (told : List ℕ) : Type 0 where
+  pub pcs : List (List ℕ)
+  pub are : ArePcs a.which a.recording pcs
+  pub told_is : told
+      ≡ line (instr_text pcs a.accesses at) ++ flat_map (wait_row pcs) (chain_of (log_ends a) at CHAIN_MAX)
+
+-- `why C:N`
+pub record IsWhyTold (a : Findings) (at : Instr) (told : List ℕ) : Type 0 where
+  pub there : IsInstrOf a.recording at → AreWaits a at told
+  pub missing : (IsInstrOf a.recording at → ⊥) → told ≡ no_instr_text at
 
 -- ---- conflicts
 
@@ -127,7 +158,7 @@ IsConflictTold a (Some conflicts) told = AreConflicts a conflicts told
 -- `conflicts C:N`
 pub record AreConflictsTold (a : Findings) (at : Instr) (told : List ℕ) : Type 0 where
   pub there : IsInstrOf a.recording at → IsConflictTold a (conflicts_at a.accesses at) told
-  pub missing : (IsInstrOf a.recording at → ⊥) → told ≡ usage_text
+  pub missing : (IsInstrOf a.recording at → ⊥) → told ≡ no_instr_text at
 
 -- ---- decisions
 

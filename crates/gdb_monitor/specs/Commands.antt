@@ -1,13 +1,14 @@
 -- Rule: the meaning of a command of the debugger's user: command_of
--- What a command's text means. Each has a meaning: one that is no command is unknown.
+-- What a command's text means. Each has a meaning: one that is no command is kept by its first word.
 use Rattle.std.specs.Prelude.{ℕ, List, [], ◌∷◌, Option, Some, None, codes, unwrap_or, if◌then◌else◌}
 use Rattle.std.specs.Option.{option_and_then, option_map, option_or}
 use Rattle.std.specs.Str.{bytes_eq}
 use Rattle.rtr_types.specs.declared.instr.Instr.{Instr}
 use Rattle.gdb_monitor.specs.declared.commands.Command.{Command}
 use Rattle.gdb_monitor.specs.declared.commands.Command.TheVariants.{Cut, GoTo, GoToCut, Earliest, Latest, Edges}
-use Rattle.gdb_monitor.specs.declared.commands.Command.TheVariants.{Writer, Readers, History, Conflicts}
-use Rattle.gdb_monitor.specs.declared.commands.Command.TheVariants.{Decision, Decisions, Order, Lead, Unknown}
+use Rattle.gdb_monitor.specs.declared.commands.Command.TheVariants.{Writer, Readers, History, Conflicts, Why}
+use Rattle.gdb_monitor.specs.declared.commands.Command.TheVariants.{Decision, Decisions, Order, Lead, Slack}
+use Rattle.gdb_monitor.specs.declared.commands.Command.TheVariants.{Last, Unmeant}
 use Rattle.gdb_monitor.specs.Numbers.{core_of, count_of, named_instr, word_of}
 use Rattle.gdb_monitor.specs.Words.{words_of}
 
@@ -81,6 +82,13 @@ place_named name arguments =
     if bytes_eq name (codes "decision") then decision_of arguments else
     if bytes_eq name (codes "lead") then lead_of arguments else None
 
+-- the commands that go to a word's last write, or tell how far cores may move and why one waited
+abbrev pub cause_named : (name : List ℕ) → (arguments : List (List ℕ)) → Option Command
+cause_named name arguments =
+    if bytes_eq name (codes "last") then option_map Last (one_word arguments) else
+    if bytes_eq name (codes "slack") then option_map Slack (one_core arguments) else
+    if bytes_eq name (codes "why") then option_map Why (one_instr arguments) else None
+
 -- the commands that ask for a word or an instruction of the run, and `decisions`
 abbrev pub run_named : (name : List ℕ) → (arguments : List (List ℕ)) → Option Command
 run_named name arguments =
@@ -93,13 +101,19 @@ run_named name arguments =
 
 -- a command by its name
 abbrev pub named : (name : List ℕ) → (arguments : List (List ℕ)) → Option Command
-named name arguments = option_or (place_named name arguments) (run_named name arguments)
+named name arguments =
+    option_or (place_named name arguments) (option_or (cause_named name arguments) (run_named name arguments))
 
 -- the words of a command
 abbrev pub meaning : List (List ℕ) → Option Command
 meaning [] = None
 meaning (name ∷ arguments) = if bytes_eq name (codes "goto") then goto_of arguments else named name arguments
 
+-- the first word; none, as an empty one, where there are no words
+abbrev pub first_word : List (List ℕ) → List ℕ
+first_word [] = []
+first_word (name ∷ arguments) = name
+
 -- what a text means
 abbrev pub command_of : List ℕ → Command
-command_of text = unwrap_or (meaning (words_of text)) Unknown
+command_of text = unwrap_or (meaning (words_of text)) (Unmeant (first_word (words_of text)))

@@ -2,9 +2,11 @@ pub mod Numbers
 pub mod Words
 pub mod Commands
 pub mod Texts
+pub mod Forms
 pub mod Leading
 pub mod Payloads
 pub mod Moves
+pub mod Slack
 pub mod Ordering
 pub mod Pcs
 pub mod Instrs

@@ -1,23 +1,26 @@
 -- Rule: where such a command goes: GoesTo
 -- What a command does to a place, and what it tells.
-use Rattle.std.specs.Prelude.{◌≡◌, ℕ, ◌<◌, ◌≤◌, List, length, map, slice_index, codes}
+use Rattle.std.specs.Prelude.{◌≡◌, ℕ, ◌<◌, ◌≤◌, List, length, map, slice_index, codes, Option, Some, None}
+use Rattle.std.specs.Prelude.{MatchOption}
 use Rattle.std.specs.List.{range_with_len}
 use Rattle.rtr_types.specs.declared.TheConstants.{CORES_MAX}
+use Rattle.rtr_types.specs.declared.access.Access.{Access}
 use Rattle.rtr_types.specs.declared.cut.Cut.{Cut}
 use Rattle.rtr_types.specs.declared.instr.Instr.{Instr}
 use Rattle.rtr_types.specs.declared.pairs.Which.{Which}
 use Rattle.rtr_types.specs.declared.pairs.Which.TheVariants.{Reduced}
 use Rattle.race_log.specs.declared.recording.Recording.{Recording}
 use Rattle.race_log.specs.Sources.{HasEdge}
-use Rattle.replay_audit.specs.Audits.{Findings, IsInstrOf}
+use Rattle.replay_audit.specs.Audits.{Findings, IsInstrOf, PassesOf}
 use Rattle.cut_replay.specs.ClosedCuts.{IsClosed, IsGreatestWithout, IsLeastWith}
 use Rattle.cut_moves.specs.Steps.{IsHull, last_in, next_in}
+use Rattle.race_queries.specs.Queries.{IsLastWrite, NoWriteIn}
 use Rattle.race_cuts.specs.OpenCuts.{ComesNext, HasLeastLog}
 use Rattle.debug_place.specs.Places.{Placed, cut_at}
 use Rattle.gdb_monitor.specs.declared.moves.Extreme.{Extreme}
 use Rattle.gdb_monitor.specs.declared.moves.Extreme.TheVariants.{Earliest, Latest}
 use Rattle.gdb_monitor.specs.Ordering.{AreBoth}
-use Rattle.gdb_monitor.specs.Texts.{here_text, line, open_text, usage_text}
+use Rattle.gdb_monitor.specs.Texts.{here_text, line, no_core_text, no_counts_text, no_instr_text, open_text}
 
 -- the place is one of this audited recording
 pub record IsOf (a : Findings) (place : Placed) : Type 0 where
@@ -30,10 +33,6 @@ pub record IsOf (a : Findings) (place : Placed) : Type 0 where
 pub record Tells (old new : Placed) (told text : List ℕ) : Type 0 where
   pub place : new ≡ old
   pub told_is : told ≡ text
-
--- what is asked for isn't there: nothing moves, and the commands are told
-abbrev pub Refuses : (old new : Placed) → (told : List ℕ) → Type 0
-Refuses old new told = Tells old new told usage_text
 
 -- ---- commands that move
 
@@ -49,7 +48,29 @@ Comes to new told = ComesWhere (λ cut. cut ≡ to) new told
 -- `goto C:N`: to the least closed cut with this instruction
 pub record GoesTo (at : Instr) (old new : Placed) (told : List ℕ) : Type 0 where
   pub there : IsInstrOf old.recording at → ComesWhere (IsLeastWith old.which old.recording at) new told
-  pub missing : (IsInstrOf old.recording at → ⊥) → Refuses old new told
+  pub missing : (IsInstrOf old.recording at → ⊥) → Tells old new told (no_instr_text at)
+
+-- to the greatest closed cut without this instruction: it comes next, and all is done that doesn't need it
+pub record GoesBefore (at : Instr) (old new : Placed) (told : List ℕ) : Type 0 where
+  pub there : IsInstrOf old.recording at → ComesWhere (IsGreatestWithout old.which old.recording at) new told
+  pub missing : (IsInstrOf old.recording at → ⊥) → Tells old new told (no_instr_text at)
+
+abbrev pub no_write_text : List ℕ
+no_write_text = line (codes "no write: the opening value")
+
+-- before a write, if there is one
+abbrev pub GoesBeforeWrite : Option Access → (old new : Placed) → (told : List ℕ) → Type 0
+GoesBeforeWrite None old new told = Tells old new told no_write_text
+GoesBeforeWrite (Some access) old new told = GoesBefore access.at old new told
+
+-- `last ADDR`: before the last write of the word in the cut
+pub record GoesToLast (word : ℕ) (old new : Placed) (told : List ℕ) : Type 0 where
+  pub audit : Findings
+  pub run : IsOf audit old
+  pub passed : PassesOf audit
+  pub written : Option Access
+  pub is : MatchOption written (NoWriteIn audit.accesses (cut_at old) word) (IsLastWrite audit (cut_at old) word)
+  pub goes : GoesBeforeWrite written old new told
 
 -- the core's last instruction is kept, and only what it needs, or all comes that doesn't need the core's next one
 abbrev pub IsExtreme : Extreme → Which → Recording → (here : Cut) → (core : ℕ) → (to : Cut) → Type 0
@@ -60,7 +81,7 @@ IsExtreme Latest which r here core to = IsGreatestWithout which r (next_in here 
 pub record GoesAround (extreme : Extreme) (core : ℕ) (old new : Placed) (told : List ℕ) : Type 0 where
   pub there : core < old.recording.params.cores →
       ComesWhere (IsExtreme extreme old.which old.recording (cut_at old) core) new told
-  pub missing : old.recording.params.cores ≤ core → Refuses old new told
+  pub missing : old.recording.params.cores ≤ core → Tells old new told (no_core_text core)
 
 pub record BothComeNext (cut : Cut) (at other : Instr) : Type 0 where
   pub first : ComesNext cut at
@@ -86,7 +107,9 @@ pub record GoesToDecision (at other : Instr) (old new : Placed) (told : List ℕ
       ComesWhere (IsDecision old.which old.recording at other) new told
   pub decided : AreBoth old.recording at other →
       ((cut : Cut) → IsDecision old.which old.recording at other cut → ⊥) → Tells old new told decided_text
-  pub missing : (AreBoth old.recording at other → ⊥) → Refuses old new told
+  pub missing : (IsInstrOf old.recording at → ⊥) → Tells old new told (no_instr_text at)
+  pub other_missing : IsInstrOf old.recording at → (IsInstrOf old.recording other → ⊥) →
+      Tells old new told (no_instr_text other)
 
 -- one count for each core, at most its total
 pub record AreCounts (r : Recording) (counts : List ℕ) : Type 0 where
@@ -109,4 +132,4 @@ pub record GoesIfClosed (to : Cut) (old new : Placed) (told : List ℕ) : Type 0
 pub record GoesToCut (counts : List ℕ) (old new : Placed) (told : List ℕ) : Type 0 where
   pub there : AreCounts old.recording counts →
       GoesIfClosed (cut_with_counts old.recording.params.cores counts) old new told
-  pub missing : (AreCounts old.recording counts → ⊥) → Refuses old new told
+  pub missing : (AreCounts old.recording counts → ⊥) → Tells old new told no_counts_text

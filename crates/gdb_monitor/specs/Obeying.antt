@@ -1,20 +1,23 @@
 -- Rule: what such a command does to the place: Obeys
 -- What each command does, and what it tells.
-use Rattle.std.specs.Prelude.{◌≡◌, ℕ, List}
+use Rattle.std.specs.Prelude.{◌≡◌, ℕ, List, []}
 use Rattle.rtr_types.specs.declared.cut.Cut as cuts
 use Rattle.replay_audit.specs.Audits.{Findings, PassesOf}
 use Rattle.debug_place.specs.Places.{Placed, cut_at}
 use Rattle.gdb_monitor.specs.declared.commands.Command.{Command}
 use Rattle.gdb_monitor.specs.declared.commands.Command.TheVariants.{Cut, GoTo, GoToCut, Earliest, Latest, Edges}
-use Rattle.gdb_monitor.specs.declared.commands.Command.TheVariants.{Writer, Readers, History, Conflicts}
-use Rattle.gdb_monitor.specs.declared.commands.Command.TheVariants.{Decision, Decisions, Order, Lead, Unknown}
+use Rattle.gdb_monitor.specs.declared.commands.Command.TheVariants.{Writer, Readers, History, Conflicts, Why}
+use Rattle.gdb_monitor.specs.declared.commands.Command.TheVariants.{Decision, Decisions, Order, Lead, Slack}
+use Rattle.gdb_monitor.specs.declared.commands.Command.TheVariants.{Last, Unmeant}
 use Rattle.gdb_monitor.specs.declared.moves.Extreme.TheVariants as extremes
 use Rattle.gdb_monitor.specs.Asking.{AreConflictsTold, AreDecisionsTold, AreEdgesTold, AreReadersTold}
-use Rattle.gdb_monitor.specs.Asking.{IsHistoryTold, IsWriterTold}
+use Rattle.gdb_monitor.specs.Asking.{IsHistoryTold, IsWhyTold, IsWriterTold}
+use Rattle.gdb_monitor.specs.Forms.{unmeant_text}
 use Rattle.gdb_monitor.specs.Leading.{lead_told}
-use Rattle.gdb_monitor.specs.Moves.{GoesAround, GoesTo, GoesToCut, GoesToDecision, IsOf, Refuses, Tells}
+use Rattle.gdb_monitor.specs.Moves.{GoesAround, GoesTo, GoesToCut, GoesToDecision, GoesToLast, IsOf, Tells}
 use Rattle.gdb_monitor.specs.Ordering.{IsOrderTold}
-use Rattle.gdb_monitor.specs.Texts.{here_text, usage_text}
+use Rattle.gdb_monitor.specs.Slack.{IsSlackTold}
+use Rattle.gdb_monitor.specs.Texts.{here_text}
 
 -- what a command that asks for a word, an instruction or all decisions is told, by the audit, at a cut
 abbrev pub AuditTells : Command → Findings → cuts.Cut → (told : List ℕ) → Type 0
@@ -24,7 +27,8 @@ AuditTells (Readers word) a cut told = AreReadersTold a cut word told
 AuditTells (History word) a cut told = IsHistoryTold a cut word told
 AuditTells (Conflicts at) a cut told = AreConflictsTold a at told
 AuditTells Decisions a cut told = AreDecisionsTold a told
-AuditTells _ a cut told = told ≡ usage_text
+AuditTells (Why at) a cut told = IsWhyTold a at told
+AuditTells _ a cut told = told ≡ []
 
 -- by the audit of the place's recording, at its cut, and nothing moves
 pub record Asks (command : Command) (old new : Placed) (told : List ℕ) : Type 0 where
@@ -49,4 +53,7 @@ Obeys Decisions old new told = Asks Decisions old new told
 Obeys (Order at other) old new told = (new ≡ old) × IsOrderTold at other old told
 Obeys (Decision at other) old new told = GoesToDecision at other old new told
 Obeys (Lead core) old new told = Tells old new told (lead_told core old.recording.params.cores)
-Obeys Unknown old new told = Refuses old new told
+Obeys (Last word) old new told = GoesToLast word old new told
+Obeys (Slack core) old new told = (new ≡ old) × IsSlackTold core old told
+Obeys (Why at) old new told = Asks (Why at) old new told
+Obeys (Unmeant word) old new told = Tells old new told (unmeant_text word)

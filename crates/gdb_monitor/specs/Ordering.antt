@@ -7,7 +7,7 @@ use Rattle.race_log.specs.declared.recording.Recording.{Recording}
 use Rattle.race_log.specs.Sources.{log_edges}
 use Rattle.replay_audit.specs.Audits.{IsInstrOf}
 use Rattle.debug_place.specs.Places.{Placed}
-use Rattle.gdb_monitor.specs.Texts.{line, usage_text}
+use Rattle.gdb_monitor.specs.Texts.{line, no_instr_text}
 
 -- by the log the one instruction comes before the other
 abbrev pub Leads : Which → Recording → Instr → Instr → Type 0
@@ -35,4 +35,6 @@ pub record IsWordTold (which : Which) (r : Recording) (at other : Instr) (told :
 -- `order C:N C:N`
 pub record IsOrderTold (at other : Instr) (place : Placed) (told : List ℕ) : Type 0 where
   pub there : AreBoth place.recording at other → IsWordTold place.which place.recording at other told
-  pub missing : (AreBoth place.recording at other → ⊥) → told ≡ usage_text
+  pub missing : (IsInstrOf place.recording at → ⊥) → told ≡ no_instr_text at
+  pub other_missing : IsInstrOf place.recording at → (IsInstrOf place.recording other → ⊥) →
+      told ≡ no_instr_text other

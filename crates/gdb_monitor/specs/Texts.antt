@@ -2,12 +2,8 @@
 use Rattle.std.specs.Prelude.{ℕ, List, [], ◌∷◌, ◌++◌, take, codes, decimal}
 use Rattle.std.specs.List.{flat_map}
 use Rattle.rtr_types.specs.declared.cut.Cut.{Cut}
+use Rattle.rtr_types.specs.declared.instr.Instr.{Instr}
 use Rattle.debug_place.specs.Places.{Placed, cut_at}
-use Rattle.gdb_monitor.specs.declared.texts.TheConstants.{USAGE}
-
--- the commands that there are: a text of the code
-abbrev pub usage_text : List ℕ
-usage_text = USAGE.now
 
 -- a line: its text and one line feed
 abbrev pub line : List ℕ → List ℕ
@@ -30,3 +26,14 @@ here_text place = cut_text (cut_at place)
 -- the cut that was asked for isn't closed; this one is the least that is, and contains it
 abbrev pub open_text : Cut → List ℕ
 open_text hull = line (codes "rtr_gdb: not closed; the least closed cut that contains it is" ++ counts_text hull)
+
+-- ---- what isn't there
+
+abbrev pub no_instr_text : Instr → List ℕ
+no_instr_text at = line (codes "rtr_gdb: no instruction " ++ decimal at.core ++ codes ":" ++ decimal at.count)
+
+abbrev pub no_core_text : (core : ℕ) → List ℕ
+no_core_text core = line (codes "rtr_gdb: no core " ++ decimal core)
+
+abbrev pub no_counts_text : List ℕ
+no_counts_text = line (codes "rtr_gdb: no such counts: goto takes one for each core, at most its total")

@@ -3,7 +3,8 @@ ghost use Rattle.std.specs.Prelude.{◌≡◌, IfOk};
 ghost use Rattle.std.specs.Option.{option_map};
 ghost use Rattle.gdb_monitor.specs.Commands.{command_of, counts_of, cut_of, goto_of, meaning, named, one_core, only};
 ghost use Rattle.gdb_monitor.specs.Commands.{lead_of, leader_of, one_instr, one_word, order_of, place_named};
-ghost use Rattle.gdb_monitor.specs.Commands.{decision_of, decisions_of, run_named};
+ghost use Rattle.gdb_monitor.specs.Commands.{cause_named, decision_of, decisions_of, first_word, run_named};
+ghost use Rattle.gdb_monitor.specs.declared.commands.Command.TheVariants.{Unmeant};
 
 use crate::numbers::{core_of, count_of, named_instr, word_of};
 use crate::words::words_of;
@@ -42,8 +43,14 @@ pub enum Command {
     Decisions,
     /// `lead C` and `lead all`: all cores go on, and back, by this core alone, or each goes.
     Lead(Option<u8>),
-    /// Every other text.
-    Unknown,
+    /// `last ADDR`: to where the last write of this word, by its index, so far comes next.
+    Last(u32),
+    /// `slack C`: how far the others may move while this core stays.
+    Slack(u8),
+    /// `why C:N`: the chain of edges by which this instruction waited.
+    Why(Instr),
+    /// Every other text, by its first word.
+    Unmeant(Items<u8>),
 }
 
 /// What a text means: words between spaces, the command's name first. It is refused for want of memory alone.
@@ -51,7 +58,21 @@ pub fn command_of(alloc: Global, text: &[u8]) -> Result<Command, AllocError>
     ensures { IfOk result (λ command. command ≡ command_of text.now) }
 {
     let words = words_of(alloc, text)?;
-    Ok(meaning(alloc, words.as_slice())?.unwrap_or(Command::Unknown))
+    match meaning(alloc, words.as_slice())? {
+        Some(command) => Ok(command),
+        None => unmeant(alloc, words.as_slice()),
+    }
+}
+
+/// Words that mean nothing, by the first of them.
+fn unmeant(alloc: Global, words: &[Items<u8>]) -> Result<Command, AllocError>
+    ensures { IfOk result (λ command. command ≡ Unmeant (first_word words.now)) }
+{
+    let first = match words.first() {
+        Some(name) => name.as_slice(),
+        None => &[],
+    };
+    Ok(Command::Unmeant(Items::from_vec(Vec::from_slice(alloc, first)?)))
 }
 
 /// What words mean, if they mean a command.
@@ -71,7 +92,10 @@ fn named(name: &[u8], arguments: &[Items<u8>]) -> Option<Command>
 {
     match place_named(name, arguments) {
         Some(command) => Some(command),
-        None => run_named(name, arguments),
+        None => match cause_named(name, arguments) {
+            Some(command) => Some(command),
+            None => run_named(name, arguments),
+        },
     }
 }
 
@@ -91,6 +115,21 @@ fn place_named(name: &[u8], arguments: &[Items<u8>]) -> Option<Command>
         decision_of(arguments)
     } else if is(name, "lead") {
         lead_of(arguments)
+    } else {
+        None
+    }
+}
+
+/// The commands that go to a word's last write, or tell how far cores may move and why one waited.
+fn cause_named(name: &[u8], arguments: &[Items<u8>]) -> Option<Command>
+    ensures { result ≡ cause_named name.now arguments.now }
+{
+    if is(name, "last") {
+        one_word(arguments).map(Command::Last)
+    } else if is(name, "slack") {
+        one_core(arguments).map(Command::Slack)
+    } else if is(name, "why") {
+        one_instr(arguments).map(Command::Why)
     } else {
         None
     }

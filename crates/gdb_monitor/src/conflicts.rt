@@ -6,7 +6,7 @@ ghost use Rattle.gdb_monitor.specs.Asking.{AreConflicts, AreConflictsTold, calle
 
 use crate::asking::put_line;
 use crate::pcs::{Known, known_of};
-use crate::texts::{Put, Told, bytes_of, line, usage};
+use crate::texts::{Put, Told, bytes_of, line, no_instr};
 use cut_replay::has_instr;
 use race_queries::{Conflicts, conflicts_of};
 use replay_audit::Audited;
@@ -18,7 +18,7 @@ pub(crate) fn conflicts_told(alloc: Global, audited: &Audited, at: Instr) -> Tol
     ensures { IfOk result (AreConflictsTold audited.now at) }
 {
     if !has_instr(audited.recording(), at) {
-        return usage(alloc);
+        return no_instr(alloc, at);
     }
     match conflicts_of(alloc, audited, at)? {
         Some(conflicts) => conflicts_at(alloc, audited, &conflicts),

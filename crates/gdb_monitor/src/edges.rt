@@ -8,7 +8,7 @@ ghost use Rattle.gdb_monitor.specs.Texts.{line};
 
 use crate::instrs::put_instr;
 use crate::pcs::{Known, known_of};
-use crate::texts::{Put, Told, bytes_of, usage};
+use crate::texts::{Put, Told, bytes_of, no_instr};
 use cut_replay::has_instr;
 use race_queries::{edges_into, edges_out_of, holds};
 use replay_audit::Audited;
@@ -22,7 +22,7 @@ pub(crate) fn edges_told(alloc: Global, audited: &Audited, cut: &Cut, at: Instr)
     if has_instr(audited.recording(), at) {
         edges_at(alloc, audited, cut, at)
     } else {
-        usage(alloc)
+        no_instr(alloc, at)
     }
 }
 
@@ -41,7 +41,7 @@ fn edges_at(alloc: Global, audited: &Audited, cut: &Cut, at: Instr) -> Told
 }
 
 /// Puts an instruction in a line.
-fn put_line(alloc: Global, text: &mut String, known: &Known, at: Instr) -> Put
+pub(crate) fn put_line(alloc: Global, text: &mut String, known: &Known, at: Instr) -> Put
     ensures { OnOk result (string_bytes text.new
         ≡ string_bytes text.old ++ line (instr_text (items_in known.now.pcs) known.now.accesses.now at)) }
 {

@@ -2,7 +2,7 @@
 ghost use Rattle.std.specs.Prelude.{◌≡◌, IfOk};
 ghost use Rattle.gdb_monitor.specs.Leading.{can_lead, lead_text, lead_told};
 
-use crate::texts::{bytes_of, line, usage};
+use crate::texts::{bytes_of, line, no_core};
 use rtr_types::Items;
 use std::alloc::{AllocError, Global};
 
@@ -20,10 +20,9 @@ pub fn can_lead(core: Option<u8>, cores: u8) -> bool
 pub(crate) fn lead_told(alloc: Global, core: Option<u8>, cores: u8) -> Result<Items<u8>, AllocError>
     ensures { IfOk result (λ text. text ≡ lead_told core cores) }
 {
-    if can_lead(core, cores) {
-        lead_text(alloc, core)
-    } else {
-        usage(alloc)
+    match core {
+        Some(core) if core >= cores => no_core(alloc, core),
+        _ => lead_text(alloc, core),
     }
 }
 

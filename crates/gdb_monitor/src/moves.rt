@@ -7,8 +7,7 @@ ghost use Rattle.gdb_monitor.specs.Moves.{AreCounts, Comes, GoesAround, GoesIfCl
 ghost use Rattle.gdb_monitor.specs.Moves.{BothComeNext, GoesToDecision, IsOf, cut_with_counts};
 ghost use Rattle.race_cuts.specs.OpenCuts.{ComesNext};
 
-use crate::ordering::are_both;
-use crate::texts::{Told, cut_text, line, open_text, usage};
+use crate::texts::{Told, cut_text, line, no_core, no_counts, no_instr, open_text};
 use cut_moves::{earliest, hull, latest};
 use cut_replay::{cut_with, cut_without, has_instr};
 use debug_place::Place;
@@ -21,7 +20,7 @@ use std::alloc::{AllocError, Global};
 const PLACES: usize = CORES_MAX as usize;
 
 /// To a closed cut, which is told. A refusal, which comes for want of memory alone, leaves the place as it was.
-fn go(alloc: Global, place: &mut Place, to: &Cut) -> Told
+pub(crate) fn go(alloc: Global, place: &mut Place, to: &Cut) -> Told
     requires { IsClosed place.old.which place.old.recording to.now }
     ensures kept { IsKept place.old place.new }
     ensures ok { IfOk result (Comes to.now place.new) }
@@ -40,7 +39,7 @@ pub(crate) fn go_to(alloc: Global, audited: &Audited, place: &mut Place, at: Ins
     ensures err { OnErr result (place.new ≡ place.old) }
 {
     if !has_instr(audited.recording(), at) {
-        return usage(alloc);
+        return no_instr(alloc, at);
     }
     let to = cut_with(audited, at)?;
     go(alloc, place, &to)
@@ -60,8 +59,11 @@ pub(crate) fn go_to_decision(
     ensures ok { IfOk result (GoesToDecision at other place.old place.new) }
     ensures err { OnErr result (place.new ≡ place.old) }
 {
-    if !are_both(audited.recording(), at, other) {
-        return usage(alloc);
+    if !has_instr(audited.recording(), at) {
+        return no_instr(alloc, at);
+    }
+    if !has_instr(audited.recording(), other) {
+        return no_instr(alloc, other);
     }
     let to = cut_without(audited, at)?;
     if both_come_next(&to, at, other) {
@@ -99,7 +101,7 @@ pub(crate) enum Extreme {
 
 impl Extreme {
     /// The closed cut to which the others go where this core stays.
-    fn around(self, audited: &Audited, cut: &Cut, core: u8) -> Result<Cut, AllocError>
+    pub(crate) fn around(self, audited: &Audited, cut: &Cut, core: u8) -> Result<Cut, AllocError>
         requires closed { IsClosed audited.now.which audited.now.recording cut.now }
         requires core { core < audited.now.recording.params.cores }
         ensures closed { IsOkAnd result (IsClosed audited.now.which audited.now.recording) }
@@ -126,7 +128,7 @@ pub(crate) fn go_around(
     ensures err { OnErr result (place.new ≡ place.old) }
 {
     if core >= place.cores() {
-        return usage(alloc);
+        return no_core(alloc, core);
     }
     let to = extreme.around(audited, &place.cut(), core)?;
     go(alloc, place, &to)
@@ -140,7 +142,7 @@ pub(crate) fn go_to_cut(alloc: Global, audited: &Audited, place: &mut Place, cou
     ensures err { OnErr result (place.new ≡ place.old) }
 {
     if !are_counts(audited.recording(), counts) {
-        return usage(alloc);
+        return no_counts(alloc);
     }
     let to = cut_with_counts(place.cores(), counts);
     go_if_closed(alloc, audited, place, &to)

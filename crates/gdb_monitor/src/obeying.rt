@@ -9,18 +9,22 @@ use crate::commands::Command;
 use crate::conflicts::conflicts_told;
 use crate::decisions_told::decisions_told;
 use crate::edges::edges_told;
+use crate::forms::unmeant_told;
+use crate::lasts::go_to_last;
 use crate::leading::lead_told;
 use crate::moves::{Extreme, go_around, go_to, go_to_cut, go_to_decision};
 use crate::ordering::order_told;
-use crate::texts::{cut_text, usage};
+use crate::slack::slack_told;
+use crate::texts::cut_text;
+use crate::waits_told::why_told;
 use debug_place::Place;
 use replay_audit::Audited;
 use rtr_types::{Cut, Items};
 use std::alloc::{AllocError, Global};
 
-/// Does what a command asks for at a place of this audited recording, and answers what is told. An instruction, a core
-/// or a cut that isn't there has the answer of a command that isn't known, which names the commands that there are. A
-/// refusal, which comes for want of memory alone, leaves the place as it was.
+/// Does what a command asks for at a place of this audited recording, and answers what is told. If an instruction, a
+/// core or a cut isn't there, the answer says so. Of a text that is no command it says how the command goes, or which
+/// there are. A refusal, which comes for want of memory alone, leaves the place as it was.
 pub fn obey(
     alloc: Global,
     audited: &Audited,
@@ -47,7 +51,10 @@ pub fn obey(
         Command::Order(at, other) => order_told(alloc, audited, place, *at, *other),
         Command::Decision(at, other) => go_to_decision(alloc, audited, place, *at, *other),
         Command::Lead(core) => lead_told(alloc, *core, place.cores()),
-        Command::Unknown => usage(alloc),
+        Command::Last(word) => go_to_last(alloc, audited, place, *word),
+        Command::Slack(core) => slack_told(alloc, audited, place, *core),
+        Command::Why(_) => ask(alloc, audited, place, command),
+        Command::Unmeant(word) => unmeant_told(alloc, word.as_slice()),
     }
 }
 
@@ -82,6 +89,7 @@ fn audit_tells(
         Command::History(word) => history_told(alloc, audited, cut, *word),
         Command::Conflicts(at) => conflicts_told(alloc, audited, *at),
         Command::Decisions => decisions_told(alloc, audited),
-        _ => usage(alloc),
+        Command::Why(at) => why_told(alloc, audited, *at),
+        _ => Ok(Items::new(alloc)),
     }
 }

@@ -1,14 +1,12 @@
 //! Which of two instructions comes first.
-ghost use Rattle.std.specs.Prelude.{◌≡◌, ◌↔◌, IfOk, IsTrue};
-ghost use Rattle.race_log.specs.Validity.{Valid};
+ghost use Rattle.std.specs.Prelude.{◌≡◌, IfOk};
 ghost use Rattle.gdb_monitor.specs.Moves.{IsOf};
 ghost use Rattle.gdb_monitor.specs.Ordering.{AreBoth, IsOrder, IsOrderTold};
 ghost use Rattle.gdb_monitor.specs.Texts.{line};
 
-use crate::texts::{line, usage};
+use crate::texts::{line, no_instr};
 use cut_replay::has_instr;
 use debug_place::Place;
-use race_log::Recording;
 use race_queries::leads_to;
 use replay_audit::Audited;
 use rtr_types::{Instr, Items};
@@ -25,19 +23,13 @@ pub(crate) fn order_told(
     requires { IsOf audited.now _place.now }
     ensures { IfOk result (IsOrderTold at other _place.now) }
 {
-    if are_both(audited.recording(), at, other) {
-        line(alloc, order_of(audited, at, other))
-    } else {
-        usage(alloc)
+    if !has_instr(audited.recording(), at) {
+        return no_instr(alloc, at);
     }
-}
-
-/// Whether the recording has both instructions.
-pub(crate) fn are_both(recording: &Recording, at: Instr, other: Instr) -> bool
-    requires { Valid recording.now }
-    ensures { IsTrue result ↔ AreBoth recording.now at other }
-{
-    has_instr(recording, at) && has_instr(recording, other)
+    if !has_instr(audited.recording(), other) {
+        return no_instr(alloc, other);
+    }
+    line(alloc, order_of(audited, at, other))
 }
 
 /// The word for how the one instruction stands to the other.

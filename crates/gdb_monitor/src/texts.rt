@@ -1,8 +1,9 @@
 //! What is told of a place.
 ghost use Rattle.std.specs.Prelude.{◌≡◌, ◌++◌, IfOk, OnOk, string_bytes};
-ghost use Rattle.gdb_monitor.specs.Texts.{counts_text, cut_text, line, open_text, usage_text};
+ghost use Rattle.gdb_monitor.specs.Texts.{counts_text, cut_text, line, no_core_text, no_counts_text, no_instr_text};
+ghost use Rattle.gdb_monitor.specs.Texts.{open_text};
 
-use rtr_types::{Cut, Items};
+use rtr_types::{Cut, Instr, Items};
 use std::alloc::{AllocError, Global};
 
 /// What a command is answered.
@@ -10,19 +11,6 @@ pub(crate) type Told = Result<Items<u8>, AllocError>;
 
 /// That a part of a text was put.
 pub(crate) type Put = Result<(), AllocError>;
-
-/// The commands that there are.
-pub const USAGE: &[u8] =
-    b"rtr_gdb: monitor cut | goto N .. | goto C:N | earliest C | latest C | lead C | lead all | \
-edges C:N | writer ADDR | readers ADDR | history ADDR | conflicts C:N | order C:N C:N | decision C:N C:N | \
-decisions\n";
-
-/// The commands that there are, as a text.
-pub(crate) fn usage(alloc: Global) -> Told
-    ensures { IfOk result (λ text. text ≡ usage_text) }
-{
-    Ok(Items::from_vec(Vec::from_slice(alloc, USAGE)?))
-}
 
 /// A text's bytes.
 pub(crate) fn bytes_of(text: String) -> Items<u8>
@@ -75,4 +63,34 @@ fn put_counts(text: &mut String, cut: &Cut) -> Put
         write!(text, " {count}")?;
     }
     Ok(())
+}
+
+/// That the recording hasn't this instruction.
+pub(crate) fn no_instr(alloc: Global, at: Instr) -> Told
+    ensures { IfOk result (λ text. text ≡ no_instr_text at) }
+{
+    let core = at.core;
+    let count = at.count;
+    let mut text = String::new(alloc);
+    writeln!(text, "rtr_gdb: no instruction {core}:{count}")?;
+    Ok(bytes_of(text))
+}
+
+/// That the recording hasn't this core.
+pub(crate) fn no_core(alloc: Global, core: u8) -> Told
+    ensures { IfOk result (λ text. text ≡ no_core_text core) }
+{
+    let mut text = String::new(alloc);
+    writeln!(text, "rtr_gdb: no core {core}")?;
+    Ok(bytes_of(text))
+}
+
+/// That these are no counts of a cut.
+pub(crate) fn no_counts(alloc: Global) -> Told
+    ensures { IfOk result (λ text. text ≡ no_counts_text) }
+{
+    line(
+        alloc,
+        "rtr_gdb: no such counts: goto takes one for each core, at most its total",
+    )
 }

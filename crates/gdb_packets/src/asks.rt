@@ -2,7 +2,7 @@
 use rtr_types::Items;
 
 /// Whom a packet means.
-#[derive(Clone, Copy, Debug, PartialEq, Eq)]
+#[derive(Clone, Copy, PartialEq, Eq)]
 pub enum Thread {
     /// All threads (-1).
     All,
@@ -14,7 +14,7 @@ pub enum Thread {
 
 /// An address and a length in bytes, or a place in a document and how much of it is wanted. Of a breakpoint the
 /// length means nothing.
-#[derive(Clone, Copy, Debug, PartialEq, Eq)]
+#[derive(Clone, Copy, PartialEq, Eq)]
 pub struct Span {
     /// Where it begins.
     pub at: u64,
@@ -45,7 +45,7 @@ pub enum Watch {
 }
 
 /// What threads are to do.
-#[derive(Clone, Copy, Debug, PartialEq, Eq)]
+#[derive(Clone, Copy, PartialEq, Eq)]
 pub struct Action {
     /// Whether one instruction is to be taken, and not all that follow.
     pub step: bool,
@@ -54,7 +54,7 @@ pub struct Action {
 }
 
 /// What a packet asks that has no list in it.
-#[derive(Clone, Copy, Debug, PartialEq, Eq)]
+#[derive(Clone, Copy, PartialEq, Eq)]
 pub enum Plain {
     /// Why the program has stopped.
     LastStop,

@@ -1,8 +1,8 @@
 //! Frames as they are written, and the laws of reading them.
-ghost use Rattle.std.specs.Prelude.{◌≡◌, ◌<◌, IfOk, IfSome};
+ghost use Rattle.std.specs.Prelude.{◌≡◌, ◌++◌, ◌<◌, IfOk, IfSome, OnOk};
 ghost use Rattle.hex.specs.Hex.{hex_digit_value};
-ghost use Rattle.gdb_packets.specs.Frames.{PiecesLaw, ReadBackLaw, are_digits_of, body_of, checksum, framed};
-ghost use Rattle.gdb_packets.specs.Frames.{is_special, payload_max};
+ghost use Rattle.gdb_packets.specs.Frames.{PiecesLaw, ReadBackLaw, are_digits_of, body_of, checksum, enclosed};
+ghost use Rattle.gdb_packets.specs.Frames.{framed, is_special, payload_max, sum_digits};
 ghost use Rattle.gdb_packets.specs.declared.TheConstants.{PAYLOAD_MAX};
 
 use rtr_types::Items;
@@ -19,14 +19,28 @@ pub fn frame(alloc: Global, payload: &[u8]) -> Result<Items<u8>, AllocError>
     ensures { IfOk result (λ bytes. bytes ≡ framed payload.now) }
 {
     let body = body_of(alloc, payload)?;
-    let sum = checksum(body.as_slice());
+    enclosed(alloc, body.as_slice())
+}
+
+/// A body in its frame.
+fn enclosed(alloc: Global, body: &[u8]) -> Result<Items<u8>, AllocError>
+    ensures { IfOk result (λ bytes. bytes ≡ enclosed body.now) }
+{
     let mut out = Vec::new(alloc);
     out.push(b'$')?;
-    out.extend_from_slice(body.as_slice())?;
+    out.extend_from_slice(body)?;
     out.push(b'#')?;
+    put_sum(&mut out, checksum(body))?;
+    Ok(Items::from_vec(out))
+}
+
+/// Writes the two digits of a sum behind some bytes.
+fn put_sum(out: &mut Vec<u8>, sum: u8) -> Result<(), AllocError>
+    ensures { OnOk result (out.new.items ≡ out.old.items ++ sum_digits sum) }
+{
     out.push(DIGITS[(sum / 16) as usize])?;
     out.push(DIGITS[(sum % 16) as usize])?;
-    Ok(Items::from_vec(out))
+    Ok(())
 }
 
 /// The sum of the bytes, modulo 256.

@@ -1,5 +1,5 @@
 //! Answers, and how they are spelled.
-ghost use Rattle.std.specs.Prelude.{◌≡◌, ◌++◌, IfOk, OnOk, codes};
+ghost use Rattle.std.specs.Prelude.{◌≡◌, ◌+◌, ◌++◌, IfOk, OnOk, codes};
 ghost use Rattle.hex.specs.Hex.{encode_lower};
 ghost use Rattle.gdb_packets.specs.Numbers.{numeral};
 ghost use Rattle.gdb_packets.specs.Replies.{features_text, signal_number, spelled, stop_text, thread_text};
@@ -12,7 +12,7 @@ use rtr_types::Items;
 use std::alloc::{AllocError, Global};
 
 /// Why a program has stopped, as a signal.
-#[derive(Clone, Copy, Debug, PartialEq, Eq)]
+#[derive(Clone, Copy, PartialEq, Eq)]
 pub enum Signal {
     /// The debugger's user asked for it (SIGINT).
     Interrupt,
@@ -27,7 +27,7 @@ pub enum Signal {
 }
 
 /// What a stop says beside the signal and the thread.
-#[derive(Clone, Copy, Debug, PartialEq, Eq)]
+#[derive(Clone, Copy, PartialEq, Eq)]
 pub enum Why {
     /// Nothing.
     Nothing,
@@ -42,7 +42,7 @@ pub enum Why {
 }
 
 /// A stop.
-#[derive(Clone, Copy, Debug, PartialEq, Eq)]
+#[derive(Clone, Copy, PartialEq, Eq)]
 pub struct Stop {
     /// Why, as a signal.
     pub signal: Signal,
@@ -108,30 +108,47 @@ fn put_reply(alloc: Global, out: &mut Vec<u8>, reply: &Reply) -> Result<(), Allo
         Reply::Features => put_features(out),
         Reply::ResumeKinds => put(out, "vCont;c;C;s;S"),
         Reply::Attached => put(out, "1"),
-        Reply::ToldThread(core) => {
-            put(out, "QC")?;
-            put_number(alloc, out, *core as u64 + 1)
-        }
-        Reply::ThreadsFirst(cores) => {
-            put(out, "m")?;
-            put_threads(alloc, out, *cores)
-        }
+        Reply::ToldThread(core) => put_told(alloc, out, *core),
+        Reply::ThreadsFirst(cores) => put_first(alloc, out, *cores),
         Reply::ThreadsRest => put(out, "l"),
         Reply::Stopped(stop) => put_stop(alloc, out, stop),
         Reply::Bytes(bytes) => put_digits(alloc, out, bytes.as_slice()),
-        Reply::Output(text) => {
-            put(out, "O")?;
-            put_digits(alloc, out, text.as_slice())
-        }
-        Reply::Part(text) => {
-            put(out, "m")?;
-            out.extend_from_slice(text.as_slice())
-        }
-        Reply::LastPart(text) => {
-            put(out, "l")?;
-            out.extend_from_slice(text.as_slice())
-        }
+        Reply::Output(text) => put_output(alloc, out, text.as_slice()),
+        Reply::Part(text) => put_part(out, "m", text.as_slice()),
+        Reply::LastPart(text) => put_part(out, "l", text.as_slice()),
     }
+}
+
+/// Writes the thread that was told last.
+fn put_told(alloc: Global, out: &mut Vec<u8>, core: u8) -> Result<(), AllocError>
+    ensures { OnOk result (out.new.items ≡ out.old.items ++ codes "QC" ++ numeral (core + 1)) }
+{
+    put(out, "QC")?;
+    put_number(alloc, out, core as u64 + 1)
+}
+
+/// Writes the first part of the list of threads.
+fn put_first(alloc: Global, out: &mut Vec<u8>, cores: u8) -> Result<(), AllocError>
+    ensures { OnOk result (out.new.items ≡ out.old.items ++ codes "m" ++ threads_text cores) }
+{
+    put(out, "m")?;
+    put_threads(alloc, out, cores)
+}
+
+/// Writes a text for the debugger's user.
+fn put_output(alloc: Global, out: &mut Vec<u8>, text: &[u8]) -> Result<(), AllocError>
+    ensures { OnOk result (out.new.items ≡ out.old.items ++ codes "O" ++ encode_lower text.now) }
+{
+    put(out, "O")?;
+    put_digits(alloc, out, text)
+}
+
+/// Writes a part of a document behind the letter that says whether more follows.
+fn put_part(out: &mut Vec<u8>, letter: &str, text: &[u8]) -> Result<(), AllocError>
+    ensures { OnOk result (out.new.items ≡ out.old.items ++ letter.now ++ text.now) }
+{
+    put(out, letter)?;
+    out.extend_from_slice(text)
 }
 
 /// Writes a text behind some bytes.

@@ -8,10 +8,10 @@ ghost use Rattle.gdb_session.specs.Stopping.{stopping_by, stopping_of, stops_at}
 
 use crate::ends::{end_of, signal_of};
 use crate::points::{Point, breaks_at, touched};
+use cut_index::Standing;
 use debug_place::Stops;
 use image_mem::Image;
 use replay_audit::Audited;
-use replay_core::Replay;
 use rtr_types::CoreSet;
 
 /// What stops a move of an audited recording's place: points, and programs that end by a fault.
@@ -78,15 +78,15 @@ impl Hearing<'_> {
 impl Stops for Hearing<'_> {
     ghost stops = { λ hearing plan state core. stops_at (stopping_of hearing) plan state core };
 
-    fn stops(&self, replay: &Replay, core: u8) -> bool {
+    fn stops(&self, standing: &Standing, core: u8) -> bool {
         // There are no more cores than there may be.
-        let _ = replay.cores();
-        if self.breaks(core, replay.core(core).pc()) {
+        let _ = standing.cores();
+        if self.breaks(core, standing.pc(core)) {
             return true;
         }
-        if touched(self.points, replay.next_use(core)).is_some() {
+        if touched(self.points, standing.next_use(core)).is_some() {
             return true;
         }
-        self.faults(core, replay.count(core), replay.total(core))
+        self.faults(core, standing.count(core), standing.total(core))
     }
 }

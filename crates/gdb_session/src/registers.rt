@@ -66,7 +66,7 @@ pub(crate) fn registers_reply(
     requires core { core < place.now.recording.params.cores }
     ensures { IfOk result (λ reply. reply ≡ registers_reply place.now core total) }
 {
-    let words = register_words(alloc, place.core(core), image, total)?;
+    let words = register_words(alloc, &place.core(core), image, total)?;
     Ok(Reply::Bytes(spelled(alloc, words.as_slice())?))
 }
 
@@ -83,7 +83,7 @@ pub(crate) fn register_reply(
     requires core { core < place.now.recording.params.cores }
     ensures { IfOk result (λ reply. reply ≡ register_reply place.now core total number) }
 {
-    let words = register_words(alloc, place.core(core), image, total)?;
+    let words = register_words(alloc, &place.core(core), image, total)?;
     word_reply(alloc, words.as_slice(), number)
 }
 

@@ -2,6 +2,7 @@
 ghost use Rattle.std.specs.Prelude.{◌≡◌, ◌<◌, ◌++◌, IfOk, OnOk, codes, string_bytes};
 ghost use Rattle.std.specs.List.{flat_map};
 ghost use Rattle.gdb_monitor.specs.Moves.{IsOf};
+ghost use Rattle.replay_core.specs.Orders.{counts_in};
 ghost use Rattle.gdb_session.specs.Seats.{Sees};
 ghost use Rattle.gdb_session.specs.Threads.{end_text, head_text, id_text, names_text, row_text, rows_text};
 ghost use Rattle.gdb_session.specs.Threads.{thread_text, threads_text, wait_text, waits_of, waits_text};
@@ -32,7 +33,7 @@ pub(crate) fn thread_text(
     requires core { core < place.now.recording.params.cores }
     ensures { IfOk result (λ text. string_bytes text ≡ thread_text place.now core) }
 {
-    let count = place.core(core).count();
+    let count = count_of(place, core);
     let total = audited.recording().totals.as_slice()[core as usize];
     let mut text = String::new(alloc);
     write!(text, "retired {count} of {total}")?;
@@ -46,6 +47,14 @@ pub(crate) fn thread_text(
         put_end(&mut text, end_of(audited.outcome(), image, core))?;
     }
     Ok(text)
+}
+
+/// How many instructions a core has retired at the place.
+fn count_of(place: &Place, core: u8) -> u32
+    requires { core < place.now.recording.params.cores }
+    ensures { result ≡ counts_in place.now.state core }
+{
+    place.core(core).count()
 }
 
 /// Puts what an instruction waits for at the place, if it does.

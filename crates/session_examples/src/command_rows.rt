@@ -13,12 +13,6 @@ macro_rules! told {
     };
 }
 
-/// What a command is told that isn't known.
-pub const USAGE: &str =
-    "rtr_gdb: monitor cut | goto N .. | goto C:N | earliest C | latest C | lead C | lead all | \
-edges C:N | writer ADDR | readers ADDR | history ADDR | conflicts C:N | order C:N C:N | decision C:N C:N | \
-decisions\n";
-
 /// Where the place is and goes, what comes before what, and what is asked on the way.
 pub static PLACES: [Told; 21] = [
     told!("cut" => "cut 32 26 32 26\n"),
@@ -54,37 +48,69 @@ pub static PLACES: [Told; 21] = [
     told!(" cut " => "cut 0 0 33 0\n"),
 ];
 
+/// What is told behind the name of a command that isn't known.
+macro_rules! unknown {
+    ($command:literal, $name:literal) => {
+        told!($command => concat!("rtr_gdb: no command '", $name,
+            "'; monitor takes cut, goto, earliest, latest, last, decision, lead, slack, why, edges, order, ",
+            "conflicts, writer, readers, history and decisions\n"))
+    };
+}
+
+/// How a command goes.
+macro_rules! goes {
+    ($command:literal => $form:literal) => {
+        told!($command => concat!("rtr_gdb: the command is monitor ", $form, "\n"))
+    };
+}
+
+/// That an instruction isn't there.
+macro_rules! lacks {
+    ($command:literal => $instr:literal) => {
+        told!($command => concat!("rtr_gdb: no instruction ", $instr, "\n"))
+    };
+}
+
 /// Commands that aren't known, or that name what isn't there.
-pub static UNKNOWN: [&str; 25] = [
-    "",
-    "nonsense",
-    "cut 1",
-    "goto",
-    "goto 1 2 3",
-    "goto 1 1 200 1",
-    "goto 4:1",
-    "goto 0:0",
-    "goto 0:243",
-    "goto 00:1",
-    "earliest 4",
-    "latest -1",
-    "latest 256",
-    "order 0:1",
-    "order 0:1 4:1",
-    "decision 0:1",
-    "decision 0:0 1:1",
-    "decision 0:242 2:195",
-    "decision 0:242 4:1",
-    "decisions 0",
-    "edges 0:0",
-    "conflicts 2:195",
-    "writer 0X10f8",
-    "readers 4294967296",
-    "history",
+pub static REFUSED: [Told; 34] = [
+    unknown!("", ""),
+    unknown!("nonsense 1", "nonsense"),
+    goes!("cut 1" => "cut"),
+    told!("goto" => "rtr_gdb: no such counts: goto takes one for each core, at most its total\n"),
+    told!("goto 1 2 3" => "rtr_gdb: no such counts: goto takes one for each core, at most its total\n"),
+    told!("goto 1 1 200 1" => "rtr_gdb: no such counts: goto takes one for each core, at most its total\n"),
+    goes!("goto 00:1" => "goto C:N or goto N N .."),
+    lacks!("goto 4:1" => "4:1"),
+    lacks!("goto 0:0" => "0:0"),
+    lacks!("goto 0:243" => "0:243"),
+    told!("earliest 4" => "rtr_gdb: no core 4\n"),
+    goes!("latest -1" => "latest C"),
+    goes!("latest 256" => "latest C"),
+    told!("lead 4" => "rtr_gdb: no core 4\n"),
+    goes!("lead" => "lead C or lead all"),
+    told!("slack 4" => "rtr_gdb: no core 4\n"),
+    goes!("slack" => "slack C"),
+    goes!("order 0:1" => "order C:N C:N"),
+    lacks!("order 0:1 4:1" => "4:1"),
+    goes!("decision 0:1" => "decision C:N C:N"),
+    lacks!("decision 0:0 1:1" => "0:0"),
+    lacks!("decision 0:242 2:195" => "2:195"),
+    lacks!("decision 0:242 4:1" => "4:1"),
+    goes!("decisions 0" => "decisions"),
+    lacks!("edges 0:0" => "0:0"),
+    goes!("edges" => "edges C:N"),
+    lacks!("conflicts 2:195" => "2:195"),
+    goes!("conflicts 1" => "conflicts C:N"),
+    lacks!("why 0:243" => "0:243"),
+    goes!("why 1" => "why C:N"),
+    goes!("writer 0X10f8" => "writer ADDR"),
+    goes!("readers 4294967296" => "readers ADDR"),
+    goes!("history" => "history ADDR"),
+    goes!("last x" => "last ADDR"),
 ];
 
 /// What is asked where core 0 has stored to word 16 and core 1 has loaded it: on the recording of two cores.
-pub static RUN: [Told; 15] = [
+pub static RUN: [Told; 24] = [
     told!("history 64" =>
         "+ 0:3 pc 00000008 store 00000040 00000000 -> 00000007\n\
         + 1:2 pc 00000014 load 00000040 00000007\n\
@@ -123,4 +149,16 @@ pub static RUN: [Told; 15] = [
         1 this way, 0 the other: 1:3 pc 00000018 store 00000040 00000007 -> 00000001 \
         before 0:4 pc 0000000c load 00000040 00000001\n"),
     told!("cut" => "cut 3 2\n"),
+    told!("why 0:5" =>
+        "0:5 pc 00000010\n  \
+        0:4 pc 0000000c load 00000040 00000001 after 1:3 pc 00000018 store 00000040 00000007 -> 00000001\n  \
+        1:2 pc 00000014 load 00000040 00000007 after 0:3 pc 00000008 store 00000040 00000000 -> 00000007\n"),
+    told!("why 0:3" => "0:3 pc 00000008 store 00000040 00000000 -> 00000007\n"),
+    told!("slack 0" => "core 0: 3 to 3, at 3\ncore 1: 0 to 4, at 2\n"),
+    told!("slack 1" => "core 0: 3 to 3, at 3\ncore 1: 2 to 2, at 2\n"),
+    told!("goto 5 4" => "cut 5 4\n"),
+    told!("last 0x40" => "cut 3 2\n"),
+    told!("last 0x40" => "cut 2 1\n"),
+    told!("last 0x40" => "no write: the opening value\n"),
+    told!("slack 0" => "core 0: 2 to 2, at 2\ncore 1: 0 to 1, at 1\n"),
 ];

@@ -1,5 +1,5 @@
 //! Commands of a debugger's user.
-use crate::command_rows::{PLACES, RUN, Told, UNKNOWN, USAGE};
+use crate::command_rows::{PLACES, REFUSED, RUN, Told};
 use crate::handed_over::{handed_over, many_loads};
 use crate::lock::lock;
 use crate::rows::plays;
@@ -90,10 +90,7 @@ fn other_commands_are_refused(rt: HostRuntime) -> Result<(), Fail> {
     let audited = lock(rt.alloc())?;
     let mut session = Session::begin(rt.alloc(), &audited)?;
     assert!(rt; goes_on(rt.alloc(), &mut session)?);
-    for command in &UNKNOWN {
-        let right = tells(rt.alloc(), &mut session, command, USAGE)?;
-        assert!(rt; right, "{command}");
-    }
+    assert_eq!(rt; first_wrong(rt.alloc(), &mut session, &REFUSED)?, "none");
     assert!(rt; tells(rt.alloc(), &mut session, "cut", "cut 32 26 32 26\n")?);
     Ok(())
 }
