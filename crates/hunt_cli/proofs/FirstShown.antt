@@ -1,5 +1,5 @@
 -- What is shown of the first run that breaks the demand is what is found of the range.
-use Rattle.std.proofs.Common.{◌≡◌, inl, inr, sym, subst, ℕ, ◌+◌, List, [], ◌++◌, Bool, true, false, Some, None}
+use Rattle.std.proofs.Common.{◌≡◌, inl, inr, sym, subst, ℕ, ◌+◌, List, [], ◌++◌, Bool, false, Some, None}
 use Rattle.state_text.specs.declared.exit.Exit.TheVariants.{Done}
 use Rattle.turn_lists.specs.declared.actor.Turn.{Turn}
 use Rattle.turn_lists.specs.Turns.{IsLeastInSteps}
@@ -13,19 +13,21 @@ use Rattle.hunt_cli.specs.declared.exits.HuntExit.{HuntExit}
 use Rattle.hunt_cli.specs.declared.exits.HuntExit.TheVariants.{As, Breaks}
 use Rattle.hunt_cli.specs.Finds.{FindsFirst, IsFoundAs, IsPut, IsShown, choices_at, firsts, number_breaks, turns_break}
 use Rattle.hunt_cli.specs.Kinds.{Setting, turns_choices}
+use Rattle.hunt_cli.specs.OwnTurns.{turns_numbered}
+use Rattle.turn_policies.specs.Named.{numbered_by}
 
 module _ (setup : Setup) (s : Setting) (runs : Runs) (demand : Demand) where
   module _ (number : ℕ) where
-    -- a run that is shown as it is
-    as-plain : (plain : Bool) (out : List ℕ) → IsShown setup s demand None (choices_at s runs.by number) out
-        → IsFoundAs plain setup s runs demand number out
-    as-plain true out h = h
-    as-plain false out h = inr h
-
-    pub put-plain : (plain : Bool) (old new : List ℕ)
+    -- a run whose own turns don't break the demand
+    pub put-whole : (plain : Bool) (first old new : List ℕ) → plain ≡ false → first ≡ firsts s runs demand
+        → turns_break s demand first (turns_numbered s (numbered_by runs.by number)) ≡ false
         → IsPut old new (IsShown setup s demand None (choices_at s runs.by number))
         → IsPut old new (IsFoundAs plain setup s runs demand number)
-    put-plain plain old new h = (h.0, as-plain plain h.0 h.1, h.2)
+    put-whole plain first old new small same whole h =
+        let Whole : List ℕ → Type 0 =
+        λ values. turns_break s demand values (turns_numbered s (numbered_by runs.by number)) ≡ false in
+        let As : Bool → Type 0 = λ b. IsFoundAs b setup s runs demand number h.0 in
+        (h.0, subst As (sym small) (inr (subst Whole same whole, h.1)), h.2)
 
     -- turns that break the demand and are least in steps
     pub put-small : (plain : Bool) (turns : List Turn) (first old new : List ℕ) → plain ≡ false

@@ -1,9 +1,11 @@
 -- How a hunt ends that found something, or was refused.
-use Rattle.std.proofs.Common.{◌≡◌, refl, sym, subst, ℕ, ◌==◌, Bool, true, false, cond, List, Option, Some, None}
+use Rattle.std.proofs.Common.{◌≡◌, ◌∙◌, refl, sym, subst, ap, ℕ, ◌==◌, Bool, true, false, cond, List, Option, Some, None}
 use Rattle.std.proofs.Common.{inl, inr}
 use Rattle.std.specs.Io.KnownBytes.{Appends, Keeps}
 use Rattle.state_text.specs.declared.exit.Exit.{Exit}
 use Rattle.state_text.specs.declared.exit.Exit.TheVariants as exits
+use Rattle.std.specs.Prelude.{◌⊎◌}
+use Rattle.rtr_io.specs.Faults.{HasRisen}
 use Rattle.rtr_cli.specs.Answers.{Tells}
 use Rattle.end_claims.specs.declared.claim.Demand.{Demand}
 use Rattle.hunt_words.specs.declared.hunt.Hunt.{Hunt}
@@ -13,7 +15,8 @@ use Rattle.hunt_words.specs.declared.hunt.Runs.{Runs}
 use Rattle.hunt_words.specs.declared.hunt.Setup.{Setup}
 use Rattle.hunt_cli.specs.declared.exits.HuntExit.{HuntExit}
 use Rattle.hunt_cli.specs.declared.exits.HuntExit.TheVariants.{As, Breaks, Whole}
-use Rattle.hunt_cli.specs.Answers.{GivesNothing, HuntAnswers, IsFound, IsGiven, IsRefused, Moved}
+use Rattle.hunt_cli.specs.Answers.{AnswersAsked, GivesNothing, HuntAnswers, IsFound, IsGiven, IsIdle, IsRefused}
+use Rattle.hunt_cli.specs.Answers.{Moved, TellsFaults}
 use Rattle.hunt_cli.specs.Finds.{FindsFirst, FindsOn, FindsSmall, broken_in, table_exit}
 use Rattle.hunt_cli.specs.Inputs.{setup_in}
 use Rattle.hunt_cli.specs.Kinds.{Setting, setting_of}
@@ -131,3 +134,68 @@ refused-answers hunt (exits.Elf fault) m h none = (h, none)
 refused-answers hunt (exits.NoInstr at) m h none = (h, none)
 refused-answers hunt (exits.TooMany vectors edges) m h none = (h, none)
 refused-answers hunt (exits.NotShown vector) m h none = (h, none)
+
+-- the exit of a hunt that ends as a command does
+abbrev as-exit : HuntExit → Exit
+as-exit (As exit) = exit
+as-exit Breaks = exits.Done
+as-exit Whole = exits.Done
+
+abbrev IsDone : Exit → Type 0
+IsDone exits.Done = Unit {0}
+IsDone exit = ⊥
+
+abbrev IsWritten : Exit → Type 0
+IsWritten exits.WriteFault = Unit {0}
+IsWritten exit = ⊥
+
+-- a hunt that was refused tells of faults as its exit does
+pub refused-faults : (setup : Setup) (exit : Exit) (left left' : Option (List ℕ)) (read read' written : ℕ)
+    → IsRefused setup exit left left' → (exit ≡ exits.ReadFault → HasRisen read read')
+    → (exit ≡ exits.ReadFault) ⊎ (read' ≡ read) → TellsFaults (As exit) read read' written written
+refused-faults setup exit left left' read read' written refused risen other = record {
+  read_fault = λ h. risen (ap as-exit h);
+  no_read_fault = by other;
+  write_fault = λ h. absurd (subst (λ (e : Exit). IsRefused setup e left left') (ap as-exit h) refused);
+  no_write_fault = inr refl;
+}
+  where
+    by : (exit ≡ exits.ReadFault) ⊎ (read' ≡ read) → (As exit ≡ As exits.ReadFault) ⊎ (read' ≡ read)
+    by (inl h) = inl (ap As h)
+    by (inr h) = inr h
+
+-- what was found ends as no fault does
+not-read : (found : HuntExit) → Finishes found → found ≡ As exits.ReadFault → ⊥
+not-read found good h = subst IsDone (sym (subst Finishes h good)) tt
+
+not-written : (found : HuntExit) → Finishes found → found ≡ As exits.WriteFault → ⊥
+not-written found good h = subst IsDone (sym (subst Finishes h good)) tt
+
+-- and so a hunt that found something tells of the output's fault alone
+pub given-faults : (s : Setting) (hunt : Hunt) (bytes out report : List ℕ) (found ends : HuntExit)
+    (read read' written written' : ℕ) → FindsOn s hunt bytes out report found → read' ≡ read
+    → ((ends ≡ found) × (written' ≡ written)) ⊎ ((ends ≡ As exits.WriteFault) × HasRisen written written')
+    → TellsFaults ends read read' written written'
+given-faults s hunt bytes out report found ends read read' written written' finds same (inl all) =
+    let good : Finishes found = finishes s hunt bytes out report found finds in
+    record {
+      read_fault = λ h. absurd (not-read found good (sym all.0 ∙ h));
+      no_read_fault = inr same;
+      write_fault = λ h. absurd (not-written found good (sym all.0 ∙ h));
+      no_write_fault = inr all.1;
+    }
+given-faults s hunt bytes out report found ends read read' written written' finds same (inr part) = record {
+  read_fault = λ h. absurd (not-both (sym part.0 ∙ h));
+  no_read_fault = inr same;
+  write_fault = λ _. part.1;
+  no_write_fault = inl part.0;
+}
+  where
+    not-both : As exits.WriteFault ≡ As exits.ReadFault → ⊥
+    not-both h = subst IsWritten (ap as-exit h) tt
+
+-- what is said of each hunt, and of none, is said of what words ask for
+pub asked-answers : (asked : Option Hunt) (exit : HuntExit) (m : Moved) → (asked ≡ None → IsIdle exit m)
+    → ((hunt : Hunt) → asked ≡ Some hunt → HuntAnswers hunt exit m) → AnswersAsked asked exit m
+asked-answers None exit m idle answered = idle refl
+asked-answers (Some hunt) exit m idle answered = answered hunt refl

@@ -1,4 +1,3 @@
-pub mod PlacesWithin
 pub mod RunsSame
 pub mod ShownRuns
 pub mod FirstShown

@@ -1,7 +1,6 @@
 -- A run that is shown is the run under its choices, and what is found of a run made small.
 use Rattle.std.proofs.Common.{◌≡◌, ◌∙◌, refl, sym, ap, subst, ℕ, List, [], ◌++◌, true, Option, Some, None, Result}
-use Rattle.std.proofs.Common.{Ok, Err, IfOk, inl, string_bytes}
-use Rattle.std.specs.Prelude.{◌⊎◌}
+use Rattle.std.proofs.Common.{Ok, Err, IfOk, false, inl, inr, string_bytes}
 use Rattle.schedule_pick.specs.Choices.{Choices}
 use Rattle.state_text.specs.declared.exit.Exit.TheVariants.{Done}
 use Rattle.turn_lists.specs.Turns.{IsLeastInSteps}
@@ -14,10 +13,11 @@ use Rattle.hunt_words.specs.declared.hunt.Setup.{Setup}
 use Rattle.hunt_cli.specs.declared.exits.Answer.{Answer}
 use Rattle.hunt_cli.specs.declared.exits.HuntExit.{HuntExit}
 use Rattle.hunt_cli.specs.declared.exits.HuntExit.TheVariants.{As}
-use Rattle.hunt_cli.specs.Finds.{FindsSmall, IsPut, IsRunOf, IsShown, IsShownSmall, breaks_under}
+use Rattle.hunt_cli.specs.Finds.{FindsSmall, IsPut, IsRunOf, IsShown, IsShownByTurns, breaks_under}
 use Rattle.hunt_cli.specs.Finds.{shown_of, turns_break}
 use Rattle.hunt_cli.specs.Inputs.{words_of}
 use Rattle.hunt_cli.specs.Kinds.{Setting, named_choices, turns_choices}
+use Rattle.hunt_cli.specs.OwnTurns.{turns_named}
 use Rattle.hunt_cli.specs.RunEnds.{IsRunUnder, RunEnd, end_in}
 
 module _ (setup : Setup) (s : Setting) (demand : Demand) (turns : Option (List Turn)) (choices : Choices) (r : RunEnd)
@@ -42,7 +42,7 @@ module _ (setup : Setup) (s : Setting) (demand : Demand) (turns : Option (List T
 -- what is shown of a run that breaks the demand is what is found
 pub small-found : (setup : Setup) (s : Setting) (name : RunName) (demand : Demand) (out report : List ℕ)
     (exit : HuntExit) → breaks_under s demand [] (named_choices s name) ≡ true
-    → IsShownSmall setup s demand [] out ⊎ IsShown setup s demand None (named_choices s name) out
+    → IsShownByTurns setup s name demand [] out
     → report ≡ [] → exit ≡ As Done → FindsSmall setup s name demand out report exit
 small-found setup s name demand out report exit breaks shown told done =
     subst (λ (e : HuntExit). FindsSmall setup s name demand out report e) (sym done) (breaks, shown, told)
@@ -58,3 +58,14 @@ small-answer setup s name demand turns breaks least (Ok a) shown told done =
     small-found setup s name demand a.out.items (string_bytes a.report) a.exit breaks (inl (turns, least, shown)) told
     done
 small-answer setup s name demand turns breaks least (Err e) shown told done = tt
+
+-- or of one that shows the run as it is
+pub plain-found : {E : Type 0} (setup : Setup) (s : Setting) (name : RunName) (demand : Demand)
+    → breaks_under s demand [] (named_choices s name) ≡ true → turns_break s demand [] (turns_named s name) ≡ false
+    → (result : Result Answer E)
+    → IfOk result (λ a. IsShown setup s demand None (named_choices s name) a.out.items)
+    → IfOk result (λ a. string_bytes a.report ≡ []) → IfOk result (λ a. a.exit ≡ As Done)
+    → IfOk result (λ a. FindsSmall setup s name demand a.out.items (string_bytes a.report) a.exit)
+plain-found setup s name demand breaks whole (Ok a) shown told done =
+    small-found setup s name demand a.out.items (string_bytes a.report) a.exit breaks (inr (whole, shown)) told done
+plain-found setup s name demand breaks whole (Err e) shown told done = tt

@@ -1,7 +1,8 @@
 -- Rule: what a hunt answers: HuntAnswers
 -- What each way to end says of the input, the output and the report.
-use Rattle.std.specs.Prelude.{◌≡◌, ℕ, ◌+◌, ◌⊎◌, List, Option, Ok, Err}
+use Rattle.std.specs.Prelude.{◌≡◌, ℕ, ◌+◌, ◌⊎◌, List, Option, None, Some, Ok, Err}
 use Rattle.std.specs.Io.KnownBytes.{Appends, Keeps}
+use Rattle.rtr_io.specs.Faults.{HasRisen}
 use Rattle.rtr_io.specs.Moved.{GivesPart, TakesAtMost, TakesJust}
 use Rattle.state_text.specs.Exits.{fault_line}
 use Rattle.state_text.specs.declared.exit.Exit.{Exit}
@@ -74,3 +75,23 @@ HuntAnswers hunt (As exits.WriteFault) m =
     (exit : HuntExit) × (out : List ℕ) × (report : List ℕ) × IsFound hunt exit out report m
     × GivesPart out m.got m.got' × IsTold (fault_line exits.WriteFault) m
 HuntAnswers hunt (As exit) m = IsRefused (setup_in hunt) exit m.left m.left' × GivesNothing exit m
+
+-- A fault of the input or the output is told only where the count of its stream rose, and every other exit leaves that
+-- count as it was.
+pub record TellsFaults (exit : HuntExit) (read read' written written' : ℕ) : Type 0 where
+  pub read_fault : exit ≡ As exits.ReadFault → HasRisen read read'
+  pub no_read_fault : (exit ≡ As exits.ReadFault) ⊎ (read' ≡ read)
+  pub write_fault : exit ≡ As exits.WriteFault → HasRisen written written'
+  pub no_write_fault : (exit ≡ As exits.WriteFault) ⊎ (written' ≡ written)
+
+-- Words that ask for nothing end at Usage, unless memory runs out, and are told so; neither input nor output is touched.
+abbrev pub IsIdle : HuntExit → Moved → Type 0
+IsIdle exit m =
+    (((exit ≡ As exits.Usage) × IsTold (fault_line exits.Usage) m)
+    ⊎ ((exit ≡ As exits.OutOfMemory) × IsTold (fault_line exits.OutOfMemory) m))
+    × Keeps m.left m.left' × Keeps m.got m.got'
+
+-- what the exit says of words that ask for this hunt, or for nothing
+abbrev pub AnswersAsked : Option Hunt → HuntExit → Moved → Type 0
+AnswersAsked None exit m = IsIdle exit m
+AnswersAsked (Some hunt) exit m = HuntAnswers hunt exit m

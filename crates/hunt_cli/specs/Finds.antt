@@ -22,6 +22,7 @@ use Rattle.rtr_cli.specs.Buffers.{tso_recorded_bytes}
 use Rattle.hunt_words.specs.declared.hunt.Hunt.{Hunt}
 use Rattle.hunt_words.specs.declared.hunt.Hunt.TheVariants.{First, Table, Small, Words, Record}
 use Rattle.hunt_words.specs.declared.hunt.RunName.{RunName}
+use Rattle.hunt_words.specs.declared.hunt.RunName.TheVariants as names
 use Rattle.hunt_words.specs.declared.hunt.Runs.{Runs}
 use Rattle.hunt_words.specs.declared.hunt.Setup.{Setup}
 use Rattle.hunt_texts.specs.Shown.{Shown, none_text, run_line, shown_text, words_line}
@@ -31,6 +32,7 @@ use Rattle.hunt_cli.specs.declared.exits.HuntExit.{HuntExit}
 use Rattle.hunt_cli.specs.declared.exits.HuntExit.TheVariants.{As, Breaks, Whole}
 use Rattle.hunt_cli.specs.Inputs.{setup_in, words_of}
 use Rattle.hunt_cli.specs.Kinds.{Setting, end_under, named_choices, numbered_choices, setting_of, turns_choices}
+use Rattle.hunt_cli.specs.OwnTurns.{turns_named}
 
 -- ---- which runs break a demand
 
@@ -109,14 +111,25 @@ IsShownSmall setup s demand first out =
     (turns : List Turn) × IsLeastInSteps (turns_break s demand first) turns
     × IsShown setup s demand (Some turns) (turns_choices s turns) out
 
+-- turns are least in steps and break the demand, or there are none, since the given ones don't break it
+abbrev pub IsMadeSmall : (breaks : List Turn → Bool) → List Turn → Option (List Turn) → Type 0
+IsMadeSmall breaks turns None = breaks turns ≡ false
+IsMadeSmall breaks turns (Some least) = IsLeastInSteps breaks least
+
+-- the run of this name is shown made small, or as it is, where its own turns don't break the demand
+abbrev pub IsShownByTurns : Setup → Setting → RunName → Demand → (first : List ℕ) → (out : List ℕ) → Type 0
+IsShownByTurns setup s run demand first out =
+    IsShownSmall setup s demand first out
+    ⊎ ((turns_break s demand first (turns_named s run) ≡ false)
+    × IsShown setup s demand None (named_choices s run) out)
+
 -- ---- by the verbs
 
--- the run of this number is shown, made small or as it is
+-- the run of this number is shown: as it is, where that is asked for, else by turns
 abbrev pub IsFoundAs : (plain : Bool) → Setup → Setting → Runs → Demand → (number : ℕ) → (out : List ℕ) → Type 0
 IsFoundAs true setup s runs demand number out = IsShown setup s demand None (choices_at s runs.by number) out
 IsFoundAs false setup s runs demand number out =
-    IsShownSmall setup s demand (firsts s runs demand) out
-    ⊎ IsShown setup s demand None (choices_at s runs.by number) out
+    IsShownByTurns setup s (names.Numbered runs.by number) demand (firsts s runs demand) out
 
 abbrev pub FindsFirst : Setup → Setting → Runs → Demand → (plain : Bool) → (out report : List ℕ) → HuntExit → Type 0
 FindsFirst setup s runs demand plain out report (As exits.Done) =
@@ -156,12 +169,11 @@ FindsTable s runs places demand out report exit =
     × (out ≡ table_text runs.first runs.last places rows (told_broken demand rows))
     × (report ≡ table_report runs (broken_in rows)) × (exit ≡ table_exit (broken_in rows))
 
--- what was given doesn't break the demand, or it does, and is shown made small; a run by number as it is, where its
--- turns break nothing
+-- what was given doesn't break the demand, or it does, and is shown by turns
 abbrev pub FindsSmall : Setup → Setting → RunName → Demand → (out report : List ℕ) → HuntExit → Type 0
 FindsSmall setup s run demand out report (As exits.Done) =
     (breaks_under s demand [] (named_choices s run) ≡ true)
-    × (IsShownSmall setup s demand [] out ⊎ IsShown setup s demand None (named_choices s run) out) × (report ≡ [])
+    × IsShownByTurns setup s run demand [] out × (report ≡ [])
 FindsSmall setup s run demand out report Whole =
     (breaks_under s demand [] (named_choices s run) ≡ false) × (out ≡ []) × (report ≡ whole_report)
 FindsSmall setup s run demand out report exit = ⊥

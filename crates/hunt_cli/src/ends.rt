@@ -13,7 +13,6 @@ use end_claims::{Demand, Place, breaks, values_at};
 use hunt_runs::{AtEnd, Ended, HuntedMachine};
 use hunt_words::Setup;
 use rtr_types::Items;
-use rv_core::Program;
 use std::alloc::{AllocError, Global};
 use std::marker::Model;
 use tool_words::RunWords;
@@ -117,19 +116,14 @@ impl<M: HuntedMachine> RunEnd<M> {
         }
     }
 
-    /// The program that was run.
-    pub(crate) fn into_program(self) -> Program
-        ensures { result ≡ self.image }
+    /// The machine that made it, for the next run.
+    pub(crate) fn into_machine(self) -> M
+        ensures { M.image result ≡ self.image }
     {
         let RunEnd {
             ended,
             cores: _cores,
         } = self;
-        let Ended {
-            choices: _choices,
-            seed: _seed,
-            machine,
-        } = ended;
-        machine.into_program()
+        ended.into_machine()
     }
 }

@@ -1,8 +1,7 @@
 //! The first run of a range that breaks a demand.
-ghost use Rattle.std.specs.Prelude.{◌≡◌, ◌+◌, ◌*◌, ◌<◌, ◌≤◌, ◌++◌, ℕ, List, IfOk, IfSome, None, OnOk, Some, false};
+ghost use Rattle.std.specs.Prelude.{◌≡◌, ◌+◌, ◌*◌, ◌<◌, ◌≤◌, ◌++◌, ℕ, List, IfOk, None, OnOk, Some};
 ghost use Rattle.std.specs.Prelude.{length, string_bytes, true};
 ghost use Rattle.rtr_types.specs.Parameters.{Fits};
-ghost use Rattle.turn_lists.specs.Turns.{IsLeastInSteps};
 ghost use Rattle.end_claims.specs.Demands.{is_demanded_within};
 ghost use Rattle.end_claims.specs.Ends.{values_at};
 ghost use Rattle.end_claims.specs.Named.{are_within};
@@ -11,7 +10,6 @@ ghost use Rattle.hunt_words.specs.Fitting.{IsRange};
 ghost use Rattle.hunt_texts.specs.Reports.{found_report};
 ghost use Rattle.hunt_texts.specs.Shown.{run_line};
 ghost use Rattle.hunt_cli.specs.Finds.{FindsFirst, IsFoundAs, IsPut, IsShown, choices_at, firsts, number_breaks};
-ghost use Rattle.hunt_cli.specs.Finds.{turns_break};
 ghost use Rattle.hunt_cli.specs.Kinds.{end_under, kind_with, picks, setting_on};
 ghost use Rattle.hunt_cli.specs.RunEnds.{IsRunUnder};
 ghost use Rattle.hunt_cli.specs.declared.exits.HuntExit.TheVariants.{Breaks};
@@ -31,7 +29,6 @@ use run_ranges::first_of_range;
 use std::alloc::{AllocError, Global};
 use std::marker::PhantomData;
 use std::thread::Threads;
-use turn_lists::Turn;
 
 /// What is asked of the first run of a range that breaks a demand.
 #[derive(Clone, Copy)]
@@ -239,34 +236,12 @@ fn put_found<M: HuntedMachine>(
         demand: asked.demand,
         first,
     };
-    match least_turns::<M>(alloc, asked, small, counted, number)? {
+    if asked.plain {
+        return asked.put_plain::<M>(alloc, text, counted, number);
+    }
+    let run = asked.run::<M>(alloc, counted, number)?;
+    match small.from_number(alloc, counted, asked.runs.by.numbered(number), run)? {
         Some(least) => small.put_turns::<M>(alloc, text, least.as_slice()),
         None => asked.put_plain::<M>(alloc, text, counted, number),
     }
-}
-
-/// Turns that break the demand and are least in steps, made of those of the run of this number; `None` where the run is
-/// to be shown as it is, and where its turns break nothing.
-fn least_turns<M: HuntedMachine>(
-    alloc: Global,
-    asked: FirstOf<'_>,
-    small: SmallOf<'_>,
-    counted: &Counted,
-    number: u64,
-) -> Result<Option<Items<Turn>>, AllocError>
-    requires counts { counted.now ≡ picks (setting_on (kind_with M.seen_at M.changes_at M.outcome M.most_steps
-        M.buffers)
-        asked.setup.params asked.bytes.now) }
-    requires bytes { small.bytes.now ≡ asked.bytes.now }
-    requires setup { small.setup ≡ asked.setup }
-    ensures plain { IfOk result (λ found. IfSome found (λ _. asked.entry.plain ≡ false)) }
-    ensures least { IfOk result (λ found. IfSome found (λ least. IsLeastInSteps (turns_break (setting_on (kind_with
-        M.seen_at M.changes_at M.outcome M.most_steps M.buffers) small.entry.setup.params small.entry.bytes.now)
-        small.entry.demand.now small.entry.first.now) least)) }
-{
-    if asked.plain {
-        return Ok(None);
-    }
-    let run = asked.run::<M>(alloc, counted, number)?;
-    small.from_number(alloc, counted, asked.runs.by.numbered(number), run)
 }

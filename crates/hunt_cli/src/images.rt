@@ -4,10 +4,13 @@ ghost use Rattle.rtr_types.specs.Parameters.{Fits};
 ghost use Rattle.rtr_cli.specs.Inputs.{loaded};
 ghost use Rattle.rtr_cli.specs.Runs.{LoadEnds};
 ghost use Rattle.hunt_cli.specs.Inputs.{as_run, bytes_max};
+ghost use Rattle.hunt_cli.specs.Kinds.{image_in};
 
+use hunt_runs::HuntedMachine;
 use hunt_words::Setup;
 use image_elf::{ElfFault, flatten};
 use image_mem::Image;
+use rtr_types::Params;
 use rv_core::Program;
 use state_text::Exit;
 use std::alloc::{AllocError, Global};
@@ -55,10 +58,17 @@ pub(crate) fn image(bytes: Vec<u8>, words: u32) -> Image
     }
 }
 
-/// The program of an image of these bytes. The only refusal is want of memory.
-pub(crate) fn program(alloc: Global, bytes: &[u8], words: u32) -> Result<Program, AllocError>
-    requires { length bytes.now ≤ 4 * words }
-    ensures { IfOk result (λ program. program ≡ record { bytes = bytes.now; words = words }) }
+/// A machine for runs of an image of these bytes. The only refusal is want of memory.
+pub(crate) fn machine<M: HuntedMachine>(
+    alloc: Global,
+    bytes: &[u8],
+    params: Params,
+) -> Result<M, AllocError>
+    requires fits { Fits params }
+    requires room { length bytes.now ≤ 4 * params.words }
+    ensures { IfOk result (λ machine. M.image machine ≡ image_in params bytes.now) }
 {
-    Program::new(alloc, image(bytes.to_vec(alloc)?, words))
+    let image = image(bytes.to_vec(alloc)?, params.words);
+    let program = Program::new(alloc, image)?;
+    M::start(alloc, program, params)
 }

@@ -1,7 +1,19 @@
 //! From the words of a command line and three streams to an exit status.
+ghost use Rattle.std.specs.Prelude.{◌≡◌, IfErr, IfOk, map, string_bytes};
+ghost use Rattle.std.specs.Io.KnownBytes.{Keeps};
+ghost use Rattle.std.specs.Process.{exit_status};
+ghost use Rattle.state_text.specs.Exits.{fault_line};
+ghost use Rattle.rtr_cli.specs.Answers.{Tells};
+ghost use Rattle.hunt_words.specs.Meaning.{meaning};
+ghost use Rattle.hunt_cli.specs.Answers.{AnswersAsked, TellsFaults};
+ghost use Rattle.hunt_cli.specs.Statuses.{status_of};
+ghost use Rattle.hunt_cli.specs.declared.exits.HuntExit.{HuntExit};
+ghost use Rattle.hunt_cli.specs.declared.exits.HuntExit.TheVariants.{As};
+
 use crate::exits::HuntExit;
 use crate::tool::run_hunt;
 use command_line::{Question, asked};
+use hunt_uses::{table, usage_told};
 use rtr_cli::{arguments, tell};
 use rtr_io::{Sink, Source, StdSink, StdSource, WriteFault, write_all};
 use state_text::Exit;
@@ -11,33 +23,21 @@ use std::process::ExitCode;
 use std::rt::Env;
 use std::thread::Threads;
 
-/// How the program is used.
-const USES: &str =
-    "rtr_hunt first [--runs A..B] [--by P] [--threads N] [--plain] --expect C|--never C|--same PLACES <IMAGE
-rtr_hunt table [--runs A..B] [--by P] [--threads N] [--see PLACES] [--expect C|--never C] <IMAGE
-rtr_hunt small --run N [--by P]|--turns T --expect C|--never C <IMAGE
-rtr_hunt words --run N [--by P]|--turns T <IMAGE
-rtr_hunt record --run N [--by P]|--turns T <IMAGE >RECORDING
-rtr_hunt --help
-rtr_hunt --version
-Each takes [--cores N] [--limit N] [--words N] [--elf|--tso] too. The manual is docs/FORMATS.md.
-";
-
 /// Which program it is.
 const VERSION: &str = "rtr_hunt, for recordings in versions 1 and 2\n";
 
 /// The text that is asked for.
 fn text_of(asked: Question) -> &'static str {
     match asked {
-        Question::Help => USES,
+        Question::Help => table(),
         Question::Version => VERSION,
     }
 }
 
 /// Runs the program on the standard streams and the words of the command line, and answers the status that the process
 /// ends with. The three streams have types of their own, so that none can stand for another. `--help` and `--version`
-/// are answered on the output; and of words that ask for nothing the report tells, behind its line, how the program is
-/// used.
+/// are answered on the output; and of words that ask for nothing the report tells, behind its line, which of them is at
+/// fault and how the program is used.
 pub fn run_program<R: AllocGlobal + Env + Threads + Sync>(
     rt: &R,
     input: Stdin,
@@ -52,14 +52,23 @@ pub fn run_program<R: AllocGlobal + Env + Threads + Sync>(
     if let Some(asked) = asked(list) {
         return give(text_of(asked), output, report);
     }
-    conclude(
+    let told = match &words {
+        Ok(list) => usage_told(rt.alloc(), list.as_slice()),
+        Err(_) => Ok(None),
+    };
+    let status = conclude(
         rt,
         rt.alloc(),
         words,
         &mut StdSource::new(input),
         &mut StdSink::new(output),
         &mut StdSink::new(report),
-    )
+    );
+    if let Ok(Some(text)) = told {
+        // It's a courtesy: where it can't be told, the status says enough.
+        let _ = write_all(&mut StdSink::new(report), text.as_bytes());
+    }
+    status
 }
 
 /// Gives the text to the output, and answers the status that the process ends with.
@@ -81,7 +90,27 @@ pub fn conclude<R: Threads + Sync, I: Source, O: Sink, E: Sink>(
     input: &mut I,
     output: &mut O,
     report: &mut E,
-) -> ExitCode {
+) -> ExitCode
+    ensures answered { IfOk words (λ list. (exit : HuntExit) × (exit_status result ≡ status_of exit)
+        × AnswersAsked (meaning (map string_bytes list.items)) exit (record {
+          left = I.left input.old;
+          left' = I.left input.new;
+          got = O.got output.old;
+          got' = O.got output.new;
+          told = E.got report.old;
+          told' = E.got report.new;
+          faults = E.faults report.old;
+          faults' = E.faults report.new;
+        })
+        × TellsFaults exit (I.faults input.old) (I.faults input.new) (O.faults output.old) (O.faults output.new)) }
+
+    // The words couldn't be had.
+    ensures wordless { IfErr words (λ exit. (exit_status result ≡ status_of (As exit))
+        × Tells (fault_line exit) (E.got report.old) (E.got report.new) (E.faults report.old) (E.faults report.new)) }
+    ensures untouched { IfErr words (λ _. Keeps (I.left input.old) (I.left input.new)
+        × Keeps (O.got output.old) (O.got output.new) × (I.faults input.new ≡ I.faults input.old)
+        × (O.faults output.new ≡ O.faults output.old)) }
+{
     let exit = match words {
         Ok(words) => run_hunt(rt, alloc, words.as_slice(), input, output, report),
         Err(exit) => {

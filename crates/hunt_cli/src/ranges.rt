@@ -8,13 +8,12 @@ ghost use Rattle.hunt_cli.specs.Kinds.{image_in, kind_with, picks, setting_on};
 ghost use Rattle.hunt_cli.specs.RunEnds.{IsRunUnder};
 
 use crate::ends::RunEnd;
-use crate::images::program;
+use crate::images::machine;
 use crate::runs::numbered;
 use end_claims::{Demand, Place};
 use hunt_runs::{Counted, HuntedMachine};
 use rtr_types::Params;
 use run_ranges::{Asked, Pace, Row, Runs, Seen, Trial, first_in, table_in};
-use rv_core::Program;
 use std::alloc::{AllocError, Global};
 use std::marker::PhantomData;
 use turn_policies::Named;
@@ -46,8 +45,8 @@ pub(crate) struct PolicyRuns<'a, M: HuntedMachine> {
 
 impl<M: HuntedMachine> PolicyRuns<'_, M> {
     /// The run with this number.
-    fn run(&self, bench: Program, number: u64) -> Result<RunEnd<M>, AllocError>
-        requires { bench ≡ image_in self.now.params self.now.bytes.now }
+    fn run(&self, bench: M, number: u64) -> Result<RunEnd<M>, AllocError>
+        requires { M.image bench ≡ image_in self.now.params self.now.bytes.now }
         ensures { IfOk result (λ r. let s = setting_on (kind_with M.seen_at M.changes_at M.outcome M.most_steps
             M.buffers)
             self.now.params self.now.bytes.now in IsRunUnder s (choices_at s self.now.by number) r) }
@@ -59,9 +58,9 @@ impl<M: HuntedMachine> PolicyRuns<'_, M> {
 }
 
 impl<M: HuntedMachine> Runs for PolicyRuns<'_, M> {
-    type Bench = Program;
+    type Bench = M;
 
-    ghost serves = { λ runs bench. bench ≡ image_in runs.params runs.bytes.now };
+    ghost serves = { λ runs bench. M.image bench ≡ image_in runs.params runs.bytes.now };
 
     ghost breaks = { λ runs. number_breaks (setting_on (kind_with M.seen_at M.changes_at M.outcome M.most_steps
         M.buffers)
@@ -70,27 +69,27 @@ impl<M: HuntedMachine> Runs for PolicyRuns<'_, M> {
     ghost ends = { λ runs. number_ends (setting_on (kind_with M.seen_at M.changes_at M.outcome M.most_steps M.buffers)
         runs.params runs.bytes.now) runs.by runs.places.now };
 
-    fn bench(&self) -> Result<Program, AllocError> {
-        program(self.alloc, self.bytes, self.params.words)
+    fn bench(&self) -> Result<M, AllocError> {
+        machine(self.alloc, self.bytes, self.params)
     }
 
-    fn ask(&self, bench: Program, n: u64) -> Result<Asked<Program>, AllocError> {
+    fn ask(&self, bench: M, n: u64) -> Result<Asked<M>, AllocError> {
         let run = self.run(bench, n)?;
         let breaks = run.breaks(self.demand, self.first);
         Ok(Asked {
             breaks,
-            bench: run.into_program(),
+            bench: run.into_machine(),
         })
     }
 
-    fn see(&self, bench: Program, n: u64) -> Result<Seen<Program>, AllocError> {
+    fn see(&self, bench: M, n: u64) -> Result<Seen<M>, AllocError> {
         let run = self.run(bench, n)?;
         let breaks = run.breaks(self.demand, self.first);
         let values = run.values(self.alloc, self.places)?;
         Ok(Seen {
             values,
             breaks,
-            bench: run.into_program(),
+            bench: run.into_machine(),
         })
     }
 }

@@ -8,11 +8,10 @@ ghost use Rattle.hunt_cli.specs.Kinds.{turns_choices};
 ghost use Rattle.hunt_cli.specs.RunEnds.{IsRunUnder};
 
 use crate::ends::RunEnd;
-use crate::images::program;
+use crate::images::machine;
 use hunt_runs::{Counted, Counting, HuntedMachine, run_numbered, run_of_turns, straight_counts};
 use hunt_words::RunName;
 use rtr_types::{Items, Params};
-use rv_core::Program;
 use std::alloc::{AllocError, Global};
 use turn_lists::Turn;
 use turn_policies::{Named, Numbered};
@@ -29,11 +28,11 @@ pub(crate) fn counted<M: HuntedMachine>(
         M.buffers)
         params bytes.now)) }
 {
-    let opening = program(alloc, bytes, params.words)?;
+    let opening = machine::<M>(alloc, bytes, params)?;
     let Counting {
         counted,
-        program: _program,
-    } = straight_counts::<M>(alloc, opening, params)?;
+        machine: _machine,
+    } = straight_counts(alloc, opening, params)?;
     Ok(counted)
 }
 
@@ -41,35 +40,35 @@ pub(crate) fn counted<M: HuntedMachine>(
 /// want of memory.
 pub(crate) fn numbered<M: HuntedMachine>(
     alloc: Global,
-    program: Program,
+    machine: M,
     params: Params,
     counted: &Counted,
     number: Numbered,
 ) -> Result<RunEnd<M>, AllocError>
-    requires set_up { IsSetUp program params }
+    requires set_up { IsSetUp (M.image machine) params }
     requires counts { counted.now ≡ picks (setting_in (kind_with M.seen_at M.changes_at M.outcome M.most_steps
-        M.buffers) program
-        params) }
+        M.buffers)
+        (M.image machine) params) }
     ensures { IfOk result (λ r. let s = setting_in (kind_with M.seen_at M.changes_at M.outcome M.most_steps M.buffers)
-        program params in IsRunUnder s (numbered_choices s number) r) }
+        (M.image machine) params in IsRunUnder s (numbered_choices s number) r) }
 {
-    let ended = run_numbered::<M>(alloc, program, params, counted, number)?;
+    let ended = run_numbered::<M>(alloc, machine, params, counted, number)?;
     Ok(RunEnd::of(ended, params.cores))
 }
 
 /// The run by these turns of the program of an image. The only refusal is want of memory.
 pub(crate) fn by_turns<M: HuntedMachine>(
     alloc: Global,
-    program: Program,
+    machine: M,
     params: Params,
     turns: &[Turn],
 ) -> Result<RunEnd<M>, AllocError>
-    requires { IsSetUp program params }
+    requires { IsSetUp (M.image machine) params }
     ensures { IfOk result (λ r. let s = setting_in (kind_with M.seen_at M.changes_at M.outcome M.most_steps M.buffers)
-        program params in IsRunUnder s (turns_choices s turns.now) r) }
+        (M.image machine) params in IsRunUnder s (turns_choices s turns.now) r) }
 {
     let turns = Items::from_vec(turns.to_vec(alloc)?);
-    let ended = run_of_turns::<M>(alloc, program, params, turns)?;
+    let ended = run_of_turns::<M>(alloc, machine, params, turns)?;
     Ok(RunEnd::of(ended, params.cores))
 }
 
@@ -93,7 +92,7 @@ pub(crate) fn run_at<M: HuntedMachine>(
         params bytes.now) (numbered_choices (setting_on (kind_with M.seen_at M.changes_at M.outcome M.most_steps
         M.buffers) params bytes.now) (numbered_by by number)) r) }
 {
-    let opening = program(alloc, bytes, params.words)?;
+    let opening = machine(alloc, bytes, params)?;
     numbered(alloc, opening, params, counted, by.numbered(number))
 }
 
@@ -111,7 +110,7 @@ pub(crate) fn run_by<M: HuntedMachine>(
         params bytes.now) (turns_choices (setting_on (kind_with M.seen_at M.changes_at M.outcome M.most_steps M.buffers)
         params bytes.now) turns.now) r) }
 {
-    let opening = program(alloc, bytes, params.words)?;
+    let opening = machine(alloc, bytes, params)?;
     by_turns(alloc, opening, params, turns)
 }
 

@@ -1,19 +1,22 @@
 //! Runs made small.
-ghost use Rattle.std.specs.Prelude.{◌≡◌, ◌*◌, ◌≤◌, IfOk, IfSome, OnOk, Some, None, [], length, string_bytes, true};
+ghost use Rattle.std.specs.Prelude.{◌≡◌, ◌*◌, ◌≤◌, IfOk, OnOk, Some, None, [], length, string_bytes, true};
 ghost use Rattle.rtr_types.specs.Parameters.{Fits};
-ghost use Rattle.turn_lists.specs.Turns.{IsLeastInSteps};
+ghost use Rattle.schedule_pick.specs.Choices.{choices_of};
 ghost use Rattle.end_claims.specs.Demands.{is_demanded_within};
 ghost use Rattle.small_turns.specs.Small.{IsSmall};
 ghost use Rattle.hunt_texts.specs.Reports.{whole_report};
 ghost use Rattle.state_text.specs.declared.exit.Exit.TheVariants.{Done};
-ghost use Rattle.hunt_cli.specs.Finds.{FindsSmall, IsPut, IsShown, turns_break};
-ghost use Rattle.hunt_cli.specs.Kinds.{image_in, kind_with, named_choices, setting_on, turns_choices};
+ghost use Rattle.hunt_cli.specs.Finds.{FindsSmall, IsMadeSmall, IsPut, IsShown, turns_break};
+ghost use Rattle.hunt_cli.specs.Kinds.{image_in, kind_with, named_choices, numbered_choices, picks, setting_on};
+ghost use Rattle.hunt_cli.specs.Kinds.{turns_choices};
+ghost use Rattle.hunt_cli.specs.OwnTurns.{turns_named, turns_numbered, turns_under};
+ghost use Rattle.hunt_cli.specs.RunEnds.{IsRunUnder};
 ghost use Rattle.hunt_cli.specs.declared.exits.HuntExit.TheVariants.{As, Whole};
 
 use crate::acts::acts_of;
 use crate::ends::RunEnd;
 use crate::exits::{Answer, HuntExit};
-use crate::images::program;
+use crate::images::machine;
 use crate::runs::{by_turns, counted, run_by, run_named};
 use crate::shows::put_run;
 use end_claims::Demand;
@@ -22,7 +25,6 @@ use hunt_texts::whole_report;
 use hunt_words::{RunName, Setup};
 use rtr_types::{Items, Params};
 use run_ranges::Asked;
-use rv_core::Program;
 use small_turns::{Tries, small, small_of_run};
 use std::alloc::{AllocError, Global};
 use std::marker::PhantomData;
@@ -46,19 +48,19 @@ pub(crate) struct TurnRuns<'a, M: HuntedMachine> {
 }
 
 impl<M: HuntedMachine> Tries for TurnRuns<'_, M> {
-    type Bench = Program;
+    type Bench = M;
 
-    ghost serves = { λ runs bench. bench ≡ image_in runs.params runs.bytes.now };
+    ghost serves = { λ runs bench. M.image bench ≡ image_in runs.params runs.bytes.now };
 
     ghost breaks = { λ runs. turns_break (setting_on (kind_with M.seen_at M.changes_at M.outcome M.most_steps M.buffers)
         runs.params runs.bytes.now) runs.demand.now runs.first.now };
 
-    fn ask(&self, bench: Program, turns: &[Turn]) -> Result<Asked<Program>, AllocError> {
+    fn ask(&self, bench: M, turns: &[Turn]) -> Result<Asked<M>, AllocError> {
         let run = by_turns::<M>(self.alloc, bench, self.params, turns)?;
         let breaks = run.breaks(Some(self.demand), self.first);
         Ok(Asked {
             breaks,
-            bench: run.into_program(),
+            bench: run.into_machine(),
         })
     }
 }
@@ -104,7 +106,7 @@ impl<'a> SmallOf<'a> {
             M.most_steps M.buffers)
             self.entry.setup.params self.entry.bytes.now) self.entry.demand.now self.entry.first.now) turns.now found) }
     {
-        let bench = program(alloc, self.bytes, self.setup.params.words)?;
+        let bench = machine::<M>(alloc, self.bytes, self.setup.params)?;
         small(alloc, &self.tries::<M>(alloc), bench, turns)
     }
 
@@ -115,13 +117,16 @@ impl<'a> SmallOf<'a> {
         alloc: Global,
         run: RunEnd<M>,
     ) -> Result<Option<Items<Turn>>, AllocError>
-        ensures { IfOk result (λ found. IfSome found (λ least. IsLeastInSteps (turns_break (setting_on (kind_with
-            M.seen_at M.changes_at M.outcome M.most_steps M.buffers) self.entry.setup.params self.entry.bytes.now)
-            self.entry.demand.now self.entry.first.now) least)) }
+        ensures { IfOk result (λ found. let s = setting_on (kind_with M.seen_at M.changes_at M.outcome M.most_steps M.buffers)
+            self.entry.setup.params self.entry.bytes.now in
+            IsMadeSmall (turns_break s self.entry.demand.now self.entry.first.now) (turns_under s (choices_of run.choices run.seed)) found) }
     {
         let acts = acts_of(alloc, self.bytes, self.setup.params, run)?;
-        let bench = program(alloc, self.bytes, self.setup.params.words)?;
-        small_of_run(alloc, &self.tries::<M>(alloc), bench, acts.as_slice())
+        let bench = machine::<M>(alloc, self.bytes, self.setup.params)?;
+        match small_of_run(alloc, &self.tries::<M>(alloc), bench, acts.as_slice())? {
+            Some(least) => Ok(Some(least)),
+            None => Ok(None),
+        }
     }
 
     /// Turns that break the demand and are least in steps, made of these turns; `None` where these break nothing. The
@@ -131,9 +136,9 @@ impl<'a> SmallOf<'a> {
         alloc: Global,
         turns: &[Turn],
     ) -> Result<Option<Items<Turn>>, AllocError>
-        ensures { IfOk result (λ found. IfSome found (λ least. IsLeastInSteps (turns_break (setting_on (kind_with
-            M.seen_at M.changes_at M.outcome M.most_steps M.buffers) self.entry.setup.params self.entry.bytes.now)
-            self.entry.demand.now self.entry.first.now) least)) }
+        ensures { IfOk result (λ found. let s = setting_on (kind_with M.seen_at M.changes_at M.outcome M.most_steps M.buffers)
+            self.entry.setup.params self.entry.bytes.now in
+            IsMadeSmall (turns_break s self.entry.demand.now self.entry.first.now) turns.now found) }
     {
         match self.from_turns::<M>(alloc, turns)? {
             Some(least) => Ok(Some(least)),
@@ -150,16 +155,22 @@ impl<'a> SmallOf<'a> {
         number: Numbered,
         run: RunEnd<M>,
     ) -> Result<Option<Items<Turn>>, AllocError>
-        ensures { IfOk result (λ found. IfSome found (λ least. IsLeastInSteps (turns_break (setting_on (kind_with
-            M.seen_at M.changes_at M.outcome M.most_steps M.buffers) self.entry.setup.params self.entry.bytes.now)
-            self.entry.demand.now self.entry.first.now) least)) }
+        requires counts { counted.now ≡ picks (setting_on (kind_with M.seen_at M.changes_at M.outcome M.most_steps
+            M.buffers) self.setup.params self.bytes.now) }
+        requires run { let s = setting_on (kind_with M.seen_at M.changes_at M.outcome M.most_steps M.buffers)
+            self.setup.params self.bytes.now in IsRunUnder s (numbered_choices s number) run }
+        ensures { IfOk result (λ found. let s = setting_on (kind_with M.seen_at M.changes_at M.outcome M.most_steps M.buffers)
+            self.entry.setup.params self.entry.bytes.now in
+            IsMadeSmall (turns_break s self.entry.demand.now self.entry.first.now) (turns_numbered s number) found) }
     {
         match number {
             Numbered::Few(number) => {
                 let turns = counted.turns(alloc, number)?;
                 self.least_of::<M>(alloc, turns.as_slice())
             }
-            _ => self.from_run(alloc, run),
+            Numbered::Seed(_) | Numbered::Walk(_) | Numbered::Ranked(..) => self.from_run(
+                alloc, run,
+            ),
         }
     }
 
@@ -171,9 +182,11 @@ impl<'a> SmallOf<'a> {
         name: &RunName,
         run: RunEnd<M>,
     ) -> Result<Option<Items<Turn>>, AllocError>
-        ensures { IfOk result (λ found. IfSome found (λ least. IsLeastInSteps (turns_break (setting_on (kind_with
-            M.seen_at M.changes_at M.outcome M.most_steps M.buffers) self.entry.setup.params self.entry.bytes.now)
-            self.entry.demand.now self.entry.first.now) least)) }
+        requires run { let s = setting_on (kind_with M.seen_at M.changes_at M.outcome M.most_steps M.buffers)
+            self.setup.params self.bytes.now in IsRunUnder s (named_choices s name.now) run }
+        ensures { IfOk result (λ found. let s = setting_on (kind_with M.seen_at M.changes_at M.outcome M.most_steps M.buffers)
+            self.entry.setup.params self.entry.bytes.now in
+            IsMadeSmall (turns_break s self.entry.demand.now self.entry.first.now) (turns_named s name.now) found) }
     {
         match name {
             RunName::Numbered { by, number } => {

@@ -1,14 +1,15 @@
 //! The top call.
-ghost use Rattle.std.specs.Prelude.{◌≡◌, ◌*◌, ◌<◌, ◌≤◌, ◌⊎◌, ℕ, List, IfErr, IfOk, None, Ok, Some, map};
+ghost use Rattle.std.specs.Prelude.{◌≡◌, ◌*◌, ◌<◌, ◌≤◌, ◌⊎◌, ℕ, List, IfErr, IfOk, None, Ok, OnOk, Some, map};
 ghost use Rattle.std.specs.Prelude.{string_bytes, vec_len};
 ghost use Rattle.std.specs.Io.KnownBytes.{Keeps};
 ghost use Rattle.state_text.specs.Exits.{fault_line};
-ghost use Rattle.state_text.specs.declared.exit.Exit.TheVariants.{OutOfMemory, Usage};
+ghost use Rattle.rtr_io.specs.Faults.{HasRisen};
+ghost use Rattle.state_text.specs.declared.exit.Exit.TheVariants.{Usage};
 ghost use Rattle.rtr_cli.specs.Answers.{IsRead, Tells};
 ghost use Rattle.rtr_cli.specs.Inputs.{loaded};
 ghost use Rattle.hunt_words.specs.Meaning.{meaning};
 ghost use Rattle.hunt_words.specs.declared.hunt.Hunt.{Hunt};
-ghost use Rattle.hunt_cli.specs.Answers.{HuntAnswers, IsGiven, IsRefused};
+ghost use Rattle.hunt_cli.specs.Answers.{HuntAnswers, IsGiven, IsIdle, IsRefused, TellsFaults};
 ghost use Rattle.hunt_cli.specs.declared.exits.HuntExit.TheVariants.{As};
 ghost use Rattle.rtr_types.specs.Parameters.{Fits};
 ghost use Rattle.hunt_words.specs.Fitting.{AreFewThreads, IsFitting};
@@ -56,8 +57,16 @@ pub fn run_hunt<R: Threads + Sync, I: Source, O: Sink, E: Sink>(
     report: &mut E,
 ) -> HuntExit
     ensures usage { result ≡ As Usage → meaning (map string_bytes words.now) ≡ None }
-    ensures idle { meaning (map string_bytes words.now) ≡ None → ((result ≡ As Usage) ⊎ (result ≡ As OutOfMemory))
-        × Keeps (I.left input.old) (I.left input.new) × Keeps (O.got output.old) (O.got output.new) }
+    ensures idle { meaning (map string_bytes words.now) ≡ None → IsIdle result (record {
+      left = I.left input.old;
+      left' = I.left input.new;
+      got = O.got output.old;
+      got' = O.got output.new;
+      told = E.got report.old;
+      told' = E.got report.new;
+      faults = E.faults report.old;
+      faults' = E.faults report.new;
+    }) }
     ensures answered { (hunt : Hunt) → meaning (map string_bytes words.now) ≡ Some hunt → HuntAnswers hunt result
         (record {
           left = I.left input.old;
@@ -69,6 +78,10 @@ pub fn run_hunt<R: Threads + Sync, I: Source, O: Sink, E: Sink>(
           faults = E.faults report.old;
           faults' = E.faults report.new;
         }) }
+
+    // Faults of the input and the output are told apart by their counts.
+    ensures faults { TellsFaults result (I.faults input.old) (I.faults input.new) (O.faults output.old)
+        (O.faults output.new) }
 {
     match meaning(alloc, words) {
         Ok(Some(hunt)) => hunted(rt, alloc, hunt, input, output, report),
@@ -87,7 +100,7 @@ fn hunted<R: Threads + Sync, I: Source, O: Sink, E: Sink>(
     report: &mut E,
 ) -> HuntExit
     requires { IsFitting hunt }
-    ensures { HuntAnswers hunt result (record {
+    ensures answered { HuntAnswers hunt result (record {
       left = I.left input.old;
       left' = I.left input.new;
       got = O.got output.old;
@@ -97,6 +110,8 @@ fn hunted<R: Threads + Sync, I: Source, O: Sink, E: Sink>(
       faults = E.faults report.old;
       faults' = E.faults report.new;
     }) }
+    ensures faults { TellsFaults result (I.faults input.old) (I.faults input.new) (O.faults output.old)
+        (O.faults output.new) }
 {
     let bytes = match taken(alloc, &setup_in(&hunt), input) {
         Ok(bytes) => bytes,
@@ -120,8 +135,11 @@ fn ends_as<E: Sink>(report: &mut E, exit: Exit) -> HuntExit
 
 /// Gives the output, and tells the report what was found.
 fn give<O: Sink, E: Sink>(output: &mut O, report: &mut E, answer: &Answer) -> HuntExit
-    ensures { IsGiven answer.now.exit answer.now.out.items (string_bytes answer.now.report) result (O.got output.old)
-        (O.got output.new) (E.got report.old) (E.got report.new) (E.faults report.old) (E.faults report.new) }
+    ensures given { IsGiven answer.now.exit answer.now.out.items (string_bytes answer.now.report) result
+        (O.got output.old) (O.got output.new) (E.got report.old) (E.got report.new) (E.faults report.old)
+        (E.faults report.new) }
+    ensures faults { ((result ≡ answer.now.exit) × (O.faults output.new ≡ O.faults output.old))
+        ⊎ ((result ≡ As Exit.WriteFault) × HasRisen (O.faults output.old) (O.faults output.new)) }
 {
     match write_all(output, answer.out.as_slice()) {
         Ok(()) => {
@@ -154,6 +172,9 @@ fn taken<I: Source>(alloc: Global, setup: &Setup, input: &mut I) -> Result<Vec<u
         × (loaded (as_run setup.now) taken ≡ Ok bytes.items)) }
     ensures refused { IfErr result (λ exit. IsRefused setup.now exit (I.left input.old) (I.left input.new)) }
     ensures room { IfOk result (λ bytes. vec_len bytes ≤ 4 * setup.now.params.words) }
+    ensures fault { IfErr result (λ exit. exit ≡ Exit.ReadFault → HasRisen (I.faults input.old) (I.faults input.new)) }
+    ensures other { IfErr result (λ exit. (exit ≡ Exit.ReadFault) ⊎ (I.faults input.new ≡ I.faults input.old)) }
+    ensures no_fault { OnOk result (I.faults input.new ≡ I.faults input.old) }
 {
     match read_all(alloc, input, bytes_max(setup)) {
         Ok(bytes) => loaded(alloc, setup, bytes),

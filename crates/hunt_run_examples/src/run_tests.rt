@@ -4,7 +4,7 @@ ghost use Rattle.run_steps.specs.Ways.{IsSetUp};
 
 use access_times::{NoCarry, NoRider};
 use end_claims::EndView;
-use hunt_runs::{AtEnd, HuntedMachine, run_numbered, run_of_turns, straight_counts};
+use hunt_runs::{AtEnd, Counting, HuntedMachine, run_numbered, run_of_turns, straight_counts};
 use image_mem::Image;
 use msi_machine::Machine;
 use rtr_types::{Items, Params};
@@ -68,9 +68,9 @@ fn choices_by_turns<M: HuntedMachine>(
     bytes: &[u8],
     turns: &[Turn],
 ) -> Result<Items<u8>, Fail> {
-    let program = program_of(alloc, bytes)?;
+    let machine = M::start(alloc, program_of(alloc, bytes)?, PARAMS)?;
     let turns = Items::from_vec(turns.to_vec(alloc)?);
-    let ended = run_of_turns::<M>(alloc, program, PARAMS, turns)?;
+    let ended = run_of_turns(alloc, machine, PARAMS, turns)?;
     Ok(ended.into_choices())
 }
 
@@ -80,9 +80,9 @@ fn choices_numbered<M: HuntedMachine>(
     bytes: &[u8],
     numbered: Numbered,
 ) -> Result<Items<u8>, Fail> {
-    let counting = straight_counts::<M>(alloc, program_of(alloc, bytes)?, PARAMS)?;
-    let program = program_of(alloc, bytes)?;
-    let ended = run_numbered::<M>(alloc, program, PARAMS, &counting.counted, numbered)?;
+    let machine = M::start(alloc, program_of(alloc, bytes)?, PARAMS)?;
+    let Counting { counted, machine } = straight_counts(alloc, machine, PARAMS)?;
+    let ended = run_numbered(alloc, machine, PARAMS, &counted, numbered)?;
     Ok(ended.into_choices())
 }
 
@@ -92,9 +92,9 @@ fn counter_by_turns<M: HuntedMachine>(
     bytes: &[u8],
     turns: &[Turn],
 ) -> Result<u32, Fail> {
-    let program = program_of(alloc, bytes)?;
+    let machine = M::start(alloc, program_of(alloc, bytes)?, PARAMS)?;
     let turns = Items::from_vec(turns.to_vec(alloc)?);
-    let ended = run_of_turns::<M>(alloc, program, PARAMS, turns)?;
+    let ended = run_of_turns(alloc, machine, PARAMS, turns)?;
     let machine = ended.into_machine();
     let end = AtEnd {
         machine: &machine,

@@ -1,11 +1,12 @@
-mod RunCourses
-mod CoreSets
-mod StepPlaces
-mod Decisions
-mod PickCounts
-mod StartBounds
-mod PlainMarks
 mod BufferedMarks
-pub mod EndViews
-mod PlainRuns
 mod BufferedRuns
+mod CoreSets
+mod Decisions
+pub mod EndViews
+mod PickCounts
+mod PlainMarks
+mod PlainRuns
+mod RunCourses
+mod StartBounds
+mod StartRuns
+mod StepPlaces

@@ -39,6 +39,11 @@ impl HuntedMachine for BufferedMachine<NoRider, NoCarry> {
         Ok(machine)
     }
 
+    fn restart(self, alloc: Global, params: Params) -> Made<Self> {
+        let machine = self.restart(alloc, params)?;
+        Ok(machine)
+    }
+
     fn has_buffers() -> bool {
         true
     }
@@ -82,8 +87,4 @@ impl HuntedMachine for BufferedMachine<NoRider, NoCarry> {
     fn is_seen(&self) {}
 
     fn has_come_to(&self) {}
-
-    fn into_program(self) -> Program {
-        self.into_program()
-    }
 }

@@ -17,7 +17,6 @@ use crate::machine::HuntedMachine;
 use machine_ports::SteppedMachine;
 use rtr_types::{Items, Params};
 use run_steps::Made;
-use rv_core::Program;
 use std::alloc::Global;
 use turn_policies::Policy;
 
@@ -38,23 +37,23 @@ pub struct Led<M, P> {
 /// run under exactly these choices comes to, whatever would follow them.
 pub fn lead<M: HuntedMachine, P: Policy>(
     alloc: Global,
-    program: Program,
+    machine: M,
     params: Params,
     policy: P,
 ) -> Made<Led<M, P>>
-    requires { IsSetUp program params }
-    ensures choices { IfOk result (λ led. led.choices ≡ (run_by (course_of M.seen_at M.changes_at program params)
+    requires { IsSetUp (M.image machine) params }
+    ensures choices { IfOk result (λ led. led.choices ≡ (run_by (course_of M.seen_at M.changes_at (M.image machine) params)
         P.policy policy params.cores (M.most_steps params)).choices) }
-    ensures policy { IfOk result (λ led. led.policy ≡ (run_by (course_of M.seen_at M.changes_at program params) P.policy
+    ensures policy { IfOk result (λ led. led.policy ≡ (run_by (course_of M.seen_at M.changes_at (M.image machine) params) P.policy
         policy params.cores (M.most_steps params)).directed.policy) }
-    ensures enabled { IfOk result (λ led. EachEnabled (course_of M.seen_at M.changes_at program params) led.choices) }
+    ensures enabled { IfOk result (λ led. EachEnabled (course_of M.seen_at M.changes_at (M.image machine) params) led.choices) }
     ensures ended { IfOk result (λ led. M.ended led.machine ≡ true) }
-    ensures comes_to { IfOk result (λ led. (seed : ℕ) → EndsAs (M.cores led.machine) (M.words led.machine) program.words
-        (M.outcome program params (choices_of led.choices seed))) }
+    ensures comes_to { IfOk result (λ led. (seed : ℕ) → EndsAs (M.cores led.machine) (M.words led.machine) (M.image machine).words
+        (M.outcome (M.image machine) params (choices_of led.choices seed))) }
     ensures cores { IfOk result (λ led. length (M.cores led.machine) ≡ params.cores) }
-    ensures image { IfOk result (λ led. M.image led.machine ≡ program) }
+    ensures image { IfOk result (λ led. M.image led.machine ≡ M.image machine) }
 {
-    let machine = M::start(alloc, program, params)?;
+    let machine = machine.restart(alloc, params)?;
     let jumps = Jumps::new(alloc, params.cores)?;
     let mut run = Run {
         machine,

@@ -3,8 +3,8 @@
 //! and lets the policy pick again. The choices that it notes are choice bytes.
 //!
 //! A machine offers what directs it (`HuntedMachine`): whose steps are enabled, what a core needs, and a step by its
-//! number. Nothing is kept of an access but whether it changed a word. One decoded image serves all runs, one after
-//! the other: `into_program` gives it back.
+//! number. Nothing is kept of an access but whether it changed a word. A machine serves runs one after the
+//! other, and takes hardly any memory for the next (`restart`).
 //!
 //! Proved: `lead` answers the choices that are defined for the policy (`choices`), each of an enabled step
 //! (`enabled`), and the machine at its end (`ended`), which is what the run under exactly these choices comes to,

@@ -50,6 +50,16 @@ pub trait HuntedMachine: SteppedMachine + Drop {
         ensures image { IfOk result (λ machine. Self.image machine ≡ program) }
         ensures few { IfOk result (λ machine. Self.left machine ≤ most_steps params) };
 
+    /// The machine of the same program before its first step again, with the memory that this one has. The only
+    /// refusal is want of memory.
+    fn restart(self, alloc: Global, params: Params) -> Made<Self>
+        requires { IsSetUp (Self.image self) params }
+        ensures stands { IfOk result (λ machine. (schedule : Choices)
+            → stands machine (Self.image self) params schedule 0 schedule) }
+        ensures cores { IfOk result (λ machine. length (Self.cores machine) ≡ params.cores) }
+        ensures image { IfOk result (λ machine. Self.image machine ≡ Self.image self) }
+        ensures few { IfOk result (λ machine. Self.left machine ≤ most_steps params) };
+
     /// Whether its cores have store buffers.
     fn has_buffers() -> bool
         ensures { result ≡ buffers };
@@ -110,8 +120,4 @@ pub trait HuntedMachine: SteppedMachine + Drop {
             → Fits params → stands self.now image params schedule t rest
             → EndsAs (Self.cores self.now) (Self.words self.now) (Self.image self.now).words
             (outcome image params schedule) };
-
-    /// The program that it runs.
-    fn into_program(self) -> Program
-        ensures { result ≡ Self.image self };
 }

@@ -13,7 +13,6 @@ use crate::led::{Led, lead};
 use crate::machine::HuntedMachine;
 use rtr_types::{Items, Params};
 use run_steps::Made;
-use rv_core::Program;
 use schedule_pick::Schedule;
 use std::alloc::Global;
 use std::marker::Model;
@@ -77,28 +76,28 @@ impl<M: Drop> Ended<M> {
     }
 }
 
-/// What was counted in the straight run, and the program.
+/// What was counted in the straight run, and the machine that made it.
 #[derive(Drop)]
-pub struct Counting {
+pub struct Counting<M> {
     /// How often each actor was picked.
     pub counted: Counted,
-    /// The program that was run.
-    pub program: Program,
+    /// The machine at the end of the run.
+    pub machine: M,
 }
 
 /// Makes the straight run of the image, and counts. The only refusal is want of memory.
 pub fn straight_counts<M: HuntedMachine>(
     alloc: Global,
-    program: Program,
+    machine: M,
     params: Params,
-) -> Made<Counting>
-    requires { IsSetUp program params }
+) -> Made<Counting<M>>
+    requires { IsSetUp (M.image machine) params }
     ensures counted { IfOk result (λ counting. counting.counted ≡ straight_picks
-        (course_of M.seen_at M.changes_at program params) M.buffers params.cores (M.most_steps params)) }
-    ensures program { IfOk result (λ counting. counting.program ≡ program) }
+        (course_of M.seen_at M.changes_at (M.image machine) params) M.buffers params.cores (M.most_steps params)) }
+    ensures image { IfOk result (λ counting. M.image counting.machine ≡ M.image machine) }
 {
     let policy = StraightCounts::new(alloc, M::has_buffers(), params.cores)?;
-    let led = lead::<M, StraightCounts>(alloc, program, params, policy)?;
+    let led = lead::<M, StraightCounts>(alloc, machine, params, policy)?;
     let Led {
         choices: _choices,
         machine,
@@ -106,7 +105,7 @@ pub fn straight_counts<M: HuntedMachine>(
     } = led;
     Ok(Counting {
         counted: Counted::of(alloc, &policy)?,
-        program: machine.into_program(),
+        machine,
     })
 }
 
@@ -156,31 +155,31 @@ fn actors_of(alloc: Global, turns: &[Turn]) -> Made<Vec<Actor>>
 /// Makes the run of a number of the image whose straight run has these counts. The only refusal is want of memory.
 pub fn run_numbered<M: HuntedMachine>(
     alloc: Global,
-    program: Program,
+    machine: M,
     params: Params,
     counted: &Counted,
     numbered: Numbered,
 ) -> Made<Ended<M>>
-    requires { IsSetUp program params }
+    requires { IsSetUp (M.image machine) params }
     ensures choices { IfOk result (λ ended. choices_of ended.choices ended.seed
-        ≡ choices_numbered (course_of M.seen_at M.changes_at program params) counted.now numbered params.cores
+        ≡ choices_numbered (course_of M.seen_at M.changes_at (M.image machine) params) counted.now numbered params.cores
         (M.most_steps params)) }
     ensures ended { IfOk result (λ ended. M.ended ended.machine ≡ true) }
-    ensures comes_to { IfOk result (λ ended. EndsAs (M.cores ended.machine) (M.words ended.machine) program.words
-        (M.outcome program params (choices_of ended.choices ended.seed))) }
+    ensures comes_to { IfOk result (λ ended. EndsAs (M.cores ended.machine) (M.words ended.machine) (M.image machine).words
+        (M.outcome (M.image machine) params (choices_of ended.choices ended.seed))) }
     ensures cores { IfOk result (λ ended. length (M.cores ended.machine) ≡ params.cores) }
-    ensures image { IfOk result (λ ended. M.image ended.machine ≡ program) }
+    ensures image { IfOk result (λ ended. M.image ended.machine ≡ M.image machine) }
 {
     match numbered {
-        Numbered::Seed(seed) => run_of_seed(alloc, program, params, seed),
+        Numbered::Seed(seed) => run_of_seed(alloc, machine, params, seed),
         Numbered::Few(number) => {
             let turns = counted.turns(alloc, number)?;
-            run_of_turns(alloc, program, params, turns)
+            run_of_turns(alloc, machine, params, turns)
         }
-        Numbered::Walk(number) => run_led(alloc, program, params, Walk::new(number)),
+        Numbered::Walk(number) => run_led(alloc, machine, params, Walk::new(number)),
         Numbered::Ranked(depth, number) => {
             let ranks = counted.ranks(alloc, depth, number)?;
-            run_led(alloc, program, params, ranks)
+            run_led(alloc, machine, params, ranks)
         }
     }
 }
@@ -188,40 +187,40 @@ pub fn run_numbered<M: HuntedMachine>(
 /// Makes the run of these turns. The only refusal is want of memory.
 pub fn run_of_turns<M: HuntedMachine>(
     alloc: Global,
-    program: Program,
+    machine: M,
     params: Params,
     turns: Items<Turn>,
 ) -> Made<Ended<M>>
-    requires { IsSetUp program params }
+    requires { IsSetUp (M.image machine) params }
     ensures choices { IfOk result (λ ended. choices_of ended.choices ended.seed
-        ≡ choices_by_turns (course_of M.seen_at M.changes_at program params) turns params.cores (M.most_steps params)) }
+        ≡ choices_by_turns (course_of M.seen_at M.changes_at (M.image machine) params) turns params.cores (M.most_steps params)) }
     ensures ended { IfOk result (λ ended. M.ended ended.machine ≡ true) }
-    ensures comes_to { IfOk result (λ ended. EndsAs (M.cores ended.machine) (M.words ended.machine) program.words
-        (M.outcome program params (choices_of ended.choices ended.seed))) }
+    ensures comes_to { IfOk result (λ ended. EndsAs (M.cores ended.machine) (M.words ended.machine) (M.image machine).words
+        (M.outcome (M.image machine) params (choices_of ended.choices ended.seed))) }
     ensures cores { IfOk result (λ ended. length (M.cores ended.machine) ≡ params.cores) }
-    ensures image { IfOk result (λ ended. M.image ended.machine ≡ program) }
+    ensures image { IfOk result (λ ended. M.image ended.machine ≡ M.image machine) }
 {
-    run_led(alloc, program, params, ByTurns::new(turns))
+    run_led(alloc, machine, params, ByTurns::new(turns))
 }
 
 /// Makes the run by a policy. The only refusal is want of memory.
 fn run_led<M: HuntedMachine, P: Policy>(
     alloc: Global,
-    program: Program,
+    machine: M,
     params: Params,
     policy: P,
 ) -> Made<Ended<M>>
-    requires { IsSetUp program params }
+    requires { IsSetUp (M.image machine) params }
     ensures choices { IfOk result (λ ended. choices_of ended.choices ended.seed
-        ≡ choices_of_run (course_of M.seen_at M.changes_at program params) P.policy policy params.cores
+        ≡ choices_of_run (course_of M.seen_at M.changes_at (M.image machine) params) P.policy policy params.cores
         (M.most_steps params)) }
     ensures ended { IfOk result (λ ended. M.ended ended.machine ≡ true) }
-    ensures comes_to { IfOk result (λ ended. EndsAs (M.cores ended.machine) (M.words ended.machine) program.words
-        (M.outcome program params (choices_of ended.choices ended.seed))) }
+    ensures comes_to { IfOk result (λ ended. EndsAs (M.cores ended.machine) (M.words ended.machine) (M.image machine).words
+        (M.outcome (M.image machine) params (choices_of ended.choices ended.seed))) }
     ensures cores { IfOk result (λ ended. length (M.cores ended.machine) ≡ params.cores) }
-    ensures image { IfOk result (λ ended. M.image ended.machine ≡ program) }
+    ensures image { IfOk result (λ ended. M.image ended.machine ≡ M.image machine) }
 {
-    let led = lead::<M, P>(alloc, program, params, policy)?;
+    let led = lead::<M, P>(alloc, machine, params, policy)?;
     let Led {
         choices,
         machine,
@@ -237,19 +236,19 @@ fn run_led<M: HuntedMachine, P: Policy>(
 /// Makes the run of a seed. The only refusal is want of memory.
 fn run_of_seed<M: HuntedMachine>(
     alloc: Global,
-    program: Program,
+    machine: M,
     params: Params,
     seed: u64,
 ) -> Made<Ended<M>>
-    requires { IsSetUp program params }
+    requires { IsSetUp (M.image machine) params }
     ensures choices { IfOk result (λ ended. choices_of ended.choices ended.seed ≡ choices_of [] seed) }
     ensures ended { IfOk result (λ ended. M.ended ended.machine ≡ true) }
-    ensures comes_to { IfOk result (λ ended. EndsAs (M.cores ended.machine) (M.words ended.machine) program.words
-        (M.outcome program params (choices_of ended.choices ended.seed))) }
+    ensures comes_to { IfOk result (λ ended. EndsAs (M.cores ended.machine) (M.words ended.machine) (M.image machine).words
+        (M.outcome (M.image machine) params (choices_of ended.choices ended.seed))) }
     ensures cores { IfOk result (λ ended. length (M.cores ended.machine) ≡ params.cores) }
-    ensures image { IfOk result (λ ended. M.image ended.machine ≡ program) }
+    ensures image { IfOk result (λ ended. M.image ended.machine ≡ M.image machine) }
 {
-    let mut machine = M::start(alloc, program, params)?;
+    let mut machine = machine.restart(alloc, params)?;
     let mut schedule = Schedule::new(Vec::new(alloc), seed);
     while !machine.done() {
         let _changed = machine.take(schedule.next())?;

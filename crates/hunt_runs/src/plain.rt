@@ -38,6 +38,11 @@ impl HuntedMachine for Machine<NoRider, NoCarry> {
         Ok(machine)
     }
 
+    fn restart(self, alloc: Global, params: Params) -> Made<Self> {
+        let machine = self.restart(alloc, params)?;
+        Ok(machine)
+    }
+
     fn has_buffers() -> bool {
         false
     }
@@ -81,8 +86,4 @@ impl HuntedMachine for Machine<NoRider, NoCarry> {
     fn is_seen(&self) {}
 
     fn has_come_to(&self) {}
-
-    fn into_program(self) -> Program {
-        self.into_program()
-    }
 }

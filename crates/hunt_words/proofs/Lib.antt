@@ -4,3 +4,14 @@ pub mod LineLemmas
 pub mod GivenLemmas
 pub mod TurnsRead
 pub mod Memories
+pub mod PlacesWithin
+pub mod OptionLists
+pub mod GivenTexts
+pub mod GivenCuts
+pub mod SuitedMachines
+pub mod HuntsOpen
+pub mod HuntsMade
+pub mod OpenGoesOn
+pub mod FaultLemmas
+pub mod NextOptions
+pub mod FaultReads

@@ -41,57 +41,46 @@ at elf cores limit words seed choices =
 abbrev valued-so : Verb → (name : List ℕ) → Name → Type 0
 valued-so verb name option = (text : List ℕ) → valued verb name text ≡ Some (record { name = option; text = text })
 
+-- an option with a value: its name alone sets nothing, and with a text it is set to that
+abbrev Takes : Verb → (name : List ℕ) → Name → Type 0
+Takes verb name option = (alone verb name ≡ None) × valued-so verb name option
+
 -- the command reads the options of a line
 record Reads (verb : Verb) : Type 0 where
-  cores-apart : alone verb (codes "--cores") ≡ None
-  cores : valued-so verb (codes "--cores") Cores
-  limit-apart : alone verb (codes "--limit") ≡ None
-  limit : valued-so verb (codes "--limit") Limit
-  words-apart : alone verb (codes "--words") ≡ None
-  words : valued-so verb (codes "--words") Words
-  seed-apart : alone verb (codes "--seed") ≡ None
-  seed : valued-so verb (codes "--seed") Seed
-  choices-apart : alone verb (codes "--choices") ≡ None
-  choices : valued-so verb (codes "--choices") Choices
+  cores : Takes verb (codes "--cores") Cores
+  limit : Takes verb (codes "--limit") Limit
+  words : Takes verb (codes "--words") Words
+  seed : Takes verb (codes "--seed") Seed
+  choices : Takes verb (codes "--choices") Choices
 
 reads-record : Reads Record
 reads-record = record {
-  cores-apart = refl;
-  cores = λ text. refl;
-  limit-apart = refl;
-  limit = λ text. refl;
-  words-apart = refl;
-  words = λ text. refl;
-  seed-apart = refl;
-  seed = λ text. refl;
-  choices-apart = refl;
-  choices = λ text. refl;
+  cores = (refl, λ text. refl);
+  limit = (refl, λ text. refl);
+  words = (refl, λ text. refl);
+  seed = (refl, λ text. refl);
+  choices = (refl, λ text. refl);
 }
 
 reads-tso : Reads TsoRecord
 reads-tso = record {
-  cores-apart = refl;
-  cores = λ text. refl;
-  limit-apart = refl;
-  limit = λ text. refl;
-  words-apart = refl;
-  words = λ text. refl;
-  seed-apart = refl;
-  seed = λ text. refl;
-  choices-apart = refl;
-  choices = λ text. refl;
+  cores = (refl, λ text. refl);
+  limit = (refl, λ text. refl);
+  words = (refl, λ text. refl);
+  seed = (refl, λ text. refl);
+  choices = (refl, λ text. refl);
 }
 
 -- a name and its number, or nothing where that is the default
 number-by : (same : Bool) (verb : Verb) (name : List ℕ) (option : Name) (value : ℕ) (rest : List (List ℕ))
-    (after : Option ℕ → Settings) → alone verb name ≡ None → valued-so verb name option
+    (after : Option ℕ → Settings) → Takes verb name option
     → put (after None) option (decimal value) ≡ Some (after (Some value))
     → settled_by verb (after None) (cond same [] (name ∷ decimal value ∷ []) ++ rest)
     ≡ settled_by verb (after (cond same None (Some value))) rest
-number-by true verb name option value rest after apart reads puts = refl
-number-by false verb name option value rest after apart reads puts =
-    settled_by-pair verb (after None) name (decimal value) rest (record { name = option; text = decimal value }) apart
-    (reads (decimal value)) ∙ ap (option_and_then (λ (t : Settings). settled_by verb t rest)) puts
+number-by true verb name option value rest after takes puts = refl
+number-by false verb name option value rest after takes puts =
+    settled_by-pair verb (after None) name (decimal value) rest (record { name = option; text = decimal value })
+    takes.0 (takes.1 (decimal value)) ∙ ap (option_and_then (λ (t : Settings). settled_by verb t rest)) puts
 
 -- a number that is in its option's range is put in
 puts-number : (least most value : ℕ) (after : ℕ → Settings) → least ≤ value → value ≤ most → value < 2 ^ 64
@@ -120,7 +109,7 @@ choices-read verb [] after reads small puts = refl
 choices-read verb (byte ∷ bytes) after reads small puts =
     let text : List ℕ = encode_lower (byte ∷ bytes) in
     settled_by-pair verb (after None) (codes "--choices") text [] (record { name = Choices; text = text })
-    reads.choices-apart (reads.choices text)
+    reads.choices.0 (reads.choices.1 text)
     ∙ ap (option_and_then (λ (t : Settings). settled_by verb t [])) (puts text (are-choices byte bytes small))
 
 -- the settings that a line's words come to
@@ -153,18 +142,18 @@ settled-all verb run reads fits small bytes elf-reads =
     let cores-on : List (List ℕ) = number_words (codes "--cores") p.cores cores_default ++ limit-on in
     flag-by run.elf verb cores-on elf-reads
     ∙ number-by (eqb p.cores cores_default) verb (codes "--cores") Cores p.cores limit-on
-    (λ o. at run.elf o None None None None) reads.cores-apart reads.cores
+    (λ o. at run.elf o None None None None) reads.cores
     (puts-number 1 CORES_MAX p.cores (λ n. at run.elf (Some n) None None None None) fits.some_core fits.cores
     (omega (arith, fits.cores)))
     ∙ number-by (eqb p.limit limit_default) verb (codes "--limit") Limit p.limit words-on
-    (λ o. at run.elf cores o None None None) reads.limit-apart reads.limit
+    (λ o. at run.elf cores o None None None) reads.limit
     (puts-number 1 LIMIT_MAX p.limit (λ n. at run.elf cores (Some n) None None None) fits.some_instruction fits.limit
     (omega (arith, fits.limit)))
     ∙ number-by (eqb p.words words_default) verb (codes "--words") Words p.words seed-on
-    (λ o. at run.elf cores limit o None None) reads.words-apart reads.words
+    (λ o. at run.elf cores limit o None None) reads.words
     (puts-words p.words (λ n. at run.elf cores limit (Some n) None None) fits.some_block fits.words fits.whole_blocks)
     ∙ number-by (eqb run.seed 0) verb (codes "--seed") Seed run.seed (choice_words run.choices)
-    (λ o. at run.elf cores limit words o None) reads.seed-apart reads.seed
+    (λ o. at run.elf cores limit words o None) reads.seed
     (puts-number 0 (2 ^ 64 - 1) run.seed (λ n. at run.elf cores limit words (Some n) None) (omega arith) (omega (arith, small))
     small)
     ∙ choices-read verb run.choices (λ o. at run.elf cores limit words seed o) reads bytes

@@ -7,3 +7,7 @@ pub mod TurnTexts
 pub mod Options
 pub mod Fitting
 pub mod Meaning
+pub mod Names
+pub mod Open
+pub mod Faults
+pub mod Stops

@@ -99,7 +99,7 @@ fn valued<'a>(verb: Verb, name: &'a str, text: &'a str) -> Option<Given<'a>>
 }
 
 /// The name of an option in a word, and the value that `=` joins to it.
-fn split(word: &str) -> (&str, Option<&str>)
+pub(crate) fn split(word: &str) -> (&str, Option<&str>)
     ensures name { result.0.now ≡ before_first is_equals word.now }
     ensures value { option_map (λ text. text.now) result.1 ≡ joined_value word.now }
 {

@@ -44,7 +44,11 @@ pub fn meaning(alloc: Global, words: &[String]) -> Result<Option<Hunt>, AllocErr
 
 /// What the verb asks for with these options.
 #[tactic(auto, unfolding(crate::specs::Meaning::hunt_of))]
-fn hunt_of(alloc: Global, verb: Verb, given: &[Given<'_>]) -> Result<Option<Hunt>, AllocError>
+pub(crate) fn hunt_of(
+    alloc: Global,
+    verb: Verb,
+    given: &[Given<'_>],
+) -> Result<Option<Hunt>, AllocError>
     ensures value { IfOk result (λ hunt. hunt ≡ hunt_of verb (all_seen given.now)) }
     ensures fits { IfOk result (λ hunt. IfSome hunt (λ h. IsFitting h)) }
 {

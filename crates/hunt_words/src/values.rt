@@ -115,7 +115,7 @@ pub(crate) fn range_or(given: &[Given<'_>]) -> Option<(u64, u64)>
 
 /// The two ends of a range: `A..B`, where A is at most B.
 #[tactic(auto, unfolding(crate::specs::Values::range_named))]
-fn range_named(text: &str) -> Option<(u64, u64)>
+pub(crate) fn range_named(text: &str) -> Option<(u64, u64)>
     ensures value { result ≡ range_named text.now }
     ensures fits { IfSome result (λ range. IsRange range.0 range.1) }
 {

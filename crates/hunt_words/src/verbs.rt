@@ -6,7 +6,7 @@ ghost use Rattle.hunt_words.specs.Verbs.{is_flag, is_own, takes_value, verb_name
 
 /// The first word: what is asked for.
 #[derive(Clone, Copy)]
-pub(crate) enum Verb {
+pub enum Verb {
     /// `first`
     First,
     /// `table`

@@ -4,7 +4,7 @@ use Rattle.hunt_texts.specs.Shown.{shown_text}
 use Rattle.hunt_cli.specs.Finds.{shown_of}
 use Rattle.hunt_cli.specs.Inputs.{words_of}
 use Rattle.hunt_cli.specs.RunEnds.{end_in}
-use Rattle.hunt_cli.proofs.PlacesWithin.{demanded-within}
+use Rattle.hunt_words.proofs.PlacesWithin.{demanded-within}
 use Rattle.hunt_cli.proofs.RunsSame.{places-within}
 use Rattle.hunt_cli.proofs.ShownRuns.{is-shown}
 use Rattle.hunt_cli.proofs.smalls.plain_answer.Goals as goal

@@ -1,12 +1,14 @@
 use Rattle.std.proofs.Common.{sym, subst, string_bytes}
 use Rattle.hunt_words.specs.declared.hunt.Setup.{Setup}
 use Rattle.hunt_cli.specs.declared.exits.HuntExit.{HuntExit}
-use Rattle.hunt_cli.specs.Answers.{HuntAnswers, IsRefused, Moved}
-use Rattle.hunt_cli.proofs.HuntEnds.{given-answers, keeps-same, refused-answers}
+use Rattle.hunt_cli.specs.Answers.{HuntAnswers, IsRefused, Moved, TellsFaults}
+use Rattle.hunt_cli.specs.Inputs.{setup_in}
+use Rattle.hunt_cli.specs.Kinds.{setting_of}
+use Rattle.hunt_cli.proofs.HuntEnds.{given-answers, given-faults, keeps-same, refused-answers, refused-faults}
 use Rattle.hunt_cli.proofs.tool.hunted.Goals as goal
 
-pub returns-in-Err : goal.returns-in-Err
-returns-in-Err g c =
+pub returns-in-Err-clause-answered : goal.returns-in-Err-clause-answered
+returns-in-Err-clause-answered g c =
     let m : Moved = record {
       left = g.I.Source.left c.args.input.now;
       left' = g.I.Source.left c.taken.new.input;
@@ -22,8 +24,8 @@ returns-in-Err g c =
     (subst (λ (s : Setup). IsRefused s c.in-Err.exit m.left m.left') c.setup_in.ensures c.in-Err.ensures.refused)
     (keeps-same (g.O.Sink.got c.args.output.now), c.ends_as.ensures.told))
 
-pub returns-in-Ok-answer : goal.returns-in-Ok-answer
-returns-in-Ok-answer g c =
+pub returns-in-Ok-answer-clause-answered : goal.returns-in-Ok-answer-clause-answered
+returns-in-Ok-answer-clause-answered g c =
     let m : Moved = record {
       left = g.I.Source.left c.args.input.now;
       left' = g.I.Source.left c.taken.new.input;
@@ -43,4 +45,21 @@ returns-in-Ok-answer g c =
       read = read.1;
       loads = read.2;
       finds = c.in-Ok-answer.ensures;
-    }) c.give.ensures
+    }) c.give.ensures.given
+
+pub returns-in-Err-clause-faults : goal.returns-in-Err-clause-faults
+returns-in-Err-clause-faults g c =
+    let read = g.I.Source.faults c.args.input.now in
+    let read' = g.I.Source.faults c.taken.new.input in
+    let written = g.O.Sink.faults c.args.output.now in
+    subst (λ (e : HuntExit). TellsFaults e read read' written written) (sym c.ends_as.ensures.exit)
+    (refused-faults c.setup_in.result c.in-Err.exit (g.I.Source.left c.args.input.now) (g.I.Source.left c.taken.new.input)
+    read read' written c.in-Err.ensures.refused c.in-Err.ensures.fault c.in-Err.ensures.other)
+
+pub returns-in-Ok-answer-clause-faults : goal.returns-in-Ok-answer-clause-faults
+returns-in-Ok-answer-clause-faults g c =
+    let hunt = c.args.hunt in
+    given-faults (setting_of (setup_in hunt) c.in-Ok.bytes.items) hunt c.in-Ok.bytes.items
+    c.in-Ok-answer.answer.out.items (string_bytes c.in-Ok-answer.answer.report) c.in-Ok-answer.answer.exit c.give.result
+    (g.I.Source.faults c.args.input.now) (g.I.Source.faults c.taken.new.input) (g.O.Sink.faults c.args.output.now)
+    (g.O.Sink.faults c.give.new.output) c.in-Ok-answer.ensures c.in-Ok.ensures.no_fault c.give.ensures.faults

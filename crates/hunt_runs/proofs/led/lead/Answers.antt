@@ -17,7 +17,7 @@ use Rattle.hunt_runs.proofs.led.lead.Goals as goal
 pub loop-run-init : goal.loop-run-init
 loop-run-init g c =
     let M = g.M.HuntedMachine in
-    let image = c.args.program in
+    let image = g.M.SteppedMachine.image c.args.machine in
     let params = c.args.params in
     let machine = c.in_ok-machine.machine in
     let course = course_of M.seen_at M.changes_at image params in
@@ -56,7 +56,7 @@ loop-run-smaller g c = c.in_ok-go_on.ensures.nearer
 pub loop-run-preserved : goal.loop-run-preserved
 loop-run-preserved g c =
     let M = g.M.HuntedMachine in
-    let image = c.args.program in
+    let image = g.M.SteppedMachine.image c.args.machine in
     let params = c.args.params in
     let course = course_of M.seen_at M.changes_at image params in
     let policy = g.P.Policy.policy in
@@ -81,17 +81,17 @@ loop-run-preserved g c =
 module _ (g : given.Over) (c : goal.After-into_led g) where
   -- the run that was begun ended here
   whole : gone_in c.loop-run.run
-      ≡ run_by (course_of g.M.HuntedMachine.seen_at g.M.HuntedMachine.changes_at c.args.program c.args.params)
+      ≡ run_by (course_of g.M.HuntedMachine.seen_at g.M.HuntedMachine.changes_at (g.M.SteppedMachine.image c.args.machine) c.args.params)
       g.P.Policy.policy c.args.policy c.args.params.cores (g.M.HuntedMachine.most_steps c.args.params)
   whole =
       let M = g.M.HuntedMachine in
-      let course = course_of M.seen_at M.changes_at c.args.program c.args.params in
+      let course = course_of M.seen_at M.changes_at (g.M.SteppedMachine.image c.args.machine) c.args.params in
       let run = c.loop-run.run in
       let now = M.seen run.machine in
       let is_now : now ≡ course.seen run.choices =
-      by_seed M.stands c.args.program c.args.params run.machine run.choices
-      (λ schedule t. now ≡ M.seen_at c.args.program c.args.params schedule t)
-      (λ schedule t rest at. c.is_seen.ensures.seen c.args.program c.args.params schedule t rest at)
+      by_seed M.stands (g.M.SteppedMachine.image c.args.machine) c.args.params run.machine run.choices
+      (λ schedule t. now ≡ M.seen_at (g.M.SteppedMachine.image c.args.machine) c.args.params schedule t)
+      (λ schedule t rest at. c.is_seen.ensures.seen (g.M.SteppedMachine.image c.args.machine) c.args.params schedule t rest at)
       c.loop-run.invariant.stands 0 in
       let ended : (course.seen run.choices).ended ≡ true =
       ap (λ (s : Seen). s.ended) (sym is_now) ∙ c.is_seen.ensures.ended ∙ sym c.done.ensures ∙ c.loop-run-test.false in
@@ -110,7 +110,7 @@ returns-clause-policy g c =
 
 pub returns-clause-enabled : goal.returns-clause-enabled
 returns-clause-enabled g c =
-    let course = course_of g.M.HuntedMachine.seen_at g.M.HuntedMachine.changes_at c.args.program c.args.params in
+    let course = course_of g.M.HuntedMachine.seen_at g.M.HuntedMachine.changes_at (g.M.SteppedMachine.image c.args.machine) c.args.params in
     subst (λ (l : List ℕ). EachEnabled course l)
     (sym (ap (λ (l : Led g.row.M.Denot g.row.P.Denot). l.choices) c.into_led.ensures)) c.loop-run.invariant.each
 
@@ -119,7 +119,7 @@ returns-clause-comes_to g c = λ seed.
     let M = g.M.HuntedMachine in
     let S = g.M.SteppedMachine in
     let run = c.loop-run.run in
-    let image = c.args.program in
+    let image = g.M.SteppedMachine.image c.args.machine in
     let params = c.args.params in
     subst (λ (l : Led g.row.M.Denot g.row.P.Denot).
     EndsAs (S.cores l.machine) (S.words l.machine) image.words (M.outcome image params (choices_of l.choices seed)))

@@ -12,12 +12,14 @@ pub numbered-requires-clause-counts : goal.numbered-requires-clause-counts
 numbered-requires-clause-counts g c =
     let kind : Kind = kind_with g.M.HuntedMachine.seen_at g.M.HuntedMachine.changes_at g.M.HuntedMachine.outcome
     g.M.HuntedMachine.most_steps g.M.HuntedMachine.buffers in
-    same-picks kind c.args.self.now.params c.args.bench (image_in c.args.self.now.params c.args.self.now.bytes.now)
+    same-picks kind c.args.self.now.params (g.M.SteppedMachine.image c.args.bench)
+    (image_in c.args.self.now.params c.args.self.now.bytes.now)
     c.args.self.now.counted.now c.requires c.args.self.now.counts
 
 pub returns : goal.returns
 returns g c =
     let kind : Kind = kind_with g.M.HuntedMachine.seen_at g.M.HuntedMachine.changes_at g.M.HuntedMachine.outcome
     g.M.HuntedMachine.most_steps g.M.HuntedMachine.buffers in
-    same-run kind c.args.self.now.params c.args.bench (image_in c.args.self.now.params c.args.self.now.bytes.now)
+    same-run kind c.args.self.now.params (g.M.SteppedMachine.image c.args.bench)
+    (image_in c.args.self.now.params c.args.self.now.bytes.now)
     c.numbered-numbered_by.result _ c.in_ok-run.run' c.requires c.numbered-numbered_by.ensures c.in_ok-run.ensures

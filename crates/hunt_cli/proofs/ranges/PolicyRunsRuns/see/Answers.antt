@@ -42,4 +42,4 @@ returns-clause-breaks g c =
     c.args.self.now.first.now c.breaks-breaks.result c.breaks-breaks.ensures
 
 pub returns-clause-bench : goal.returns-clause-bench
-returns-clause-bench g c = c.into_program.ensures ∙ c.in_ok-run.ensures.image_is
+returns-clause-bench g c = c.into_machine.ensures ∙ c.in_ok-run.ensures.image_is

@@ -1,7 +1,7 @@
 use Rattle.std.proofs.Common.{Some, string_bytes}
 use Rattle.std.proofs.lemmas.Result.{on_ok_weaker}
 use Rattle.end_claims.specs.Demands.{demand_places}
-use Rattle.hunt_cli.proofs.PlacesWithin.{demanded-within}
+use Rattle.hunt_words.proofs.PlacesWithin.{demanded-within}
 use Rattle.hunt_cli.proofs.RunsSame.{places-within}
 use Rattle.hunt_cli.proofs.ShownRuns.{is-put}
 use Rattle.hunt_cli.proofs.smalls.SmallOf.put_turns.Goals as goal
