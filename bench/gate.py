@@ -5,8 +5,10 @@ usage: bench/gate.py [PID]
 
 It runs `rt ci` at the top of the repository, whose output goes to standard error, or follows the one that PID is. Twice
 a second it looks at the processes below, so what lives for less is missed, and what a process does after the last look
-too. Then it prints two tables: minutes of the processor by part (proofs, proofs of tests, wrong bodies, and the rest:
-compilers, linkers, tests and programs that run), and the crates that take most. It ends with the gate's status.
+too. Then it prints one table: by part of the gate the minutes of the processor, and the five crates that take most,
+with their seconds. The parts are proofs, proofs of tests, the proofs that wrong bodies are tried over (a crate with
+more than one is proved once more for it), wrong bodies, and programs: compilers, linkers, tests and programs that run,
+and `rt` itself. It ends with the gate's status.
 """
 import collections
 import os
@@ -17,9 +19,9 @@ import time
 TOP = os.path.dirname(os.path.dirname(os.path.abspath(__file__)))
 TICKS = os.sysconf("SC_CLK_TCK")
 PAUSE = 0.5
-# How many crates the second table has.
-DEAREST = 12
-PARTS = ["proofs", "tests", "wrong bodies", "the rest"]
+# How many crates are named for each part.
+DEAREST = 5
+PARTS = ["proofs", "tests", "proofs under wrong bodies", "wrong bodies", "programs"]
 
 
 def text_of(path):
@@ -37,10 +39,11 @@ def kind_of(pid):
     """Which part of the gate a process belongs to, and which crate."""
     words = text_of(f"/proc/{pid}/cmdline").decode(errors="replace").split("\0")
     if os.path.basename(words[0]) != "rattle" or "--crate-name" not in words:
-        return "the rest", ""
+        return "programs", ""
     crate = words[words.index("--crate-name") + 1]
     if "rt-edit-" in os.readlink(f"/proc/{pid}/cwd"):
-        return "wrong bodies", crate
+        is_seed = any(word.endswith("/seed") for word in words)
+        return "proofs under wrong bodies" if is_seed else "wrong bodies", crate
     return "tests" if "--test" in words or crate.endswith("_tests") else "proofs", crate
 
 
@@ -64,7 +67,7 @@ def look(top, seen):
     for pid in below(top):
         try:
             _, begun, ticks = stat_of(pid)
-            if (pid, begun) not in seen or seen[pid, begun][0][0] == "the rest":
+            if (pid, begun) not in seen or seen[pid, begun][0][0] == "programs":
                 seen[pid, begun] = (kind_of(pid), ticks)
             seen[pid, begun] = (seen[pid, begun][0], ticks)
         except (OSError, ValueError):
@@ -76,14 +79,12 @@ def tell(seen, seconds):
     for (part, crate), ticks in seen.values():
         parts[part] += ticks / TICKS / 60
         if crate:
-            crates[crate][part] += ticks / TICKS
-    print("| part | minutes of the processor |\n|---|---|")
+            crates[part][crate] += ticks / TICKS
+    print("| part | minutes of the processor | crates that take most, seconds |\n|---|---|---|")
     for part in PARTS:
-        print(f"| {part} | {parts[part]:.1f} |")
-    print(f"| all, in {seconds / 60:.0f} minutes by the clock | {sum(parts.values()):.1f} |\n")
-    print("| crate | proof, s | tests, s | wrong bodies, s |\n|---|---|---|---|")
-    for crate, took in sorted(crates.items(), key=lambda it: -sum(it[1].values()))[:DEAREST]:
-        print(f"| `{crate}` | " + " | ".join(f"{took[part]:.0f}" for part in PARTS[:3]) + " |")
+        dearest = ", ".join(f"`{crate}` {took:.0f}" for crate, took in crates[part].most_common(DEAREST))
+        print(f"| {part} | {parts[part]:.1f} | {dearest} |")
+    print(f"| all, in {seconds / 60:.0f} minutes by the clock | {sum(parts.values()):.1f} | |")
 
 
 def main():

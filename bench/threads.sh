@@ -9,10 +9,13 @@
 # each core retires 100,000 instructions; and mix 3 of `rtr gen` on four cores. For each work and each log (LOGS says
 # which, both where it is missing) it prints a line: the work, how many cores, the log, and the seconds alone and with
 # 1, 2, 4 and 8 threads. A machine of fewer processors than threads shows no gain by them. With COUNTS=1 it prints the
-# millions of host instructions in place of the seconds, by callgrind, alone and with one thread.
+# millions of host instructions in place of the seconds, by callgrind, alone and with one thread. With FAULTS=1 it
+# prints the least number of page faults in place of the seconds. INSTRUCTIONS says how many instructions a core of the
+# works of cores that count retires, 100,000 where it is missing; all cores together retire at most 4,000,000.
 set -eu
 cd "$(dirname "$0")/.."
 times=${1:-7}
+[ -n "${FAULTS:-}" ] && told=faults || told=least
 . bench/measure.sh
 
 # The least seconds that a command takes on the recording.
@@ -25,6 +28,13 @@ least() {
   done | sort -n | sed -n '1s/$/ \/ 1000000/p' | bc -l | cut -c1-6
 }
 
+# The least number of page faults of a command on the recording.
+faults() {
+  for _ in $(seq "$times"); do
+    { command time -f %R "$tool" "$@" < "$place/recording" > "$place/out"; } 2>&1
+  done | sort -n | sed -n 1p
+}
+
 # The millions of host instructions that a command takes on the recording.
 millions() {
   words=$*
@@ -33,16 +43,18 @@ millions() {
 
 # A line for each log of a work: its name, its cores, and the options of the recording.
 work() {
-  "$tool" record --cores "$2" --limit 100000 --words 2048 --seed 7 < "$place/image" > "$place/recording"
+  most=$((4000000 / $2))
+  limit=${INSTRUCTIONS:-100000}
+  "$tool" record --cores "$2" --limit $((limit < most ? limit : most)) --words 2048 --seed 7 < "$place/image" > "$place/recording"
   for log in ${LOGS:-reduced regulated}; do
     if [ -n "${COUNTS:-}" ]; then
       echo "$1 $2 $log $(millions replay --log $log) $(millions replay --log $log --threads 1)"
       continue
     fi
-    line="$1 $2 $log $(least replay --log $log)"
+    line="$1 $2 $log $($told replay --log $log)"
     cp "$place/out" "$place/alone"
     for threads in 1 2 4 8; do
-      line="$line $(least replay --log $log --threads $threads)"
+      line="$line $($told replay --log $log --threads $threads)"
       cmp "$place/out" "$place/alone"
     done
     echo "$line"
