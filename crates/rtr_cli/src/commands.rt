@@ -24,11 +24,13 @@ ghost use Rattle.rtr_cli.specs.Commands.{Makes, Refuses};
 ghost use Rattle.rtr_cli.specs.Promises.{Promised};
 ghost use Rattle.tool_words.specs.declared.command.Command.TheVariants.{Record, Run};
 
-use crate::buffers::{tso_record_input, tso_replayed, tso_run_input};
-use crate::cuts::state_at;
+use crate::buffers::{tso_record_input, tso_run_input};
+use crate::inputs::{
+    at_input, certify_input, check_input, check_thin_input, migrate_input, print_input, thin_input,
+    tso_replay_input,
+};
 use crate::soaks::soak;
-use crate::thins::{checked_thin, thinned};
-use certificate_codec::{Certificate, read_certificate, spell_certificate};
+use certificate_codec::{Certificate, spell_certificate};
 use image_elf::{ElfFault, flatten};
 use image_mem::Image;
 use log_codec::{read, spell};
@@ -42,12 +44,10 @@ use rtr_types::{Params, Which};
 use run_outcome::laws::a_run_fits_its_image;
 use rv_core::Outcome;
 use schedule_pick::Schedule;
-use state_text::{Exit, check_text, logs_text, state_text};
+use state_text::{Exit, check_text, state_text};
 use std::alloc::{AllocError, Global};
 use tool_words::{Command, RunWords};
 use trace_gen::gen_image;
-use tso_codec::tso_read;
-use vector_reduce::read_thin;
 
 /// The most bytes that a command takes which reads a recording, a certificate or an ELF file: 512 MiB.
 pub(crate) const FILE_BYTES_MAX: usize = 536_870_912;
@@ -96,26 +96,14 @@ pub(crate) fn make(alloc: Global, command: Command, bytes: Vec<u8>) -> Result<Ve
     match command {
         Command::Record(run) => record_input(alloc, run, bytes),
         Command::Run { run, loads } => run_input(alloc, run, loads, bytes),
-        Command::Print => {
-            let recording = read(alloc, bytes.as_slice())?;
-            Ok(logs_text(alloc, &recording)?)
-        }
+        Command::Print => print_input(alloc, bytes.as_slice()),
         Command::Replay { which, loads, .. } => {
             let recording = read(alloc, bytes.as_slice())?;
             replay(alloc, recording, which, loads)
         }
-        Command::Migrate => {
-            let recording = read(alloc, bytes.as_slice())?;
-            Ok(spell(alloc, &recording)?)
-        }
-        Command::Certify => {
-            let recording = read(alloc, bytes.as_slice())?;
-            certified(alloc, recording)
-        }
-        Command::Check => {
-            let certificate = read_certificate(alloc, bytes.as_slice())?;
-            checked(alloc, &certificate)
-        }
+        Command::Migrate => migrate_input(alloc, bytes.as_slice()),
+        Command::Certify => certify_input(alloc, bytes.as_slice()),
+        Command::Check => check_input(alloc, bytes.as_slice()),
         Command::Gen { shape, number } => Ok(gen_image(alloc, number, shape)?),
         Command::Soak {
             shape,
@@ -128,24 +116,12 @@ pub(crate) fn make(alloc: Global, command: Command, bytes: Vec<u8>) -> Result<Ve
             at,
             latest,
             loads,
-        } => {
-            let recording = read(alloc, bytes.as_slice())?;
-            state_at(alloc, recording, which, at, latest, loads)
-        }
-        Command::Thin { certify } => {
-            let recording = read(alloc, bytes.as_slice())?;
-            thinned(alloc, recording, certify)
-        }
-        Command::CheckThin => {
-            let thinned = read_thin(alloc, bytes.as_slice())?;
-            checked_thin(alloc, &thinned)
-        }
+        } => at_input(alloc, bytes.as_slice(), which, at, latest, loads),
+        Command::Thin { certify } => thin_input(alloc, bytes.as_slice(), certify),
+        Command::CheckThin => check_thin_input(alloc, bytes.as_slice()),
         Command::TsoRecord(run) => tso_record_input(alloc, run, bytes),
         Command::TsoRun { run, loads } => Ok(tso_run_input(alloc, run, loads, bytes)?),
-        Command::TsoReplay { loads } => {
-            let recording = tso_read(alloc, bytes.as_slice())?;
-            tso_replayed(alloc, recording, loads)
-        }
+        Command::TsoReplay { loads } => tso_replay_input(alloc, bytes.as_slice(), loads),
     }
 }
 
@@ -303,7 +279,7 @@ pub(crate) fn exit_of_audit(fault: AuditFault) -> Exit
 }
 
 /// The spelled certificate that the recording's reduced log is least.
-fn certified(alloc: Global, recording: Recording) -> Result<Vec<u8>, Exit>
+pub(crate) fn certified(alloc: Global, recording: Recording) -> Result<Vec<u8>, Exit>
     requires { Valid recording }
     ensures made { IfOk result (λ out. IsCertified recording out.items) }
     ensures promised { OnOk result (IsDeterminate Reduced recording × IsLeastIn recording) }
@@ -320,7 +296,7 @@ fn certified(alloc: Global, recording: Recording) -> Result<Vec<u8>, Exit>
 }
 
 /// The text of a check of the certificate.
-fn checked(alloc: Global, certificate: &Certificate) -> Result<Vec<u8>, Exit>
+pub(crate) fn checked(alloc: Global, certificate: &Certificate) -> Result<Vec<u8>, Exit>
     requires { IsCertificate certificate.now }
     ensures made { IfOk result (λ out. out.items ≡ checked_lines certificate.now) }
     ensures promised { OnOk result (Checks certificate.now) }

@@ -9,6 +9,7 @@ mod buffers;
 mod commands;
 mod cuts;
 mod environment;
+mod inputs;
 mod joint;
 mod laws;
 mod soak_texts;
