@@ -8,6 +8,8 @@ use Rattle.std.proofs.lemmas.Option.{none-some}
 use mathlib.Core.Option.{some, some-injective, some-ne-none}
 use lib.ListN.{get_elem?}
 use Rattle.image_mem.specs.Contents.{opening_word, opening_words}
+use Rattle.race_log.specs.declared.recording.Recording.{Recording}
+use Rattle.race_log.specs.Validity.{Valid}
 use Rattle.rv_core.specs.declared.core_state.Core.{Core}
 use Rattle.rv_core.specs.States.{starting}
 use Rattle.rv_core.proofs.LawLemmas.{start_law}
@@ -20,6 +22,10 @@ use Rattle.replay_table.specs.Rule.{Owns, Agrees, seen_of, IsRecorded, TableRule
 use Rattle.replay_table.specs.Seats.{Opening, Past, Tied}
 use Rattle.replay_table.specs.Kinds.{without_first, first_alone, own_from, first_own, first_view, rest_view, SplitsView}
 use Rattle.rtr_types.proofs.Ranges.{zero_at}
+
+-- a recording's cores are as many as its totals
+pub cores_are : {r s : Recording} → r ≡ s → Valid s → r.params.cores ≡ length s.totals
+cores_are is valid = ap (λ (x : Recording). x.params.cores) is ∙ sym valid.each_core
 
 first-id : (p : Plan) (c : ℕ) → (first_own p c).core.id ≡ c
 first-id p c = (start_law c p.limit).0

@@ -42,7 +42,7 @@ get-longer [] a x k e = absurd cc
 get-longer (y ∷ ys) a x zero e = e
 get-longer (y ∷ ys) a x (suc k) e = get-longer ys a x k e
 
-get-none : {A : Type 0} → (x : A) (k : ℕ) → slice_get [] k ≡ Some x → ⊥
+pub get-none : {A : Type 0} → (x : A) (k : ℕ) → slice_get [] k ≡ Some x → ⊥
 get-none x k e = cc
 
 get-some : {A : Type 0} → (xs : List A) (k : ℕ) → k < length xs → (x : A) × (slice_get xs k ≡ Some x)

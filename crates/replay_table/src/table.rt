@@ -1,6 +1,7 @@
 //! The table, and the calls that seats make on it.
 ghost use Rattle.std.specs.Prelude.{◌≡◌, ◌<◌, ◌≤◌, ◌+◌, ℕ, [], length, slice_index, false};
 ghost use Rattle.std.specs.Prelude.{IfOk, IsSome, IsTrue, Ok, Some};
+ghost use Rattle.image_mem.specs.Contents.{opening_words};
 ghost use Rattle.race_log.specs.Validity.{Valid};
 ghost use Rattle.rv_core.specs.declared.core_state.Need.TheVariants.{Local};
 ghost use Rattle.rv_core.specs.Needs.{is_reading, is_writing};
@@ -9,9 +10,10 @@ ghost use Rattle.replay_core.specs.Plans.{plan_of, recorded_image};
 ghost use Rattle.replay_audit.specs.Determinate.{IsDeterminate};
 ghost use Rattle.replay_table.specs.Accesses.{is_load, is_change, word_of};
 ghost use Rattle.replay_table.specs.Aheads.{Due};
+ghost use Rattle.replay_table.specs.Kinds.{first_alone, rest_view};
 ghost use Rattle.replay_table.specs.Rule.{seen_of};
 ghost use Rattle.replay_table.specs.Told.{ToldDone, ToldLoad, ToldHold, ToldStore, ToldPublish};
-ghost use Rattle.replay_table.specs.Seats.{Dealt, Exchanged, AtRest, IsLowValue, Opening};
+ghost use Rattle.replay_table.specs.Seats.{Dealt, Exchanged, AtRest, IsFresh, IsLowValue, Opening};
 
 use crate::job::Job;
 use crate::past::Past;
@@ -22,7 +24,7 @@ use crate::rules::{
 use crate::seat::CoreSeat;
 use crate::upcoming::Upcoming;
 use crate::view::View;
-use atomic_table::Table;
+use atomic_table::{Seat, Table};
 use image_mem::{Image, Memory};
 use race_log::Recording;
 use rtr_types::Which;
@@ -55,6 +57,7 @@ impl<'a, J: Job> Model for ReplayTable<'a, J> {
 }
 
 /// The words of the memory, and a 0 for each core.
+#[tactic(auto, using(crate::proofs::Openings::copied_more, crate::proofs::Openings::opening_none))]
 fn opening(alloc: Global, memory: &Memory, words: u32, cores: u8) -> Result<Vec<u64>, AllocError>
     requires { length memory.now ≡ words }
     ensures { IfOk result (λ list. Opening memory.now cores list.items) }
@@ -67,6 +70,55 @@ fn opening(alloc: Global, memory: &Memory, words: u32, cores: u8) -> Result<Vec<
         list.push(0)?;
     }
     Ok(list)
+}
+
+/// The program of the recording's image, and the words with which its table opens.
+fn opened(alloc: Global, recording: &Recording) -> Result<(Program, Vec<u64>), AllocError>
+    requires { Valid recording.now }
+    ensures program { IfOk result (λ o. o.0 ≡ recorded_image recording.now) }
+    ensures words { IfOk result (λ o. Opening (opening_words (recorded_image recording.now))
+        recording.now.params.cores o.1.items) }
+{
+    let params = recording.params;
+    let bytes = Vec::from_slice(alloc, recording.image.as_slice())?;
+    let Ok(image) = Image::flat(bytes, params.words) else {
+        unreachable!()
+    };
+    let memory = Memory::new(alloc, &image)?;
+    let program = Program::new(alloc, image)?;
+    let words = opening(alloc, &memory, params.words, params.cores)?;
+    Ok((program, words))
+}
+
+/// The seat of a core that has done nothing, on its own part of the table's rule.
+fn fresh_seat<J: Job>(
+    alloc: Global,
+    recording: &Recording,
+    which: Which,
+    program: &Program,
+    id: u8,
+    seat: Seat<u8, View>,
+) -> Result<CoreSeat<J>, AllocError>
+    requires valid { Valid J.recording }
+    requires recording { recording.now ≡ J.recording }
+    requires which { which ≡ J.which }
+    requires program { program.now ≡ recorded_image J.recording }
+    requires core { id < length J.recording.totals }
+    requires seat { seat.me ≡ (first_alone (rest_view (plan_of J.which J.recording) id), []) }
+    ensures table { IfOk result (λ s. s.table_id ≡ seat.table_id) }
+    ensures fresh { IfOk result (λ s. IsFresh (plan_of J.which J.recording) id s) }
+{
+    let seen = vec![in alloc; 0u32; recording.params.cores as usize]?;
+    let core = Core::new(id, recording.params.limit);
+    let upcoming = Upcoming::new(recording, which, program, &core);
+    Ok(CoreSeat {
+        past: Past::new(alloc, core),
+        upcoming,
+        seen,
+        held: None,
+        seat,
+        of: PhantomData,
+    })
 }
 
 impl<'a, J: Job> ReplayTable<'a, J> {
@@ -82,33 +134,16 @@ impl<'a, J: Job> ReplayTable<'a, J> {
         requires which { which ≡ J.which }
         ensures { IfOk result (λ t. Dealt (plan_of J.which J.recording) t.0 t.1.items) }
     {
-        let params = recording.params;
-        let bytes = Vec::from_slice(alloc, recording.image.as_slice())?;
-        let Ok(image) = Image::flat(bytes, params.words) else {
-            unreachable!()
-        };
-        let memory = Memory::new(alloc, &image)?;
-        let program = Program::new(alloc, image)?;
-        let words = opening(alloc, &memory, params.words, params.cores)?;
+        let (program, words) = opened(alloc, recording)?;
         let (table, mut clerk) = Table::<u8, View, (), RuleOf<J>, Global>::of_words(
             alloc,
             words.as_slice(),
             &(),
         )?;
         let mut seats = Vec::new(alloc);
-        for id in 0..params.cores {
-            let seen = vec![in alloc; 0u32; params.cores as usize]?;
-            let core = Core::new(id, params.limit);
-            let upcoming = Upcoming::new(recording, which, &program, &core);
+        for id in 0..recording.params.cores {
             let seat = table.shared.split_seat::<TakeFirst>(&mut clerk);
-            seats.push(CoreSeat {
-                past: Past::new(alloc, core),
-                upcoming,
-                seen,
-                held: None,
-                seat,
-                of: PhantomData,
-            })?;
+            seats.push(fresh_seat(alloc, recording, which, &program, id, seat)?)?;
         }
         Ok((
             ReplayTable {
