@@ -46,7 +46,7 @@ flat_none f none [] = refl
 flat_none f none (place ∷ places) =
     ap (λ (l : List Edge). l ++ flat_map f places) (none place) ∙ flat_none f none places
 
-no_log : (r : Recording) → log_edges Reduced (free_of r) ≡ []
+pub no_log : (r : Recording) → log_edges Reduced (free_of r) ≡ []
 unfolding log_edges
 no_log r = flat_none (edges_at Reduced (free_of r))
     (λ place. let n = pair_count r.params.cores in
@@ -63,10 +63,10 @@ module _ (which : Which) (r : Recording) (valid : Valid r) where
   abbrev q : Plan
   q = free_plan r
 
-  cores_are : length q.totals ≡ r.params.cores
+  pub cores_are : length q.totals ≡ r.params.cores
   cores_are = length-replicate r.params.cores r.params.limit
 
-  ready_free : (f : ℕ → ℕ) (s : Outcome) (c : ℕ) → counts_in s ≡ f → Ready p f c → is_ready q (counts_in s) c ≡ true
+  pub ready_free : (f : ℕ → ℕ) (s : Outcome) (c : ℕ) → counts_in s ≡ f → Ready p f c → is_ready q (counts_in s) c ≡ true
   ready_free f s c same ready =
       let inside = ready.inside in
       let all = valid.each_core in
@@ -82,7 +82,7 @@ module _ (which : Which) (r : Recording) (valid : Valid r) where
         sourced = subst (λ (es : List Edge). Sourced es (counts_in s) c (counts_in s c + 1)) (sym (no_log r)) tt;
       })
 
-  all_go : (f : ℕ → ℕ) (s : Outcome) (order : List ℕ) → PlayKnown p f s → Ordered p f order → Plays p s order →
+  pub all_go : (f : ℕ → ℕ) (s : Outcome) (order : List ℕ) → PlayKnown p f s → Ordered p f order → Plays p s order →
       left_by q s order ≡ play p s order
   unfolding left_by
   all_go f s [] known ordered plays = refl
@@ -93,7 +93,7 @@ module _ (which : Which) (r : Recording) (valid : Valid r) where
       ap (λ (t : Outcome). left_by q t cs) there
       ∙ all_go (bump f c) (place p s c) cs (place_known p f s c known ordered.0) ordered.1 plays.1
 
-  same_beginning : start q ≡ start p
+  pub same_beginning : start q ≡ start p
   same_beginning = same_start q p refl refl (cores_are ∙ sym valid.each_core)
 
   -- ---- the timeline as far as a cut
@@ -112,15 +112,15 @@ module _ (which : Which) (r : Recording) (valid : Valid r) where
     within : IsContained (empty_cut r.params.cores) cut
     within core = let none = none_in r.params.cores core in omega arith
 
-    ordered : Ordered p nought front
+    pub ordered : Ordered p nought front
     ordered = subst (λ (f : ℕ → ℕ). Ordered p f front) empty
         (ordered_way which r valid determinate (empty_cut r.params.cores) cut within closed front front_is)
 
-    leads : LeadsTo nought (count_in cut) front
+    pub leads : LeadsTo nought (count_in cut) front
     leads = subst (λ (f : ℕ → ℕ). LeadsTo f (count_in cut) front) empty
         (leading_way which r valid determinate (empty_cut r.params.cores) cut within closed front front_is)
 
-    plays_to : PlaysTo which r front state
+    pub plays_to : PlaysTo which r front state
     plays_to = is.every_order front (record { ordered = ordered; counts_are = leads })
 
     comes_to : left_by q (start q) front ≡ state

@@ -24,7 +24,7 @@ not_done true false goes = refl
 not_done false done goes = absurd (cc)
 
 module _ (p : Plan) (s : Outcome) (c : ℕ) (cs : List ℕ) where
-  taken_by : (b : Bool) → goes_on p s c ≡ b →
+  pub taken_by : (b : Bool) → goes_on p s c ≡ b →
       taken p s (c ∷ cs) ≡ (if b then c ∷ taken p (tried p s c) cs else taken p (tried p s c) cs)
   unfolding taken
   taken_by b is = ap (λ (t : Bool). if t then c ∷ taken p (tried p s c) cs else taken p (tried p s c) cs) is

@@ -4,3 +4,4 @@ pub mod Fronts
 pub mod Cuts
 pub mod OtherPlaces
 pub mod Rows
+pub mod OtherPlays

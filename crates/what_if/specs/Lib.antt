@@ -1,4 +1,5 @@
 pub mod Others
 pub mod Going
 pub mod Told
+pub mod Recorded
 pub mod Laws

@@ -18,7 +18,7 @@ use state_text::stop_name;
 use std::alloc::{AllocError, Global};
 
 /// That a part of a text was put.
-type Put = Result<(), AllocError>;
+pub type Put = Result<(), AllocError>;
 
 /// How each core ends if at a closed cut another core goes first, and the words that then differ from those at the end
 /// of the recording. It is refused for want of memory alone.
@@ -39,7 +39,7 @@ pub fn other_told(
 }
 
 /// The image that a run begins with.
-fn image_of(alloc: Global, recording: &Recording) -> Result<Image, AllocError>
+pub(crate) fn image_of(alloc: Global, recording: &Recording) -> Result<Image, AllocError>
     requires { Valid recording.now }
     ensures { IfOk result (λ image. image ≡ recorded_image recording.now) }
 {
@@ -102,7 +102,7 @@ fn put_core(text: &mut String, image: &Image, other: &Outcome, recorded: &Outcom
 }
 
 /// Puts how a core ends by an outcome.
-fn put_end(text: &mut String, image: &Image, outcome: &Outcome, core: u8) -> Put
+pub(crate) fn put_end(text: &mut String, image: &Image, outcome: &Outcome, core: u8) -> Put
     ensures { OnOk result (string_bytes text.new ≡ string_bytes text.old ++ end_text image.now outcome.now core) }
 {
     let count = count_of(outcome, core);
