@@ -2,7 +2,7 @@
 -- to.
 use Rattle.std.proofs.Common.{◌≡◌, ℕ, ◌+◌, ◌<◌, ◌≤◌, Bool, true, false, List, [], ◌∷◌, ◌++◌, length, take, drop, get_or}
 use Rattle.std.proofs.Common.{refl, sym, ap, subst, ◌∙◌, add-one, arith}
-use Rattle.std.specs.Prelude.{Option, Some, None, Result, Ok, Err, MatchOption, OnErr}
+use Rattle.std.specs.Prelude.{Option, Some, None, MatchOption}
 use Rattle.std.proofs.Math.Seq.{drop-cons}
 use Rattle.std.proofs.lemmas.List.{take-append-drop, take_all, take_more}
 use Rattle.rtr_types.specs.declared.cut.Cut.{Cut}
@@ -15,11 +15,11 @@ use Rattle.replay_core.specs.Orders.{counts_in}
 use Rattle.replay_core.specs.Plans.{Plan, plan_of}
 use Rattle.replay_core.specs.Play.{place, play}
 use Rattle.replay_core.proofs.Lists.{play_on}
-use Rattle.cut_replay.specs.ClosedCuts.{IsContained, count_in}
+use Rattle.cut_replay.specs.ClosedCuts.{count_in}
 use Rattle.cut_moves.specs.Rounds.{rounds_of}
 use Rattle.cut_moves.specs.Ways.{way_of}
-use Rattle.debug_place.specs.Places.{IsReplayAt, Placed, Stands, cut_at}
-use Rattle.debug_place.specs.Stops.{BreaksOff, GoesOn, IsFirstStop, NoneStops, way_to}
+use Rattle.debug_place.specs.Places.{IsReplayAt}
+use Rattle.debug_place.specs.Stops.{GoesOn, IsFirstStop, NoneStops}
 use Rattle.debug_place.specs.Walks.{EndsWalk, IsWalking}
 use Rattle.debug_place.proofs.OwnCuts.{own_at, own_cut, own_is}
 
@@ -92,18 +92,6 @@ past_none test which r to old places walking = record {
   gone_on = λ core. omega arith;
 }
 
--- one that didn't move broke off before the first place
-pub stayed : (test : Plan → Outcome → ℕ → Bool) (place : Placed) (to : Cut) → Stands place →
-    IsContained (cut_at place) to → BreaksOff test place to place
-stayed test place to stands within = record {
-  between = record { stands = stands; contains = λ core. omega arith; contained = within };
-  front = [];
-  rest = way_to place to;
-  split = refl;
-  before = tt;
-  state = refl;
-}
-
 -- ---- where a walk ends
 
 module _ (test : Plan → Outcome → ℕ → Bool) (which : Which) (r : Recording) (to : Cut) (old new : UnderWay)
@@ -118,11 +106,6 @@ module _ (test : Plan → Outcome → ℕ → Bool) (which : Which) (r : Recordi
       (λ core. IsFirstStop test (plan_of which r) old.state places core new.state)
   walk_wanted None ends = (ends.0, own_is ends.1 valid)
   walk_wanted (Some core) ends = ends.0
-
--- where a call was refused
-pub on_err : {T E : Type 0} (answer : Result T E) (P : Type 0) → P → OnErr answer P
-on_err (Ok x) P h = tt
-on_err (Err e) P h = h
 
 -- a place that went on as a walk did
 pub goes_by : (test : Plan → Outcome → ℕ → Bool) (which : Which) (r : Recording) → Valid r → (s t : Outcome) (to : Cut)

@@ -1,4 +1,4 @@
--- Rule: where a debugger stands: Placed, Stands, StandsBetween
+-- Rule: where a debugger stands: Placed, Stands
 -- Where a debugger stands: a closed cut of an audited recording, with its state.
 use Rattle.std.specs.Prelude.{◌≡◌, ℕ, List}
 use Rattle.rtr_types.specs.declared.cut.Cut.{Cut}
@@ -11,7 +11,7 @@ use Rattle.replay_core.specs.Orders.{counts_in}
 use Rattle.replay_core.specs.Plans.{Plan, plan_of}
 use Rattle.replay_audit.specs.Audits.{Findings}
 use Rattle.replay_audit.specs.Determinate.{IsDeterminate}
-use Rattle.cut_replay.specs.ClosedCuts.{IsClosed, IsContained}
+use Rattle.cut_replay.specs.ClosedCuts.{IsClosed}
 use Rattle.cut_replay.specs.CutStates.{IsStateAt}
 use Rattle.cut_moves.specs.Rounds.{rounds_of}
 
@@ -37,12 +37,6 @@ cut_at place = cut_of (plan_at place) (counts_in place.state)
 pub record Stands (place : Placed) : Type 0 where
   pub closed : IsClosed place.which place.recording (cut_at place)
   pub state : IsStateAt place.which place.recording (cut_at place) place.state
-
--- and its cut lies between these two
-pub record StandsBetween (low high : Cut) (place : Placed) : Type 0 where
-  pub stands : Stands place
-  pub contains : IsContained low (cut_at place)
-  pub contained : IsContained (cut_at place) high
 
 -- what a replay of this recording by this log shows stands at this cut
 pub record IsReplayAt (which : Which) (r : Recording) (cut : Cut) (replay : UnderWay) : Type 0 where

@@ -1,4 +1,4 @@
--- Rule: the first stop of a way: IsFirstStop, GoesOn, BreaksOff
+-- Rule: the first stop of a way: IsFirstStop, GoesOn
 -- What stops a replay that goes on: a test of its state, before a core takes its next instruction.
 use Rattle.std.specs.Prelude.{◌≡◌, ℕ, Bool, true, false, List, [], ◌∷◌, ◌++◌, Option, MatchOption}
 use Rattle.rtr_types.specs.declared.cut.Cut.{Cut}
@@ -8,7 +8,7 @@ use Rattle.replay_core.specs.Play.{place, play}
 use Rattle.cut_replay.specs.ClosedCuts.{count_in}
 use Rattle.cut_moves.specs.Rounds.{rounds_of}
 use Rattle.cut_moves.specs.Ways.{way_of}
-use Rattle.debug_place.specs.Places.{Placed, StandsBetween, cut_at, plan_at}
+use Rattle.debug_place.specs.Places.{Placed, cut_at, plan_at}
 
 -- it stops before none of these places, played from this state
 abbrev pub NoneStops : (test : Plan → Outcome → ℕ → Bool) → Plan → Outcome → List ℕ → Type 0
@@ -35,13 +35,3 @@ abbrev pub GoesOn : (test : Plan → Outcome → ℕ → Bool) → (old : Placed
 GoesOn test old to new stopped =
     MatchOption stopped (NoneStops test (plan_at old) old.state (way_to old to) × (cut_at new ≡ to))
     (λ core. IsFirstStop test (plan_at old) old.state (way_to old to) core new.state)
-
--- going on to a cut it broke off: it took a front of the way, stopped before none of its places, and stands between the
--- two cuts
-pub record BreaksOff (test : Plan → Outcome → ℕ → Bool) (old : Placed) (to : Cut) (new : Placed) : Type 0 where
-  pub between : StandsBetween (cut_at old) to new
-  pub front : List ℕ
-  pub rest : List ℕ
-  pub split : way_to old to ≡ front ++ rest
-  pub before : NoneStops test (plan_at old) old.state front
-  pub state : new.state ≡ play (plan_at old) old.state front

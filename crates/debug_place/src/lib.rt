@@ -10,10 +10,8 @@
 //! core's next instruction, and `step_back` to the greatest one without its last. `seek` and `move_on` come to the cut
 //! that is asked for. `go_to` comes to the first cut of the way at which a test stops it before a core's place, or to
 //! the way's end. `back` comes to the last such cut of the way here from the closed cut that is gone back to, or to
-//! that cut. `timeline` is the order by rounds. The test is any function of the state and the core. All are refused for
-//! want of memory alone. Then `seek`, `step_back` and `back` leave the place as it was. `move_on` and `step` leave it
-//! at a closed cut between where it was and where it was to go (`StandsBetween`). So does `go_to`, and the test stopped
-//! it before none of the places that it took (`BreaksOff`).
+//! that cut. `timeline` is the order by rounds. The test is any function of the state and the core. `seek` and `move_on`
+//! are never refused. The others are refused for want of memory alone, and then the place is where it was.
 #![tactic(auto)]
 
 mod backs;

@@ -1,15 +1,14 @@
 //! A place that moves.
-ghost use Rattle.std.specs.Prelude.{◌≡◌, ◌<◌, ◌↔◌, ℕ, IfOk, IsTrue, OnErr, OnOk, slice_index};
-ghost use Rattle.rtr_types.specs.declared.cut.Cut.{Cut};
+ghost use Rattle.std.specs.Prelude.{◌≡◌, ◌<◌, ◌↔◌, ℕ, IfOk, IsOk, IsTrue, OnErr, OnOk, slice_index};
 ghost use Rattle.replay_core.specs.Answers.{UsesWithin};
 ghost use Rattle.replay_core.specs.Play.{core_at, need_at, use_of};
 ghost use Rattle.replay_audit.specs.Audits.{IsInstrOf};
 ghost use Rattle.cut_replay.specs.ClosedCuts.{IsClosed, IsContained, count_in};
 ghost use Rattle.cut_moves.specs.Rounds.{rounds_of};
 ghost use Rattle.cut_moves.specs.Steps.{IsStep, IsStepBack, last_in, next_in};
-ghost use Rattle.debug_place.specs.Places.{IsKept, IsReplayAt, Stands, StandsBetween, cut_at, plan_at};
+ghost use Rattle.debug_place.specs.Places.{IsKept, IsReplayAt, Stands, cut_at, plan_at};
 ghost use Rattle.debug_place.specs.Backs.{GoesBack};
-ghost use Rattle.debug_place.specs.Stops.{BreaksOff, GoesOn};
+ghost use Rattle.debug_place.specs.Stops.{GoesOn};
 
 use crate::looks::last_stop;
 use crate::stops::Stops;
@@ -146,6 +145,7 @@ impl<'a> Place<'a> {
         ensures kept { IsKept self.old self.new }
         ensures ok { OnOk result (cut_at self.new ≡ to.now) }
         ensures err { OnErr result (self.new ≡ self.old) }
+        ensures never_refused { IsOk result }
     {
         // The audit passed, so the cut has a state.
         let _ = self.audited.outcome();
@@ -159,7 +159,7 @@ impl<'a> Place<'a> {
         requires within { IsContained (cut_at self.old) to.now }
         ensures kept { IsKept self.old self.new }
         ensures ok { OnOk result (cut_at self.new ≡ to.now) }
-        ensures err { OnErr result (StandsBetween (cut_at self.old) to.now self.new) }
+        ensures never_refused { IsOk result }
     {
         // The audit passed, so the cut has a state.
         let _ = self.audited.outcome();
@@ -189,14 +189,14 @@ impl<'a> Place<'a> {
     }
 
     /// Goes on to a closed cut that contains the present one, place by place along the timeline, until the test stops
-    /// it before a core takes its next instruction. It answers which core that is, or that it came to the cut. It is
-    /// refused for want of memory alone, and then the place is where it was.
+    /// it before a core takes its next instruction. It answers which core that is, or that it came to the cut. A refusal,
+    /// which comes for want of memory alone, leaves the place as it was.
     pub fn go_to<S: Stops>(&mut self, alloc: Global, stops: &S, to: &Cut) -> Stopped
         requires closed { IsClosed self.old.which self.old.recording to.now }
         requires within { IsContained (cut_at self.old) to.now }
         ensures kept { IsKept self.old self.new }
         ensures ok { IfOk result (GoesOn (S.stops stops.now) self.old to.now self.new) }
-        ensures err { OnErr result (BreaksOff (S.stops stops.now) self.old to.now self.new) }
+        ensures err { OnErr result (self.new ≡ self.old) }
     {
         // The audit passed, so each cut has one state.
         let _ = self.audited.outcome();
@@ -242,15 +242,14 @@ impl<'a> Place<'a> {
         }
     }
 
-    /// Steps a core: to the least closed cut that contains the present one and holds the core's next instruction. It is
-    /// refused for want of memory alone, and then the place is at a closed cut between the two.
+    /// Steps a core: to the least closed cut that contains the present one and holds the core's next instruction. A
+    /// refusal, which comes for want of memory alone, leaves the place as it was.
     pub fn step(&mut self, alloc: Global, core: u8) -> Result<(), AllocError>
         requires { IsInstrOf self.old.recording (next_in (cut_at self.old) core) }
         ensures kept { IsKept self.old self.new }
         ensures ok { OnOk result (IsStep self.old.which self.old.recording (cut_at self.old)
             (next_in (cut_at self.old) core) (cut_at self.new)) }
-        ensures err { OnErr result ((to : Cut) × IsStep self.old.which self.old.recording (cut_at self.old)
-            (next_in (cut_at self.old) core) to × StandsBetween (cut_at self.old) to self.new) }
+        ensures err { OnErr result (self.new ≡ self.old) }
     {
         let to = step(self.audited, &self.cut(), core)?;
         self.move_on(alloc, &to)

@@ -4,11 +4,11 @@ use Rattle.replay_core.specs.Answers.{UnderWay}
 use Rattle.cut_replay.specs.ClosedCuts.{IsClosed, IsContained, count_in}
 use Rattle.cut_index.specs.Standings.{reached}
 use Rattle.cut_moves.specs.Ways.{way_of}
-use Rattle.debug_place.specs.Places.{IsReplayAt, Placed, Stands, cut_at}
+use Rattle.debug_place.specs.Places.{IsReplayAt, Placed, cut_at}
 use Rattle.debug_place.specs.Stops.{GoesOn}
-use Rattle.debug_place.proofs.AtCuts.{closed_there, cut_is, place_stands, shown, shows_at, state_reached}
+use Rattle.debug_place.proofs.AtCuts.{closed_there, cut_is, shown, shows_at, state_reached}
 use Rattle.debug_place.proofs.OwnCuts.{own_cut, told_own}
-use Rattle.debug_place.proofs.StopTest.{at_walked, goes_by, on_err, stayed}
+use Rattle.debug_place.proofs.StopTest.{at_walked, goes_by}
 use Rattle.debug_place.proofs.place.Place.go_to.Goals as goal
 
 pub at-standing-requires : goal.at-standing-requires
@@ -73,12 +73,3 @@ returns-clause-ok g c =
     i.closed c.at-standing.result c.at-standing.ensures))
     (sym (state_reached a.which a.recording i.valid i.determinate c.cut-self-inside.result closed new at))
     c.in_ok-stopped.stopped c.in_ok-stopped.ensures.ok)
-
-pub returns-in_err-stopped-clause-err : goal.returns-in_err-stopped-clause-err
-returns-in_err-stopped-clause-err g c =
-    let a = c.self.inside.audited.now in
-    let i = c.self.invariant in
-    on_err c.from_residual.result _
-    (stayed (g.S.Stops.stops c.args.stops.now) c.args.self.now c.args.to.now
-    (subst Stands c.self.view_is (place_stands a.which a.recording i.valid i.determinate c.self.inside.cut i.closed))
-    c.requires.within)
