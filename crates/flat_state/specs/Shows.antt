@@ -27,6 +27,7 @@ use Rattle.msi_memory.specs.Memories.{port_at}
 use Rattle.msi_memory.specs.declared.port.Mail.{Mail}
 use Rattle.msi_memory.specs.declared.port.Port.{Port}
 use Rattle.msi_state.specs.declared.moves.Move.{Move}
+use Rattle.msi_state.specs.Events.{Event}
 use Rattle.msi_state.specs.Runs.{plain_event, plain_step}
 use Rattle.msi_state.specs.States.{PlainState, State, core_at}
 use Rattle.msi_state.specs.Steps.{enabled}
@@ -229,6 +230,12 @@ abbrev pub Makes : (old new : Flat) → Move → Type 0
 Makes old new m =
     (s : PlainState) (memory : ℕ → List ℕ) → Stands old s memory → enabled none_riding none_carrying s m ≡ true
     → Stands new (plain_step s m) (memory_after (plain_event s m) memory)
+
+-- what it tells of, wherever the one flat state stands
+abbrev pub Tells : (old : Flat) → Move → Event → Type 0
+Tells old m e =
+    (s : PlainState) (memory : ℕ → List ℕ) → Stands old s memory → enabled none_riding none_carrying s m ≡ true
+    → plain_event s m ≡ e
 
 -- ---- what the moves look at
 

@@ -1,6 +1,7 @@
 //! The messages from home that are on their way to a core.
-ghost use Rattle.std.specs.Prelude.{◌≡◌, ◌<◌, ◌++◌, ◌∷◌, [], false, length};
+ghost use Rattle.std.specs.Prelude.{◌≡◌, ◌<◌, ◌++◌, ◌∷◌, [], List, false, length};
 ghost use Rattle.link_order.specs.Queue.{is_nil};
+ghost use Rattle.flat_state.specs.declared.message_ring.Message.{Message};
 
 use std::marker::Model;
 
@@ -61,6 +62,15 @@ impl MessageRing {
         ensures { result ≡ is_nil self.now }
     {
         self.count == 0
+    }
+
+    /// The oldest message, which stays.
+    #[tactic(auto, using(crate::proofs::RingWrites::some_around))]
+    pub fn first(&self) -> Message
+        requires { is_nil self.now ≡ false }
+        ensures { (later : List Message) × (self.now ≡ result ∷ later) }
+    {
+        self.slots[self.first as usize]
     }
 
     /// Puts a message behind all others.

@@ -1,11 +1,13 @@
 //! A core, its lines, and what is on its way to and from it.
 ghost use Rattle.std.specs.Prelude.{◌≡◌, false};
+ghost use Rattle.msi_state.specs.Events.{next_instr};
 ghost use Rattle.rv_core.specs.Steps.{after, instruction_at, is_done, need, wrote};
 ghost use Rattle.flat_state.specs.Shows.{node_after};
 
 use crate::message_ring::MessageRing;
 use crate::reply_ring::ReplyRing;
 use msi_cache::State;
+use rtr_types::Instr;
 use rv_core::{Core, Need, Program};
 use rv_decode::Op;
 
@@ -46,6 +48,20 @@ pub struct Node {
 }
 
 impl Node {
+    /// The instruction that the core retires next.
+    #[tactic(auto, using(rv_core::proofs::LawLemmas::room_law))]
+    pub fn next_instr(&self, _program: &Program) -> Instr
+        requires { is_done (need _program.now self.now.core) ≡ false }
+        ensures { result ≡ next_instr self.now.core }
+    {
+        let core = &self.core;
+        prove!(core.count < core.limit);
+        Instr {
+            core: core.id(),
+            count: core.count() + 1,
+        }
+    }
+
     /// The core's next instruction retires, which finds this word if it looks at one. Answers the word that it leaves.
     pub fn retire(&mut self, program: &Program, before: u32) -> u32
         requires more { is_done (need program.now self.old.core) ≡ false }
