@@ -1,8 +1,8 @@
 //! Room for a block that nobody asked for yet.
-ghost use Rattle.std.specs.Prelude.{◌≡◌, ◌≢◌, ◌<◌, ◌*◌, ◌^◌, ℕ, IfOk, List, OnErr, OnOk, length};
+ghost use Rattle.std.specs.Prelude.{◌≡◌, ◌≢◌, ◌<◌, ◌*◌, ◌^◌, ◌++◌, ◌∷◌, [], ℕ, IfOk, List, OnErr, OnOk, length};
 ghost use Rattle.rtr_types.specs.declared.TheConstants.{BLOCK_WORDS};
 ghost use Rattle.msi_state.specs.States.{PlainState};
-ghost use Rattle.flat_state.specs.Shows.{Stands, home_at};
+ghost use Rattle.flat_state.specs.Shows.{Stands, blocks_of, home_at};
 ghost use Rattle.flat_start.specs.Starts.{block_start};
 
 use flat_state::{Flat, Held, HomeBlock};
@@ -17,7 +17,10 @@ pub fn make_entry(flat: &mut Flat, block: u32) -> Result<u32, AllocError>
     requires within { block * BLOCK_WORDS < flat.old.program.words }
     requires few { length flat.old.home.items < 2 ^ 32 }
     ensures stands { (s : PlainState) (memory : ℕ → List ℕ) → Stands flat.old s memory → Stands flat.new s memory }
+    ensures nodes { flat.new.nodes.items ≡ flat.old.nodes.items }
+    ensures image { flat.new.program ≡ flat.old.program }
     ensures place { IfOk result (λ place. place ≡ length flat.old.home.items) }
+    ensures blocks { OnOk result (blocks_of flat.new.home.items ≡ blocks_of flat.old.home.items ++ block ∷ []) }
     ensures entry { OnOk result (home_at flat.new.home.items (length flat.old.home.items)
         ≡ block_start flat.old.program block) }
     ensures others { (i : ℕ) → i < length flat.old.home.items
@@ -31,7 +34,7 @@ pub fn make_entry(flat: &mut Flat, block: u32) -> Result<u32, AllocError>
 }
 
 /// The entry of a block that nobody asked for, with the image's words.
-fn opening_entry(program: &Program, block: u32) -> HomeBlock
+pub fn opening_entry(program: &Program, block: u32) -> HomeBlock
     requires { block * BLOCK_WORDS < program.now.words }
     ensures { result ≡ block_start program.now block }
 {

@@ -8,5 +8,5 @@
 mod entries;
 mod opening;
 
-pub use entries::make_entry;
+pub use entries::{make_entry, opening_entry};
 pub use opening::start;

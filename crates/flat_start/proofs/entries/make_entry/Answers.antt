@@ -1,6 +1,8 @@
 use Rattle.std.proofs.Common.{◌∙◌, ap, refl, length, List, ◌++◌, ◌∷◌, []}
+use Rattle.std.proofs.lemmas.List.{map-append}
 use Rattle.flat_state.specs.declared.block.HomeBlock.{HomeBlock}
-use Rattle.flat_state.specs.Shows.{home_at}
+use Rattle.flat_state.specs.Shows.{blocks_of, home_at}
+use Rattle.flat_start.specs.Starts.{block_start}
 use Rattle.flat_start.proofs.MoreBlocks.{entry_kept, entry_new, entry_stands, on_err, same_stands}
 use Rattle.flat_start.proofs.entries.make_entry.Goals as goal
 
@@ -10,6 +12,13 @@ returns-clause-stands c = λ s memory stands.
     entry_stands f _ s memory c.args.block c.requires.new c.requires.within refl refl
     (c.in_ok-push.ensures.items
     ∙ ap (λ (b : HomeBlock). f.home.items ++ b ∷ []) c.opening_entry-entry.ensures) stands
+
+pub returns-clause-blocks : goal.returns-clause-blocks
+returns-clause-blocks c =
+    let f = c.args.flat.now in
+    ap blocks_of (c.in_ok-push.ensures.items
+    ∙ ap (λ (b : HomeBlock). f.home.items ++ b ∷ []) c.opening_entry-entry.ensures)
+    ∙ map-append (λ (b : HomeBlock). b.block) f.home.items (block_start f.program c.args.block ∷ [])
 
 pub returns-clause-entry : goal.returns-clause-entry
 returns-clause-entry c =
