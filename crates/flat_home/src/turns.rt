@@ -2,7 +2,7 @@
 ghost use Rattle.std.specs.Prelude.{◌≡◌, ◌<◌, false, length, true};
 ghost use Rattle.link_order.specs.Queue.{is_nil};
 ghost use Rattle.msi_state.specs.declared.moves.Move.{Move};
-ghost use Rattle.flat_state.specs.Shows.{IsSomewhere, Makes, home_at, node_at};
+ghost use Rattle.flat_state.specs.Shows.{IsSomewhere, Makes, blocks_of, home_at, node_at};
 ghost use Rattle.flat_home.specs.Tellings.{block_free};
 
 use crate::hearing::hear;
@@ -16,7 +16,8 @@ pub fn take_request(flat: &mut Flat, core: u8)
     requires core { core < length flat.old.nodes.items }
     requires asks { (node_at flat.old.nodes.items core).asks ≡ true }
     requires free { block_free (home_at flat.old.home.items (node_at flat.old.nodes.items core).place) ≡ true }
-    ensures { Makes flat.old flat.new (Move.Request core) }
+    ensures makes { Makes flat.old flat.new (Move.Request core) }
+    ensures blocks { blocks_of flat.new.home.items ≡ blocks_of flat.old.home.items }
 {
     let node = &mut flat.nodes[core as usize];
     node.asks = false;
@@ -31,7 +32,8 @@ pub fn take_response(flat: &mut Flat, core: u8)
     requires stands { IsSomewhere flat.old }
     requires core { core < length flat.old.nodes.items }
     requires some { is_nil (node_at flat.old.nodes.items core).replies ≡ false }
-    ensures { Makes flat.old flat.new (Move.Response core) }
+    ensures makes { Makes flat.old flat.new (Move.Response core) }
+    ensures blocks { blocks_of flat.new.home.items ≡ blocks_of flat.old.home.items }
 {
     let node = &mut flat.nodes[core as usize];
     let reply = node.replies.take();

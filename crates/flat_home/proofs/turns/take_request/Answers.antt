@@ -1,7 +1,8 @@
-use Rattle.std.proofs.Common.{◌≡◌, ◌∙◌, refl, subst, sym, ℕ, ◌<◌, ◌≤◌, arith, false, length}
+use Rattle.std.proofs.Common.{◌≡◌, ◌∙◌, ap, refl, subst, sym, ℕ, ◌<◌, ◌≤◌, arith, false, length}
 use Rattle.std.proofs.lemmas.List.{length-set}
+use Rattle.flat_state.specs.declared.block.HomeBlock.{HomeBlock}
 use Rattle.flat_state.specs.declared.node.Node.{Node}
-use Rattle.flat_state.proofs.HomeBlocks.{in_home}
+use Rattle.flat_state.proofs.HomeBlocks.{blocks_same, in_home}
 use Rattle.flat_state.proofs.NodeReads.{in_nodes}
 use Rattle.flat_home.proofs.Requests.{asked_lies, asker_below, call_empty, call_room, call_row, call_stands, call_there}
 use Rattle.flat_home.proofs.Requests.{can_take}
@@ -84,8 +85,8 @@ tell-requires-clause-room c =
     c.serve-telling.new.block c.serve-telling.result c.serve-telling.ensures
     (can_take f w.s w.memory c.args.core c.requires.core c.requires.asks w.stands c.requires.free)
 
-pub returns : goal.returns
-returns c = λ s memory stands on.
+pub returns-clause-makes : goal.returns-clause-makes
+returns-clause-makes c = λ s memory stands on.
     let f = c.args.flat.now in
     let n = c.index_mut-node.result.now in
     let b = c.index_mut-block.result.now in
@@ -96,3 +97,15 @@ returns c = λ s memory stands on.
     (in_home f.home.items n.place b lies c.index_mut-block.ensures.value) c.requires.asks stands
     c.serve-telling.new.block c.serve-telling.result c.serve-telling.ensures _ refl refl c.tell.ensures.long
     c.tell.ensures.nodes on
+
+pub returns-clause-blocks : goal.returns-clause-blocks
+returns-clause-blocks c =
+    let f = c.args.flat.now in
+    let w = c.requires.stands in
+    let n = c.index_mut-node.result.now in
+    let b = c.index_mut-block.result.now in
+    let is = in_nodes f.nodes.items c.args.core n c.requires.core c.index_mut-node.ensures.value in
+    let lies = subst (λ (x : Node). x.place < length f.home.items) (sym is)
+    (asked_lies f w.s w.memory c.args.core c.requires.core c.requires.asks w.stands) in
+    blocks_same f.home.items _ n.place _ refl (c.serve-telling.ensures.block
+    ∙ ap (λ (x : HomeBlock). x.block) (in_home f.home.items n.place b lies c.index_mut-block.ensures.value))

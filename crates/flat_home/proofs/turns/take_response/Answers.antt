@@ -1,8 +1,9 @@
 use Rattle.std.proofs.Common.{◌≡◌, ◌∙◌, ap, refl, subst, sym, ℕ, ◌<◌, ◌≤◌, arith, length}
 use Rattle.std.proofs.lemmas.List.{length-set}
 use Rattle.link_order.specs.Queue.{is_nil}
+use Rattle.flat_state.specs.declared.block.HomeBlock.{HomeBlock}
 use Rattle.flat_state.specs.declared.node.Node.{Node}
-use Rattle.flat_state.proofs.HomeBlocks.{in_home}
+use Rattle.flat_state.proofs.HomeBlocks.{blocks_same, in_home}
 use Rattle.flat_state.proofs.NodeReads.{in_nodes}
 use Rattle.flat_home.proofs.Responses.{hear_room, hear_stands, hear_there, reply_core, reply_lies, reply_names}
 use Rattle.flat_home.proofs.Responses.{reply_row}
@@ -106,8 +107,8 @@ tell-requires-clause-room c =
     (in_home f.home.items reply.place b lies c.index_mut-block.ensures.value) c.take-reply.ensures w.stands
     c.hear-telling.new.block c.hear-telling.result c.hear-telling.ensures
 
-pub returns : goal.returns
-returns c = λ s memory stands on.
+pub returns-clause-makes : goal.returns-clause-makes
+returns-clause-makes c = λ s memory stands on.
     let f = c.args.flat.now in
     let n = c.index_mut-node.result.now in
     let b = c.index_mut-block.result.now in
@@ -119,3 +120,16 @@ returns c = λ s memory stands on.
     (in_home f.home.items reply.place b lies c.index_mut-block.ensures.value) c.take-reply.ensures stands
     c.hear-telling.new.block c.hear-telling.result c.hear-telling.ensures _ refl refl c.tell.ensures.long
     c.tell.ensures.nodes on
+
+pub returns-clause-blocks : goal.returns-clause-blocks
+returns-clause-blocks c =
+    let f = c.args.flat.now in
+    let w = c.requires.stands in
+    let n = c.index_mut-node.result.now in
+    let b = c.index_mut-block.result.now in
+    let reply = c.take-reply.result in
+    let is = in_nodes f.nodes.items c.args.core n c.requires.core c.index_mut-node.ensures.value in
+    let lies = reply_lies f w.s w.memory c.args.core reply c.take-reply.new.self c.requires.core
+    (ap (λ (x : Node). x.replies) (sym is) ∙ c.take-reply.ensures) w.stands in
+    blocks_same f.home.items _ reply.place _ refl (c.hear-telling.ensures.block
+    ∙ ap (λ (x : HomeBlock). x.block) (in_home f.home.items reply.place b lies c.index_mut-block.ensures.value))
