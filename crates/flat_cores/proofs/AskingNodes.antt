@@ -47,7 +47,7 @@ use Rattle.flat_state.specs.Shows.{kept_line, line_at, no_line, node_at, seen_li
 use Rattle.flat_state.proofs.Frames.{moved_stands, node_same, shows_core}
 use Rattle.flat_state.proofs.HomeBlocks.{block_is}
 use Rattle.flat_state.proofs.NodeReads.{core_within, line_is, own_node}
-use Rattle.flat_cores.specs.Needs.{get_of, getting, is_copy, leaving, looked, node_asked, put_of, written}
+use Rattle.flat_cores.specs.Needs.{kind_of, get_of, getting, is_copy, leaving, looked, node_asked, put_of, written}
 use Rattle.flat_cores.proofs.Writes.{hit_by, write_needed}
 
 -- the block that a line of this block is for, once this is asked for it
@@ -375,9 +375,9 @@ pub upgrade_stands : (f f' : Flat) (s : PlainState) (memory : ℕ → List ℕ) 
     Stands f s memory → enabled none_riding none_carrying s (CoreMove c) ≡ true →
     Stands f' (plain_step s (CoreMove c)) (memory_after (plain_event s (CoreMove c)) memory)
 upgrade_stands f f' s memory c word n n' line within is writes shared same line_eq new program home nodes stands on =
-    asked_stands f s memory c word need_is.0 within need_is.1
-    (missed_shared (is_write need_is.0) (word / BLOCK_WORDS) own need_is.2 shared) stands on f' n n' line GetM is new
-    row
+    asked_stands f s memory c word (kind_of m.need) within need_is.0
+    (missed_shared (is_write (kind_of m.need)) (word / BLOCK_WORDS) own need_is.1 shared) stands on f' n n' line GetM is
+    new row
     (ap (λ (l : KeptLine). l.block) line_own ∙ same)
     (subst (λ (l : KeptLine). l.place < length (blocks_of f.home.items)) (sym line_own) placed.0)
     (subst (λ (l : KeptLine). block_at (blocks_of f.home.items) l.place ≡ l.block) (sym line_own) placed.1)
@@ -396,17 +396,17 @@ upgrade_stands f f' s memory c word n n' line within is writes shared same line_
     placed = own_placed f s memory c (word / BLOCK_WORDS % LINES) within (omega arith) (shared_holds own.state shared)
         stands
 
-    need_is : (kind : Kind) × (need_access m.need ≡ Some (kind, word)) × (is_write kind ≡ true)
+    need_is : (need_access m.need ≡ Some (kind_of m.need, word)) × (is_write (kind_of m.need) ≡ true)
     need_is = write_needed m.need word writes
 
     here : (own.block == (word / BLOCK_WORDS)) ≡ true
     here = eq-eqb own.block (word / BLOCK_WORDS) same
 
-    row : want_row own.state (own.block == (word / BLOCK_WORDS)) (is_write need_is.0)
+    row : want_row own.state (own.block == (word / BLOCK_WORDS)) (is_write (kind_of m.need))
         ≡ Some (row_of (asked_as GetM) line.state)
-    row = ap (λ (x : LineState). want_row x (own.block == (word / BLOCK_WORDS)) (is_write need_is.0)) shared
-        ∙ (ap (λ (t : Bool). want_row S t (is_write need_is.0)) here
-        ∙ (ap (λ (t : Bool). want_row S true t) need_is.2
+    row = ap (λ (x : LineState). want_row x (own.block == (word / BLOCK_WORDS)) (is_write (kind_of m.need))) shared
+        ∙ (ap (λ (t : Bool). want_row S t (is_write (kind_of m.need))) here
+        ∙ (ap (λ (t : Bool). want_row S true t) need_is.1
         ∙ ap (λ (l : KeptLine). Some (row_of Asking.GetM l.state)) (sym line_own)))
 
 pub give_back_stands : (f f' : Flat) (s : PlainState) (memory : ℕ → List ℕ) (c word : ℕ) (n n' : Node)

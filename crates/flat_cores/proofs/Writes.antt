@@ -13,6 +13,7 @@ use Rattle.rtr_types.specs.declared.TheConstants.{BLOCK_WORDS, LINES}
 use Rattle.rtr_types.specs.declared.access.Access.{Access}
 use Rattle.rtr_types.specs.declared.access.Kind.{Kind}
 use Rattle.rtr_types.specs.declared.access.Kind.TheVariants.{Store as Storing, Amo as Exchanging}
+use Rattle.rtr_types.specs.declared.instr.Instr.{Instr}
 use Rattle.rv_core.specs.Steps.{after, is_done, need, wrote, access_of as need_access}
 use Rattle.rv_core.specs.declared.core_state.Core.{Core}
 use Rattle.rv_core.specs.declared.core_state.Need.{Need}
@@ -29,7 +30,7 @@ use Rattle.msi_memory.specs.declared.port.Port.{Port}
 use Rattle.msi_laws.proofs.Properties.{finds_words}
 use Rattle.msi_laws.specs.Words.{memory_by}
 use Rattle.msi_state.specs.declared.moves.Move.TheVariants.{Core as CoreMove}
-use Rattle.msi_state.specs.Events.{Nothing, Accesses, access_of, event_working_in}
+use Rattle.msi_state.specs.Events.{Nothing, Accesses, access_of, event_working_in, next_instr}
 use Rattle.msi_state.specs.Runs.{plain_event, plain_step}
 use Rattle.msi_state.specs.States.{PlainState, core_at}
 use Rattle.msi_state.specs.Steps.{enabled}
@@ -46,8 +47,8 @@ use Rattle.flat_state.specs.Shows.{kept_line, line_at, node_after, node_at, owns
 use Rattle.flat_state.proofs.HomeBlocks.{block_is, block_same, blocks_same, elsewhere_now, here_now, home_set, longer}
 use Rattle.flat_state.proofs.HomeBlocks.{place_within, shorter}
 use Rattle.flat_state.proofs.NodeReads.{core_within, line_is, own_node}
-use Rattle.flat_cores.specs.Needs.{written}
-use Rattle.flat_cores.proofs.Hits.{block_of_hit, worked_stands}
+use Rattle.flat_cores.specs.Needs.{kind_of, written}
+use Rattle.flat_cores.proofs.Hits.{block_of_hit, told_access, worked_stands}
 
 -- the block with other words
 abbrev pub block_with : HomeBlock → List ℕ → HomeBlock
@@ -146,127 +147,132 @@ writable_holds state true both none =
 
 -- an instruction that writes needs an access of such a kind
 pub write_needed : (x : Need) (word : ℕ) → written x ≡ Some word →
-    (kind : Kind) × (need_access x ≡ Some (kind, word)) × (is_write kind ≡ true)
+    (need_access x ≡ Some (kind_of x, word)) × (is_write (kind_of x) ≡ true)
 write_needed Local word is = absurd (cc)
 write_needed (Load at) word is = absurd (cc)
-write_needed (Store at whole) word is = (Storing, ap kinded is, refl)
+write_needed (Store at whole) word is = (ap kinded is, refl)
   where
     kinded : Option ℕ → Option (Kind × ℕ)
     kinded None = None
     kinded (Some w) = Some (Storing, w)
-write_needed (Amo at) word is = (Exchanging, ap kinded is, refl)
+write_needed (Amo at) word is = (ap kinded is, refl)
   where
     kinded : Option ℕ → Option (Kind × ℕ)
     kinded None = None
     kinded (Some w) = Some (Exchanging, w)
 write_needed (Done stop) word is = absurd (cc)
 
-pub write_stands : (f f' : Flat) (s : PlainState) (memory : ℕ → List ℕ) (c word before value : ℕ) (kind : Kind)
-    (n n' : Node) (b : HomeBlock) → is_write kind ≡ true →
-    c < length f.nodes.items → n ≡ node_at f.nodes.items c → n' ≡ node_after f.program n n.core before →
-    value ≡ wrote f.program n.core before →
-    b ≡ home_at f.home.items (line_at n (word / BLOCK_WORDS % LINES)).place →
-    before ≡ slice_index b.words (word % BLOCK_WORDS) →
-    f'.program ≡ f.program →
-    f'.home.items ≡ slice_set f.home.items (line_at n (word / BLOCK_WORDS % LINES)).place
-    (block_with b (slice_set b.words (word % BLOCK_WORDS) value)) →
-    f'.nodes.items ≡ slice_set f.nodes.items c n' →
-    need_access (node_at f.nodes.items c).need ≡ Some (kind, word) →
-    owns (node_at f.nodes.items c) (word / BLOCK_WORDS) ≡ true →
-    Stands f s memory → enabled none_riding none_carrying s (CoreMove c) ≡ true →
-    Stands f' (plain_step s (CoreMove c)) (memory_after (plain_event s (CoreMove c)) memory)
-write_stands f f' s memory c word before value kind n n' b writes within is new put found read program home nodes store
-    hit stands on =
-    worked_stands f f' s memory c before n n' (Accesses a) within is new program same_blocks
-    (home_words tt f.home.items f'.home.items s.memory.home line.place (slice_set b0.words slot a.after) lies home_is
-    stands.shows.home)
-    (subst (λ (x : ℕ). WordsKept s.image f'.home.items (memory_by x slot kind a.after memory)) block_there
-    (words_stored tt s.image f.home.items f'.home.items s.memory.home line.place slot a.after kind memory writes lies
-    home_is stands.shows.home stands.words))
-    nodes event_is (ap (after s.image core) (sym before_is)) (λ needed p. refl) on stands
-  where
-    block : ℕ
-    block = word / BLOCK_WORDS
+module _ (f : Flat) (s : PlainState) (memory : ℕ → List ℕ) (c word before value : ℕ) (kind : Kind)
+    (n : Node) (b : HomeBlock) (writes : is_write kind ≡ true) (within : c < length f.nodes.items)
+    (is : n ≡ node_at f.nodes.items c) (put : value ≡ wrote f.program n.core before)
+    (found : b ≡ home_at f.home.items (line_at n (word / BLOCK_WORDS % LINES)).place)
+    (read : before ≡ slice_index b.words (word % BLOCK_WORDS))
+    (store : need_access (node_at f.nodes.items c).need ≡ Some (kind, word))
+    (hit : owns (node_at f.nodes.items c) (word / BLOCK_WORDS) ≡ true) (stands : Stands f s memory) where
+  abbrev block : ℕ
+  block = word / BLOCK_WORDS
 
-    slot : ℕ
-    slot = word % BLOCK_WORDS
+  abbrev slot : ℕ
+  slot = word % BLOCK_WORDS
 
-    m : Node
-    m = node_at f.nodes.items c
+  abbrev m : Node
+  m = node_at f.nodes.items c
 
-    inside : c < length s.cores
-    inside = core_within f s c stands.shows within
+  inside : c < length s.cores
+  inside = core_within f s c stands.shows within
 
-    there : c < length s.memory.ports
-    there = subst (λ (k : ℕ). c < k) (sym stands.holds.ports_there) inside
+  there : c < length s.memory.ports
+  there = subst (λ (k : ℕ). c < k) (sym stands.holds.ports_there) inside
 
-    core : Core
-    core = core_at s.cores c
+  abbrev core : Core
+  core = core_at s.cores c
 
-    p : Port (Unit {0}) (Unit {0})
-    p = port_at none_carrying s.memory.ports c
+  abbrev p : Port (Unit {0}) (Unit {0})
+  p = port_at none_carrying s.memory.ports c
 
-    own : NodeShows s.image (blocks_of f.home.items) m core p
-    own = stands.shows.nodes c inside
+  own : NodeShows s.image (blocks_of f.home.items) m core p
+  own = stands.shows.nodes c inside
 
-    a : Access
-    a = access_of s.image none_riding core p word kind
+  abbrev a : Access
+  a = access_of s.image none_riding core p word kind
 
-    line : KeptLine
-    line = line_at m (block % LINES)
+  abbrev line : KeptLine
+  line = line_at m (block % LINES)
 
-    b0 : HomeBlock
-    b0 = home_at f.home.items line.place
+  abbrev b0 : HomeBlock
+  b0 = home_at f.home.items line.place
 
-    needed : need_access (need s.image core) ≡ Some (kind, word)
-    needed = ap need_access (sym own.need) ∙ store
+  needed : need_access (need s.image core) ≡ Some (kind, word)
+  needed = ap need_access (sym own.need) ∙ store
 
-    allowed : allows none_riding p block kind ≡ true
-    allowed = ap (hit_by (is_write kind) block)
-        (sym (line_is s.image (blocks_of f.home.items) m core p tt (block % LINES) own))
-        ∙ (ap (λ (w : Bool). hit_by w block (kept_line line)) writes ∙ hit)
+  allowed : allows none_riding p block kind ≡ true
+  allowed = ap (hit_by (is_write kind) block)
+      (sym (line_is s.image (blocks_of f.home.items) m core p tt (block % LINES) own))
+      ∙ (ap (λ (w : Bool). hit_by w block (kept_line line)) writes ∙ hit)
 
-    event_is : plain_event s (CoreMove c) ≡ Accesses a
-    event_is = ap (λ (x : Option (Kind × ℕ)). event_working_in x (is_done (need s.image core)) s.image none_riding core
-        p) needed ∙ ap (λ (t : Bool). if t then Accesses a else Nothing) allowed
+  event_is : plain_event s (CoreMove c) ≡ Accesses a
+  event_is = ap (λ (x : Option (Kind × ℕ)). event_working_in x (is_done (need s.image core)) s.image none_riding core
+      p) needed ∙ ap (λ (t : Bool). if t then Accesses a else Nothing) allowed
 
-    placed : (line.place < length (blocks_of f.home.items)) × (block_at (blocks_of f.home.items) line.place ≡
-        line.block)
-    placed = own.placed (block % LINES) (omega arith) (writable_holds line.state (line.block == block) hit)
+  placed : (line.place < length (blocks_of f.home.items)) × (block_at (blocks_of f.home.items) line.place ≡
+      line.block)
+  placed = own.placed (block % LINES) (omega arith) (writable_holds line.state (line.block == block) hit)
 
-    lies : line.place < length f.home.items
-    lies = place_within f.home.items line.place placed.0
+  lies : line.place < length f.home.items
+  lies = place_within f.home.items line.place placed.0
 
-    block_there : b0.block ≡ block
-    block_there = sym (block_is f.home.items line.place) ∙ (placed.1 ∙ block_of_hit line.block block
-        (is_writable line.state) hit)
+  block_there : b0.block ≡ block
+  block_there = sym (block_is f.home.items line.place) ∙ (placed.1 ∙ block_of_hit line.block block
+      (is_writable line.state) hit)
 
-    b_is : b ≡ b0
-    b_is = found ∙ ap (λ (x : Node). home_at f.home.items (line_at x (block % LINES)).place) is
+  b_is : b ≡ b0
+  b_is = found ∙ ap (λ (x : Node). home_at f.home.items (line_at x (block % LINES)).place) is
 
-    words : b0.words ≡ (line_for tt p.cache block).words
-    words = stands.words.here line.place lies ∙ (ap memory block_there ∙ sym (finds_words none_riding none_carrying
-        s.memory c block kind memory stands.holds.memory there allowed stands.coherent))
+  words : b0.words ≡ (line_for tt p.cache block).words
+  words = stands.words.here line.place lies ∙ (ap memory block_there ∙ sym (finds_words none_riding none_carrying
+      s.memory c block kind memory stands.holds.memory there allowed stands.coherent))
 
-    before_is : before ≡ a.before
-    before_is = read ∙ (ap (λ (x : HomeBlock). slice_index x.words slot) b_is
-        ∙ ap (λ (l : List ℕ). slice_index l slot) words)
+  before_is : before ≡ a.before
+  before_is = read ∙ (ap (λ (x : HomeBlock). slice_index x.words slot) b_is
+      ∙ ap (λ (l : List ℕ). slice_index l slot) words)
 
-    value_is : value ≡ a.after
-    value_is = put ∙ (ap (λ (x : Node). wrote f.program x.core before) is
-        ∙ (ap (λ (i : Contents). wrote i m.core before) stands.shows.image
-        ∙ (ap (λ (k : Core). wrote s.image k before) own.core_is ∙ ap (wrote s.image core) before_is)))
+  value_is : value ≡ a.after
+  value_is = put ∙ (ap (λ (x : Node). wrote f.program x.core before) is
+      ∙ (ap (λ (i : Contents). wrote i m.core before) stands.shows.image
+      ∙ (ap (λ (k : Core). wrote s.image k before) own.core_is ∙ ap (wrote s.image core) before_is)))
 
-    home_is : f'.home.items ≡ slice_set f.home.items line.place (block_with b0 (slice_set b0.words slot a.after))
-    home_is = home ∙ (ap (λ (x : Node). slice_set f.home.items (line_at x (block % LINES)).place (block_with b
-        (slice_set
-        b.words slot value))) is
-        ∙ (ap (λ (x : HomeBlock). slice_set f.home.items line.place (block_with x (slice_set x.words slot value))) b_is
-        ∙ ap (λ (v : ℕ). slice_set f.home.items line.place (block_with b0 (slice_set b0.words slot v))) value_is))
+  pub write_stands : (f' : Flat) (n' : Node) → n' ≡ node_after f.program n n.core before →
+      f'.program ≡ f.program →
+      f'.home.items ≡ slice_set f.home.items (line_at n (word / BLOCK_WORDS % LINES)).place
+      (block_with b (slice_set b.words (word % BLOCK_WORDS) value)) →
+      f'.nodes.items ≡ slice_set f.nodes.items c n' → enabled none_riding none_carrying s (CoreMove c) ≡ true →
+      Stands f' (plain_step s (CoreMove c)) (memory_after (plain_event s (CoreMove c)) memory)
+  write_stands f' n' new program home nodes on =
+      worked_stands f f' s memory c before n n' (Accesses a) within is new program same_blocks
+      (home_words tt f.home.items f'.home.items s.memory.home line.place (slice_set b0.words slot a.after) lies home_is
+      stands.shows.home)
+      (subst (λ (x : ℕ). WordsKept s.image f'.home.items (memory_by x slot kind a.after memory)) block_there
+      (words_stored tt s.image f.home.items f'.home.items s.memory.home line.place slot a.after kind memory writes lies
+      home_is stands.shows.home stands.words))
+      nodes event_is (ap (after s.image core) (sym before_is)) (λ needed p. refl) on stands
+    where
+      home_is : f'.home.items ≡ slice_set f.home.items line.place (block_with b0 (slice_set b0.words slot a.after))
+      home_is = home ∙ (ap (λ (x : Node). slice_set f.home.items (line_at x (block % LINES)).place (block_with b
+          (slice_set
+          b.words slot value))) is
+          ∙ (ap (λ (x : HomeBlock). slice_set f.home.items line.place (block_with x (slice_set x.words slot value))) b_is
+          ∙ ap (λ (v : ℕ). slice_set f.home.items line.place (block_with b0 (slice_set b0.words slot v))) value_is))
 
-    same_blocks : blocks_of f'.home.items ≡ blocks_of f.home.items
-    same_blocks = blocks_same f.home.items f'.home.items line.place (block_with b0 (slice_set b0.words slot a.after))
-        home_is refl
+      same_blocks : blocks_of f'.home.items ≡ blocks_of f.home.items
+      same_blocks = blocks_same f.home.items f'.home.items line.place (block_with b0 (slice_set b0.words slot a.after))
+          home_is refl
+
+  -- its access is told
+  pub write_told : (at : Instr) → at ≡ next_instr n.core → plain_event s (CoreMove c)
+      ≡ Accesses (record { at = at; word = word; kind = kind; before = before; after = value })
+  write_told at at_is =
+      event_is ∙ ap Accesses (told_access f.program s.image n.core core word kind before a.before value at
+      stands.shows.image (ap (λ (x : Node). x.core) is ∙ own.core_is) before_is at_is put)
 
 -- a core that writes isn't done
 pub write_going : (x : Need) (word : ℕ) → written x ≡ Some word → is_done x ≡ false

@@ -1,5 +1,7 @@
 -- What a core's own move looks at, and how it asks.
 use Rattle.std.specs.Prelude.{ℕ, Bool, true, false, Option, Some, None, slice_set}
+use Rattle.rtr_types.specs.declared.access.Kind.{Kind}
+use Rattle.rtr_types.specs.declared.access.Kind.TheVariants.{Load as Loading, Store as Storing, Amo as Exchanging}
 use Rattle.rv_core.specs.declared.core_state.Need.{Need}
 use Rattle.rv_core.specs.declared.core_state.Need.TheVariants.{Load, Store, Amo}
 use Rattle.msi_cache.specs.declared.line.State.{State as LineState}
@@ -21,6 +23,12 @@ looked (Load word) = Some word
 looked (Store word whole) = Some word
 looked (Amo word) = Some word
 looked _ = None
+
+-- the kind of its access, which is a load's where it needs none
+abbrev pub kind_of : Need → Kind
+kind_of (Store word whole) = Storing
+kind_of (Amo word) = Exchanging
+kind_of _ = Loading
 
 -- a copy that its core may read, and that waits for nothing
 abbrev pub is_copy : LineState → Bool

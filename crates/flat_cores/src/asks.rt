@@ -3,7 +3,7 @@ ghost use Rattle.std.specs.Prelude.{◌≡◌, ◌<◌, ◌/◌, ◌%◌, ◌==�
 ghost use Rattle.rtr_types.specs.declared.TheConstants.{BLOCK_WORDS, LINES};
 ghost use Rattle.msi_cache.specs.declared.line.State.TheVariants.{I, S};
 ghost use Rattle.msi_state.specs.declared.moves.Move.{Move};
-ghost use Rattle.flat_state.specs.Shows.{IsSomewhere, Makes, home_at, line_at, node_at};
+ghost use Rattle.flat_state.specs.Shows.{IsSomewhere, Makes, blocks_of, home_at, line_at, node_at};
 ghost use Rattle.flat_cores.specs.Needs.{get_of, getting, is_copy, leaving, looked, node_asked, put_of, written};
 
 use flat_state::{Ask, Flat, KeptLine, Node};
@@ -20,7 +20,8 @@ pub fn ask_for(flat: &mut Flat, core: u8, word: u32, place: u32)
     requires missing { (line_at (node_at flat.old.nodes.items core) (word / BLOCK_WORDS % LINES)).state ≡ I }
     requires place { place < length flat.old.home.items }
     requires block { (home_at flat.old.home.items place).block ≡ word / BLOCK_WORDS }
-    ensures { Makes flat.old flat.new (Move.Core core) }
+    ensures makes { Makes flat.old flat.new (Move.Core core) }
+    ensures blocks { blocks_of flat.new.home.items ≡ blocks_of flat.old.home.items }
 {
     let node = &mut flat.nodes[core as usize];
     let state = getting(node.need);
@@ -41,7 +42,8 @@ pub fn upgrade(flat: &mut Flat, core: u8, word: u32)
     requires shared { (line_at (node_at flat.old.nodes.items core) (word / BLOCK_WORDS % LINES)).state ≡ S }
     requires block { (line_at (node_at flat.old.nodes.items core) (word / BLOCK_WORDS % LINES)).block
         ≡ word / BLOCK_WORDS }
-    ensures { Makes flat.old flat.new (Move.Core core) }
+    ensures makes { Makes flat.old flat.new (Move.Core core) }
+    ensures blocks { blocks_of flat.new.home.items ≡ blocks_of flat.old.home.items }
 {
     let node = &mut flat.nodes[core as usize];
     let index = word as usize / BLOCK_WORDS % LINES;
@@ -60,7 +62,8 @@ pub fn give_back(flat: &mut Flat, core: u8, word: u32)
     requires copy { is_copy (line_at (node_at flat.old.nodes.items core) (word / BLOCK_WORDS % LINES)).state ≡ true }
     requires other { ((line_at (node_at flat.old.nodes.items core) (word / BLOCK_WORDS % LINES)).block
         == (word / BLOCK_WORDS)) ≡ false }
-    ensures { Makes flat.old flat.new (Move.Core core) }
+    ensures makes { Makes flat.old flat.new (Move.Core core) }
+    ensures blocks { blocks_of flat.new.home.items ≡ blocks_of flat.old.home.items }
 {
     let node = &mut flat.nodes[core as usize];
     let index = word as usize / BLOCK_WORDS % LINES;

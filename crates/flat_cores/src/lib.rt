@@ -9,4 +9,4 @@ mod asks;
 mod retire;
 
 pub use asks::{ask_for, give_back, upgrade};
-pub use retire::{retire_load, retire_local, retire_write};
+pub use retire::{kind_of, retire_load, retire_local, retire_write};

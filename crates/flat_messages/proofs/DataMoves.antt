@@ -12,6 +12,7 @@ use Rattle.rtr_types.specs.Accesses.{is_write}
 use Rattle.rtr_types.specs.declared.TheConstants.{BLOCK_WORDS, LINES}
 use Rattle.rtr_types.specs.declared.access.Access.{Access}
 use Rattle.rtr_types.specs.declared.access.Kind.{Kind}
+use Rattle.rtr_types.specs.declared.instr.Instr.{Instr}
 use Rattle.rv_core.specs.Steps.{after, is_done, need, wrote, access_of as need_access}
 use Rattle.rv_core.specs.declared.core_state.Core.{Core}
 use Rattle.rv_core.specs.declared.core_state.Need.{Need}
@@ -28,7 +29,7 @@ use Rattle.msi_laws.proofs.PortsAndBlocks.{message_row}
 use Rattle.msi_laws.specs.Waits.{Awaited, serves}
 use Rattle.msi_laws.specs.Words.{memory_by}
 use Rattle.msi_state.specs.declared.moves.Move.TheVariants.{FromHome as MessageMove}
-use Rattle.msi_state.specs.Events.{Accesses, Event, Nothing, access_of, event_working_in, port_taken}
+use Rattle.msi_state.specs.Events.{Accesses, Event, Nothing, access_of, event_working_in, next_instr, port_taken}
 use Rattle.msi_state.specs.Runs.{plain_event, plain_step}
 use Rattle.msi_state.specs.States.{PlainState, core_at}
 use Rattle.msi_state.specs.Steps.{enabled}
@@ -47,6 +48,8 @@ use Rattle.flat_state.proofs.Frames.{moved_stands, node_same, shows_message}
 use Rattle.flat_state.proofs.HomeBlocks.{block_is, blocks_same}
 use Rattle.flat_state.proofs.NodeReads.{core_within}
 use Rattle.flat_state.proofs.Retired.{node_retired}
+use Rattle.flat_cores.specs.Needs.{kind_of}
+use Rattle.flat_cores.proofs.Hits.{told_access}
 use Rattle.flat_cores.proofs.Writes.{block_with, home_words, words_stored}
 use Rattle.flat_messages.specs.Heard.{is_data, left_by, node_heard, word_of, writes}
 use Rattle.flat_messages.proofs.WordMoves.{can_hear, data_comes, first_mail, heard_event, own_shows, port_inside}
@@ -54,17 +57,29 @@ use Rattle.flat_messages.proofs.WordMoves.{taken_shows, told_lies}
 
 -- a need that is an access is to this word, and writes as its kind does
 needed_word : (x : Need) (kind : Kind) (word : ℕ) → need_access x ≡ Some (kind, word) →
-    (word_of x ≡ word) × (writes x ≡ is_write kind) × (is_done x ≡ false)
+    (word_of x ≡ word) × (writes x ≡ is_write kind) × (is_done x ≡ false) × (kind_of x ≡ kind)
 needed_word Local kind word is = absurd (cc)
 needed_word (Load at) kind word is =
-    let same = some_same _ _ is in
-    (ap (λ (k : Kind × ℕ). k.1) same, ap (λ (k : Kind × ℕ). is_write k.0) same, refl)
+    let same = some_same _ _ is in (
+      ap (λ (k : Kind × ℕ). k.1) same,
+      ap (λ (k : Kind × ℕ). is_write k.0) same,
+      refl,
+      ap (λ (k : Kind × ℕ). k.0) same,
+    )
 needed_word (Store at whole) kind word is =
-    let same = some_same _ _ is in
-    (ap (λ (k : Kind × ℕ). k.1) same, ap (λ (k : Kind × ℕ). is_write k.0) same, refl)
+    let same = some_same _ _ is in (
+      ap (λ (k : Kind × ℕ). k.1) same,
+      ap (λ (k : Kind × ℕ). is_write k.0) same,
+      refl,
+      ap (λ (k : Kind × ℕ). k.0) same,
+    )
 needed_word (Amo at) kind word is =
-    let same = some_same _ _ is in
-    (ap (λ (k : Kind × ℕ). k.1) same, ap (λ (k : Kind × ℕ). is_write k.0) same, refl)
+    let same = some_same _ _ is in (
+      ap (λ (k : Kind × ℕ). k.1) same,
+      ap (λ (k : Kind × ℕ). is_write k.0) same,
+      refl,
+      ap (λ (k : Kind × ℕ). k.0) same,
+    )
 needed_word (Done stop) kind word is = absurd (cc)
 
 and_second : (a b : Bool) → (a && b) ≡ true → b ≡ true
@@ -195,6 +210,53 @@ module _ (f : Flat) (s : PlainState) (memory : ℕ → List ℕ) (c : ℕ) (n : 
       (ap (λ (k : Signal). is_some (row k old.state)) (sym (first.kind ∙ ap told_as brings))
       ∙ seen.there) (waits (block_of first.mail.item % LINES))))
 
+  on : enabled none_riding none_carrying s (MessageMove c) ≡ true
+  on = can_hear f s memory c n m later within is oldest stands
+
+  lies : m.place < length f.home.items
+  lies = told_lies f s memory c n m later within is oldest stands
+
+  abbrev slot : ℕ
+  slot = word % BLOCK_WORDS
+
+  word_is : word_of n.need ≡ word
+  word_is = (needed_word n.need kind word needs_it).0
+
+  -- what is read in the entry is what the access finds
+  read_here : (b : HomeBlock) (before : ℕ) → b ≡ home_at f.home.items m.place →
+      before ≡ slice_index b.words (word_of n.need % BLOCK_WORDS) → before ≡ slice_index b0.words slot
+  read_here b before found read = read ∙ (ap (λ (x : HomeBlock). slice_index x.words (word_of n.need % BLOCK_WORDS)) found
+      ∙ ap (λ (w : ℕ). slice_index b0.words (w % BLOCK_WORDS)) word_is)
+
+  found_before : (b : HomeBlock) (before : ℕ) → b ≡ home_at f.home.items m.place →
+      before ≡ slice_index b.words (word_of n.need % BLOCK_WORDS) → before ≡ a.before
+  found_before b before found read =
+      let finds : Finds (Accesses a) memory = subst (λ (e : Event). Finds e memory) event_is
+      (step_works none_riding none_carrying s (MessageMove c) tt memory on stands.holds stands.coherent).finds in
+      read_here b before found read ∙ (ap (λ (ws : List ℕ). slice_index ws slot) (stands.words.here m.place lies
+      ∙ ap memory block_there) ∙ sym finds)
+
+  -- the access is told
+  pub data_told : (b : HomeBlock) (before value : ℕ) (at : Instr) → b ≡ home_at f.home.items m.place →
+      before ≡ slice_index b.words (word_of n.need % BLOCK_WORDS) → value ≡ wrote f.program n.core before →
+      at ≡ next_instr n.core → plain_event s (MessageMove c) ≡ Accesses (record {
+        at = at;
+        word = word_of n.need;
+        kind = kind_of n.need;
+        before = before;
+        after = value;
+      })
+  data_told b before value at found read put at_is =
+      event_is ∙ (ap Accesses (told_access f.program s.image n.core core word kind before a.before value at
+      stands.shows.image own.core_is (found_before b before found read) at_is put)
+      ∙ (λ i. Accesses (record {
+        at = at;
+        word = sym word_is i;
+        kind = sym (needed_word n.need kind word needs_it).3 i;
+        before = before;
+        after = value;
+      })))
+
   pub data_stands : (f' : Flat) (n1 n' : Node) (b : HomeBlock) (before value : ℕ) →
       b ≡ home_at f.home.items m.place → n1 ≡ node_heard n (b.block % LINES) m later →
       before ≡ slice_index b.words (word_of n.need % BLOCK_WORDS) →
@@ -215,32 +277,14 @@ module _ (f : Flat) (s : PlainState) (memory : ℕ → List ℕ) (c : ℕ) (n : 
       (words_left s.image f f' s m.place slot before a.after kind memory lies before_here home_is stands.shows.home
       stands.words)))
     where
-      on : enabled none_riding none_carrying s (MessageMove c) ≡ true
-      on = can_hear f s memory c n m later within is oldest stands
-
-      lies : m.place < length f.home.items
-      lies = told_lies f s memory c n m later within is oldest stands
-
-      slot : ℕ
-      slot = word % BLOCK_WORDS
-
-      word_is : word_of n.need ≡ word
-      word_is = (needed_word n.need kind word needs_it).0
-
       writes_is : writes n.need ≡ is_write kind
       writes_is = (needed_word n.need kind word needs_it).1
 
       before_here : before ≡ slice_index b0.words slot
-      before_here = read ∙ (ap (λ (x : HomeBlock). slice_index x.words (word_of n.need % BLOCK_WORDS)) found
-          ∙ ap (λ (w : ℕ). slice_index b0.words (w % BLOCK_WORDS)) word_is)
-
-      finds : Finds (Accesses a) memory
-      finds = subst (λ (e : Event). Finds e memory) event_is
-          (step_works none_riding none_carrying s (MessageMove c) tt memory on stands.holds stands.coherent).finds
+      before_here = read_here b before found read
 
       before_is : before ≡ a.before
-      before_is = before_here ∙ (ap (λ (ws : List ℕ). slice_index ws slot) (stands.words.here m.place lies
-          ∙ ap memory block_there) ∙ sym finds)
+      before_is = found_before b before found read
 
       core_is : n1.core ≡ core
       core_is = ap (λ (x : Node). x.core) heard_is ∙ own.core_is

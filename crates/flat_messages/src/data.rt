@@ -1,22 +1,26 @@
 //! A block's data, and the access that waited for them.
 ghost use Rattle.std.specs.Prelude.{◌≡◌, ◌<◌, Some, length};
+ghost use Rattle.msi_state.specs.Events.{Accesses};
 ghost use Rattle.msi_state.specs.declared.moves.Move.{Move};
 ghost use Rattle.flat_state.specs.declared.message_ring.Told.{Told};
-ghost use Rattle.flat_state.specs.Shows.{IsSomewhere, Makes, node_at};
+ghost use Rattle.flat_state.specs.Shows.{IsSomewhere, Makes, Tells, blocks_of, node_at};
 ghost use Rattle.flat_messages.specs.Heard.{left_by, told_next, word_of, writes};
 
 use crate::words::heard;
+use flat_cores::kind_of;
 use flat_state::{Flat, Told};
-use rtr_types::{BLOCK_WORDS, LINES};
+use rtr_types::{Access, BLOCK_WORDS, LINES};
 use rv_core::Need;
 
 /// The core takes its oldest message, which tells it of a block's data, and retires the instruction that waited for
-/// them.
-pub fn take_data(flat: &mut Flat, core: u8)
+/// them. It answers that instruction's access.
+pub fn take_data(flat: &mut Flat, core: u8) -> Access
     requires stands { IsSomewhere flat.old }
     requires core { core < length flat.old.nodes.items }
     requires brings { told_next (node_at flat.old.nodes.items core).messages ≡ Some Told.Data }
-    ensures { Makes flat.old flat.new (Move.FromHome core) }
+    ensures makes { Makes flat.old flat.new (Move.FromHome core) }
+    ensures told { Tells flat.old (Move.FromHome core) (Accesses result) }
+    ensures blocks { blocks_of flat.new.home.items ≡ blocks_of flat.old.home.items }
 {
     let node = &mut flat.nodes[core as usize];
     let message = node.messages.take();
@@ -28,9 +32,18 @@ pub fn take_data(flat: &mut Flat, core: u8)
     let slot = word as usize % BLOCK_WORDS;
     let writing = writes(node.need);
     let before = block.words[slot];
+    let kind = kind_of(node.need);
+    let at = node.next_instr(&flat.program);
     let after = node.retire(&flat.program, before);
     let left = left_by(writing, before, after);
     block.words[slot] = left;
+    Access {
+        at,
+        word,
+        kind,
+        before,
+        after,
+    }
 }
 
 /// The word that the instruction looks at.

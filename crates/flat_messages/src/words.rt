@@ -2,7 +2,7 @@
 ghost use Rattle.std.specs.Prelude.{◌≡◌, ◌<◌, Some, false, length};
 ghost use Rattle.msi_state.specs.declared.moves.Move.{Move};
 ghost use Rattle.flat_state.specs.declared.message_ring.Told.{Told};
-ghost use Rattle.flat_state.specs.Shows.{IsSomewhere, Makes, node_at};
+ghost use Rattle.flat_state.specs.Shows.{IsSomewhere, Makes, blocks_of, node_at};
 ghost use Rattle.flat_messages.specs.Heard.{answered, heard, is_data, told_next, with_reply};
 
 use flat_state::{Flat, Replied, Reply, ReplyRing, Told};
@@ -15,7 +15,8 @@ pub fn take_word(flat: &mut Flat, core: u8, told: Told)
     requires core { core < length flat.old.nodes.items }
     requires told { told_next (node_at flat.old.nodes.items core).messages ≡ Some told }
     requires word { is_data told ≡ false }
-    ensures { Makes flat.old flat.new (Move.FromHome core) }
+    ensures makes { Makes flat.old flat.new (Move.FromHome core) }
+    ensures blocks { blocks_of flat.new.home.items ≡ blocks_of flat.old.home.items }
 {
     let node = &mut flat.nodes[core as usize];
     let message = node.messages.take();

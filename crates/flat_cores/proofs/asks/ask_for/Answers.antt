@@ -3,8 +3,8 @@ use Rattle.flat_state.proofs.NodeReads.{in_nodes}
 use Rattle.flat_cores.proofs.AskingNodes.{ask_for_stands}
 use Rattle.flat_cores.proofs.asks.ask_for.Goals as goal
 
-pub returns : goal.returns
-returns c = λ s memory stands on.
+pub returns-clause-makes : goal.returns-clause-makes
+returns-clause-makes c = λ s memory stands on.
     let f = c.args.flat.now in
     let n = c.index_mut-node.result.now in
     let is = in_nodes f.nodes.items c.args.core n c.requires.core c.index_mut-node.ensures.value in

@@ -1,13 +1,15 @@
 use Rattle.std.proofs.Common.{Bool, ◌≡◌, ◌∙◌, ap, refl, subst, sym, ℕ, ◌<◌, ◌%◌, arith, length}
 use Rattle.std.specs.Prelude.{slice_index, slice_set}
 use Rattle.rv_core.specs.Steps.{is_done}
+use Rattle.msi_state.specs.Events.{Accesses}
+use Rattle.flat_state.specs.declared.block.HomeBlock.{HomeBlock}
 use Rattle.flat_state.specs.declared.message_ring.Told.TheVariants.{Data}
 use Rattle.flat_state.specs.declared.node.Node.{Node}
-use Rattle.flat_state.proofs.HomeBlocks.{in_home}
+use Rattle.flat_state.proofs.HomeBlocks.{blocks_same, in_home}
 use Rattle.flat_state.proofs.NodeReads.{going_on, in_nodes, op_kept}
 use Rattle.flat_cores.proofs.Writes.{block_with}
 use Rattle.flat_messages.specs.Heard.{left_by, told_next, word_of}
-use Rattle.flat_messages.proofs.DataMoves.{data_stands, need_going}
+use Rattle.flat_messages.proofs.DataMoves.{data_stands, data_told, need_going}
 use Rattle.flat_messages.proofs.HeardNodes.{data_heard}
 use Rattle.flat_messages.proofs.WordMoves.{some_message, told_head, told_lies}
 use Rattle.flat_messages.proofs.data.take_data.Goals as goal
@@ -31,6 +33,19 @@ index_mut-block-requires c =
     subst (λ (k : ℕ). m.place < k) long (told_lies f w.s w.memory c.args.core n m c.take-message.new.self
     c.requires.core is c.take-message.ensures w.stands)
 
+pub next_instr-at-requires : goal.next_instr-at-requires
+next_instr-at-requires c =
+    let f = c.args.flat.now in
+    let w = c.requires.stands in
+    let n = c.index_mut-node.result.now in
+    let m = c.take-message.result in
+    let is = in_nodes f.nodes.items c.args.core n c.requires.core c.index_mut-node.ensures.value in
+    let brings = told_head n.messages Data m c.take-message.new.self
+    (ap (λ (x : Node). told_next x.messages) is ∙ c.requires.brings) c.take-message.ensures in
+    going_on f w.s c.args.core w.stands.shows c.requires.core n is
+    (ap (λ (x : Node). is_done x.need) (sym is) ∙ need_going f w.s w.memory c.args.core n m c.take-message.new.self
+    c.requires.core is c.take-message.ensures brings w.stands)
+
 pub retire-after-requires-clause-more : goal.retire-after-requires-clause-more
 retire-after-requires-clause-more c =
     let f = c.args.flat.now in
@@ -52,8 +67,8 @@ retire-after-requires-clause-op c =
     op_kept f w.s c.args.core w.stands.shows c.requires.core n
     (in_nodes f.nodes.items c.args.core n c.requires.core c.index_mut-node.ensures.value)
 
-pub returns : goal.returns
-returns c = λ s memory stands on.
+pub returns-clause-makes : goal.returns-clause-makes
+returns-clause-makes c = λ s memory stands on.
     let f = c.args.flat.now in
     let n = c.index_mut-node.result.now in
     let m = c.take-message.result in
@@ -77,3 +92,39 @@ returns c = λ s memory stands on.
     (c.left_by-left.ensures
     ∙ ap (λ (t : Bool). left_by t before c.retire-after.result) c.writes-writing.ensures))
     refl
+
+pub returns-clause-told : goal.returns-clause-told
+returns-clause-told c = λ s memory stands on.
+    let f = c.args.flat.now in
+    let n = c.index_mut-node.result.now in
+    let m = c.take-message.result in
+    let b = c.index_mut-block.result.now in
+    let is = in_nodes f.nodes.items c.args.core n c.requires.core c.index_mut-node.ensures.value in
+    let brings = told_head n.messages Data m c.take-message.new.self
+    (ap (λ (x : Node). told_next x.messages) is ∙ c.requires.brings) c.take-message.ensures in
+    let lies = told_lies f s memory c.args.core n m c.take-message.new.self c.requires.core is c.take-message.ensures
+    stands in
+    data_told f s memory c.args.core n m c.take-message.new.self c.requires.core is c.take-message.ensures brings
+    stands b _ c.retire-after.result c.next_instr-at.result
+    (in_home f.home.items m.place b lies c.index_mut-block.ensures.value)
+    (ap (λ (k : ℕ). slice_index b.words (k % 4)) c.word_of-word.ensures)
+    c.retire-after.ensures.value c.next_instr-at.ensures
+    ∙ (λ i. Accesses (record {
+      at = c.next_instr-at.result;
+      word = sym c.word_of-word.ensures i;
+      kind = sym c.kind_of-kind.ensures i;
+      before = slice_index b.words (c.word_of-word.result % 4);
+      after = c.retire-after.result;
+    }))
+
+pub returns-clause-blocks : goal.returns-clause-blocks
+returns-clause-blocks c =
+    let f = c.args.flat.now in
+    let w = c.requires.stands in
+    let n = c.index_mut-node.result.now in
+    let m = c.take-message.result in
+    let b = c.index_mut-block.result.now in
+    let is = in_nodes f.nodes.items c.args.core n c.requires.core c.index_mut-node.ensures.value in
+    blocks_same f.home.items _ m.place _ refl (ap (λ (x : HomeBlock). x.block) (in_home f.home.items m.place b
+    (told_lies f w.s w.memory c.args.core n m c.take-message.new.self c.requires.core is c.take-message.ensures
+    w.stands) c.index_mut-block.ensures.value))

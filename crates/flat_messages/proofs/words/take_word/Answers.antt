@@ -34,8 +34,8 @@ answer-requires c =
     reply_room f w.s w.memory c.args.core n c.take-message.result c.take-message.new.self c.requires.core is
     c.take-message.ensures w.stands
 
-pub returns : goal.returns
-returns c = λ s memory stands on.
+pub returns-clause-makes : goal.returns-clause-makes
+returns-clause-makes c = λ s memory stands on.
     let f = c.args.flat.now in
     let n = c.index_mut-node.result.now in
     let m = c.take-message.result in
