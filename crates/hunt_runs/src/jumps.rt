@@ -56,6 +56,7 @@ impl Jumps {
     }
 
     /// A step of this core was taken that left so many stores in its buffer, and changed a word or not.
+    #[inline(always)]
     pub fn note(&mut self, core: u8, before: Spot, after: &Core, stores: usize, changed: bool)
         requires core { core < length self.old.last }
         requires few { length self.old.last ≤ CORES_MAX }

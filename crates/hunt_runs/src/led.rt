@@ -1,5 +1,5 @@
 //! A run by a policy, from its start to its end.
-ghost use Rattle.std.specs.Prelude.{◌≡◌, ◌<◌, ℕ, IfOk, OnOk, false, length, slice_index_or, suc, true};
+ghost use Rattle.std.specs.Prelude.{◌≡◌, ◌<◌, ℕ, [], IfOk, OnOk, false, length, slice_index_or, suc, true};
 ghost use Rattle.image_mem.specs.Contents.{Contents};
 ghost use Rattle.rtr_types.specs.declared.params.Params.{Params};
 ghost use Rattle.rv_core.specs.States.{starting};
@@ -53,12 +53,13 @@ pub fn lead<M: HuntedMachine, P: Policy>(
     ensures cores { IfOk result (λ led. length (M.cores led.machine) ≡ params.cores) }
     ensures image { IfOk result (λ led. M.image led.machine ≡ M.image machine) }
 {
+    let choices = no_choices(alloc)?;
     let machine = machine.restart(alloc, params)?;
     let jumps = Jumps::new(alloc, params.cores)?;
     let mut run = Run {
         machine,
         director: Director::new(policy, jumps),
-        choices: Items::new(alloc),
+        choices,
     };
     while !run.machine.done() {
         run.go_on()?;
@@ -66,6 +67,16 @@ pub fn lead<M: HuntedMachine, P: Policy>(
     run.machine.is_seen();
     run.machine.has_come_to();
     Ok(run.into_led())
+}
+
+/// For how many choices a run has room at its start. More are rare, and then the list grows.
+const CHOICES_ROOM: usize = 256;
+
+/// No choices yet, with room for those of most runs. The only refusal is want of memory.
+fn no_choices(alloc: Global) -> Made<Items<u8>>
+    ensures { IfOk result (λ choices. choices ≡ []) }
+{
+    Ok(Items::from_vec(Vec::with_capacity(alloc, CHOICES_ROOM)?))
 }
 
 /// A run by a policy on its way.

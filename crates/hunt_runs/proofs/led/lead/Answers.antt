@@ -28,7 +28,7 @@ loop-run-init g c =
     c.new-2.ensures
     ∙ ap (λ (jumps : Jumped). record { policy = c.args.policy; turn = None; made = false; jumps = jumps })
     c.in_ok-jumps.ensures in
-    let none : c.new-3.result ≡ [] = c.new-3.ensures in
+    let none : c.in_ok-choices.choices ≡ [] = c.in_ok-choices.ensures in
     record {
       stands = subst (λ (l : List ℕ). StandsAfter M.stands image params machine l) (sym none)
           (λ rest. c.in_ok-machine.ensures.stands rest);
