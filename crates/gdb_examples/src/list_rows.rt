@@ -31,7 +31,7 @@ pub static RESUMES: [Row; 10] = [
 ];
 
 /// The commands that the sessions have, each once.
-pub static COMMANDS: [Row; 18] = [
+pub static COMMANDS: [Row; 19] = [
     commands!("qRcmd,636f6e666c6963747320323a3333" => "conflicts 2:33"),
     commands!("qRcmd,637574" => "cut"),
     commands!("qRcmd,6561726c696573742032" => "earliest 2"),
@@ -47,6 +47,7 @@ pub static COMMANDS: [Row; 18] = [
     commands!("qRcmd,6e6f6e73656e7365" => "nonsense"),
     commands!("qRcmd,6f7264657220303a333020313a3630" => "order 0:30 1:60"),
     commands!("qRcmd,6f7264657220313a3820303a3535" => "order 1:8 0:55"),
+    commands!("qRcmd,6f7468657220303a393920313a3639" => "other 0:99 1:69"),
     commands!("qRcmd,726561646572732034333434" => "readers 4344"),
     commands!("qRcmd,77726974657220307831306630" => "writer 0x10f0"),
     commands!("qRcmd,7772697465722034333434" => "writer 4344"),

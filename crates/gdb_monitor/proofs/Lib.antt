@@ -1,5 +1,6 @@
 pub mod AnswerFrames
 pub mod AskedCuts
+pub mod OtherWays
 pub mod WordLemmas
 pub mod NotedPcs
 pub mod OnePc

@@ -16,10 +16,12 @@ use Rattle.race_queries.specs.Queries.{AreEdgesInto, AreEdgesOutOf, AreReadsSinc
 use Rattle.race_queries.specs.Queries.{is_held, loads_behind}
 use Rattle.wait_chains.specs.Chains.{chain_of}
 use Rattle.gdb_monitor.specs.declared.decisions.Decision.{Decision}
+use Rattle.gdb_monitor.specs.declared.filters.Filter.{Filter}
 use Rattle.gdb_monitor.specs.declared.edges.End.{End}
 use Rattle.gdb_monitor.specs.declared.edges.End.TheVariants.{Source, Target}
 use Rattle.gdb_monitor.specs.declared.waits_told.TheConstants.{CHAIN_MAX}
 use Rattle.gdb_monitor.specs.Decisions.{AreDecisions}
+use Rattle.gdb_monitor.specs.Filters.{chosen}
 use Rattle.gdb_monitor.specs.Instrs.{instr_text, row_text, touch_text}
 use Rattle.gdb_monitor.specs.Pcs.{ArePcs}
 use Rattle.gdb_monitor.specs.Texts.{line, no_instr_text}
@@ -69,10 +71,14 @@ pub record IsHistory (a : Findings) (cut : Cut) (list : List Access) (told : Lis
   pub are : ArePcs a.which a.recording pcs
   pub told_is : told ≡ flat_map (history_row cut pcs) list
 
--- `history ADDR`: all accesses to the word, in an order that the log allows
-pub record IsHistoryTold (a : Findings) (cut : Cut) (word : ℕ) (told : List ℕ) : Type 0 where
-  pub none : length (accesses_to word a.accesses) ≡ 0 → told ≡ line (codes "no access")
-  pub some : 1 ≤ length (accesses_to word a.accesses) → IsHistory a cut (accesses_to word a.accesses) told
+-- of all accesses to the word, in an order that the log allows, those that are asked for
+abbrev pub history_by : Findings → (word : ℕ) → Filter → List Access
+history_by a word filter = chosen filter (accesses_to word a.accesses)
+
+-- `history ADDR`: all of them; `history ADDR writes`: those that write it; `history ADDR core C`: those of the core
+pub record IsHistoryTold (a : Findings) (cut : Cut) (word : ℕ) (filter : Filter) (told : List ℕ) : Type 0 where
+  pub none : length (history_by a word filter) ≡ 0 → told ≡ line (codes "no access")
+  pub some : 1 ≤ length (history_by a word filter) → IsHistory a cut (history_by a word filter) told
 
 -- ---- edges
 

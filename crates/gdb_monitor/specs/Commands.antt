@@ -8,7 +8,9 @@ use Rattle.gdb_monitor.specs.declared.commands.Command.{Command}
 use Rattle.gdb_monitor.specs.declared.commands.Command.TheVariants.{Cut, GoTo, GoToCut, Earliest, Latest, Edges}
 use Rattle.gdb_monitor.specs.declared.commands.Command.TheVariants.{Writer, Readers, History, Conflicts, Why}
 use Rattle.gdb_monitor.specs.declared.commands.Command.TheVariants.{Decision, Decisions, Order, Lead, Slack}
-use Rattle.gdb_monitor.specs.declared.commands.Command.TheVariants.{Last, Unmeant}
+use Rattle.gdb_monitor.specs.declared.commands.Command.TheVariants.{Last, Other, When, Info, Unmeant}
+use Rattle.gdb_monitor.specs.declared.filters.Filter.{Filter}
+use Rattle.gdb_monitor.specs.declared.filters.Filter.TheVariants.{Every, Writes, ByCore}
 use Rattle.gdb_monitor.specs.Numbers.{core_of, count_of, named_instr, word_of}
 use Rattle.gdb_monitor.specs.Words.{words_of}
 
@@ -38,31 +40,38 @@ abbrev pub goto_of : List (List ℕ) → Option Command
 goto_of arguments =
     option_or (option_map GoTo (one_instr arguments)) (option_map GoToCut (counts_of arguments))
 
--- `cut`
-abbrev pub cut_of : List (List ℕ) → Option Command
-cut_of [] = Some Cut
-cut_of (word ∷ rest) = None
+-- `cut`, `when`, `decisions` and `info`
+abbrev pub alone : Command → List (List ℕ) → Option Command
+alone command [] = Some command
+alone command (word ∷ rest) = None
 
--- `decisions`
-abbrev pub decisions_of : List (List ℕ) → Option Command
-decisions_of [] = Some Decisions
-decisions_of (word ∷ rest) = None
+-- `C:N C:N`
+abbrev pub two_instrs : List (List ℕ) → Option (Instr × Instr)
+two_instrs [] = None
+two_instrs (word ∷ []) = None
+two_instrs (word ∷ next ∷ []) = option_and_then (λ x. option_map (λ y. (x, y)) (named_instr next)) (named_instr word)
+two_instrs (word ∷ next ∷ more ∷ rest) = None
 
--- `order C:N C:N`
+-- `order C:N C:N`, `decision C:N C:N` and `other C:N C:N`
 abbrev pub order_of : List (List ℕ) → Option Command
-order_of [] = None
-order_of (word ∷ []) = None
-order_of (word ∷ other ∷ []) =
-    option_and_then (λ x. option_map (λ y. Order x y) (named_instr other)) (named_instr word)
-order_of (word ∷ other ∷ more ∷ rest) = None
+order_of arguments = option_map (λ p. Order p.0 p.1) (two_instrs arguments)
 
--- `decision C:N C:N`
 abbrev pub decision_of : List (List ℕ) → Option Command
-decision_of [] = None
-decision_of (word ∷ []) = None
-decision_of (word ∷ other ∷ []) =
-    option_and_then (λ x. option_map (λ y. Decision x y) (named_instr other)) (named_instr word)
-decision_of (word ∷ other ∷ more ∷ rest) = None
+decision_of arguments = option_map (λ p. Decision p.0 p.1) (two_instrs arguments)
+
+abbrev pub other_of : List (List ℕ) → Option Command
+other_of arguments = option_map (λ p. Other p.0 p.1) (two_instrs arguments)
+
+-- `history ADDR`, `history ADDR writes` and `history ADDR core C`
+abbrev pub filter_of : List (List ℕ) → Option Filter
+filter_of [] = Some Every
+filter_of (word ∷ []) = if bytes_eq word (codes "writes") then Some Writes else None
+filter_of (word ∷ next ∷ []) = if bytes_eq word (codes "core") then option_map ByCore (core_of next) else None
+filter_of (word ∷ next ∷ more ∷ rest) = None
+
+abbrev pub history_of : List (List ℕ) → Option Command
+history_of [] = None
+history_of (word ∷ rest) = option_and_then (λ w. option_map (λ f. History w f) (filter_of rest)) (word_of word)
 
 -- `lead C` and `lead all`
 abbrev pub leader_of : List ℕ → Option Command
@@ -75,29 +84,33 @@ lead_of arguments = option_and_then leader_of (only arguments)
 -- the commands that say where the place is, or move it, `order`, `decision` and `lead`
 abbrev pub place_named : (name : List ℕ) → (arguments : List (List ℕ)) → Option Command
 place_named name arguments =
-    if bytes_eq name (codes "cut") then cut_of arguments else
+    if bytes_eq name (codes "cut") then alone Cut arguments else
     if bytes_eq name (codes "earliest") then option_map Earliest (one_core arguments) else
     if bytes_eq name (codes "latest") then option_map Latest (one_core arguments) else
     if bytes_eq name (codes "order") then order_of arguments else
     if bytes_eq name (codes "decision") then decision_of arguments else
     if bytes_eq name (codes "lead") then lead_of arguments else None
 
--- the commands that go to a word's last write, or tell how far cores may move and why one waited
+-- the commands that go to a word's last write, or tell how far cores may move, why one waited, what the other order
+-- comes to, and where all cores are
 abbrev pub cause_named : (name : List ℕ) → (arguments : List (List ℕ)) → Option Command
 cause_named name arguments =
     if bytes_eq name (codes "last") then option_map Last (one_word arguments) else
     if bytes_eq name (codes "slack") then option_map Slack (one_core arguments) else
-    if bytes_eq name (codes "why") then option_map Why (one_instr arguments) else None
+    if bytes_eq name (codes "why") then option_map Why (one_instr arguments) else
+    if bytes_eq name (codes "other") then other_of arguments else
+    if bytes_eq name (codes "when") then alone When arguments else None
 
--- the commands that ask for a word or an instruction of the run, and `decisions`
+-- the commands that ask for a word or an instruction of the run, `decisions` and `info`
 abbrev pub run_named : (name : List ℕ) → (arguments : List (List ℕ)) → Option Command
 run_named name arguments =
     if bytes_eq name (codes "edges") then option_map Edges (one_instr arguments) else
     if bytes_eq name (codes "writer") then option_map Writer (one_word arguments) else
     if bytes_eq name (codes "readers") then option_map Readers (one_word arguments) else
-    if bytes_eq name (codes "history") then option_map History (one_word arguments) else
+    if bytes_eq name (codes "history") then history_of arguments else
     if bytes_eq name (codes "conflicts") then option_map Conflicts (one_instr arguments) else
-    if bytes_eq name (codes "decisions") then decisions_of arguments else None
+    if bytes_eq name (codes "decisions") then alone Decisions arguments else
+    if bytes_eq name (codes "info") then alone Info arguments else None
 
 -- a command by its name
 abbrev pub named : (name : List ℕ) → (arguments : List (List ℕ)) → Option Command

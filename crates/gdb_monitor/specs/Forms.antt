@@ -13,7 +13,8 @@ moving_form name =
     if bytes_eq name (codes "earliest") then Some (codes "earliest C") else
     if bytes_eq name (codes "latest") then Some (codes "latest C") else
     if bytes_eq name (codes "last") then Some (codes "last ADDR") else
-    if bytes_eq name (codes "decision") then Some (codes "decision C:N C:N") else None
+    if bytes_eq name (codes "decision") then Some (codes "decision C:N C:N") else
+    if bytes_eq name (codes "when") then Some (codes "when") else None
 
 -- the commands by which cores lead, or that ask for causes
 abbrev pub cause_form : (name : List ℕ) → Option (List ℕ)
@@ -22,16 +23,19 @@ cause_form name =
     if bytes_eq name (codes "slack") then Some (codes "slack C") else
     if bytes_eq name (codes "why") then Some (codes "why C:N") else
     if bytes_eq name (codes "order") then Some (codes "order C:N C:N") else
+    if bytes_eq name (codes "other") then Some (codes "other C:N C:N") else
     if bytes_eq name (codes "decisions") then Some (codes "decisions") else None
 
--- the commands that ask for a word or an instruction of the run
+-- the commands that ask for a word, an instruction or the whole of the run
 abbrev pub asking_form : (name : List ℕ) → Option (List ℕ)
 asking_form name =
     if bytes_eq name (codes "edges") then Some (codes "edges C:N") else
     if bytes_eq name (codes "conflicts") then Some (codes "conflicts C:N") else
     if bytes_eq name (codes "writer") then Some (codes "writer ADDR") else
     if bytes_eq name (codes "readers") then Some (codes "readers ADDR") else
-    if bytes_eq name (codes "history") then Some (codes "history ADDR") else None
+    if bytes_eq name (codes "info") then Some (codes "info") else
+    if bytes_eq name (codes "history") then Some (codes "history ADDR, history ADDR writes or history ADDR core C")
+    else None
 
 -- how the command with this name goes, if there is one
 abbrev pub form_of : (name : List ℕ) → Option (List ℕ)
@@ -42,8 +46,8 @@ form_text form = line (codes "rtr_gdb: the command is monitor " ++ form)
 
 -- the commands that there are
 abbrev pub names_text : List ℕ
-names_text = codes "cut, goto, earliest, latest, last, decision, lead, slack, why, edges, order, "
-    ++ codes "conflicts, writer, readers, history and decisions"
+names_text = codes "cut, when, goto, earliest, latest, last, decision, other, lead, slack, why, edges, "
+    ++ codes "order, conflicts, writer, readers, history, decisions and info"
 
 abbrev pub unknown_text : (name : List ℕ) → List ℕ
 unknown_text name = line (codes "rtr_gdb: no command '" ++ name ++ codes "'; monitor takes " ++ names_text)

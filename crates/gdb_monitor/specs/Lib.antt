@@ -11,6 +11,10 @@ pub mod Ordering
 pub mod Pcs
 pub mod Instrs
 pub mod Sites
+pub mod Filters
+pub mod Whens
+pub mod About
+pub mod OtherWay
 pub mod Decisions
 pub mod Asking
 pub mod Obeying

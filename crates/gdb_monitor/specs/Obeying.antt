@@ -8,26 +8,31 @@ use Rattle.gdb_monitor.specs.declared.commands.Command.{Command}
 use Rattle.gdb_monitor.specs.declared.commands.Command.TheVariants.{Cut, GoTo, GoToCut, Earliest, Latest, Edges}
 use Rattle.gdb_monitor.specs.declared.commands.Command.TheVariants.{Writer, Readers, History, Conflicts, Why}
 use Rattle.gdb_monitor.specs.declared.commands.Command.TheVariants.{Decision, Decisions, Order, Lead, Slack}
-use Rattle.gdb_monitor.specs.declared.commands.Command.TheVariants.{Last, Unmeant}
+use Rattle.gdb_monitor.specs.declared.commands.Command.TheVariants.{Last, Other, When, Info, Unmeant}
 use Rattle.gdb_monitor.specs.declared.moves.Extreme.TheVariants as extremes
+use Rattle.gdb_monitor.specs.About.{info_text}
 use Rattle.gdb_monitor.specs.Asking.{AreConflictsTold, AreDecisionsTold, AreEdgesTold, AreReadersTold}
 use Rattle.gdb_monitor.specs.Asking.{IsHistoryTold, IsWhyTold, IsWriterTold}
 use Rattle.gdb_monitor.specs.Forms.{unmeant_text}
 use Rattle.gdb_monitor.specs.Leading.{lead_told}
 use Rattle.gdb_monitor.specs.Moves.{GoesAround, GoesTo, GoesToCut, GoesToDecision, GoesToLast, IsOf, Tells}
 use Rattle.gdb_monitor.specs.Ordering.{IsOrderTold}
+use Rattle.gdb_monitor.specs.OtherWay.{IsOtherTold}
 use Rattle.gdb_monitor.specs.Slack.{IsSlackTold}
 use Rattle.gdb_monitor.specs.Texts.{here_text}
+use Rattle.gdb_monitor.specs.Whens.{when_text}
 
 -- what a command that asks for a word, an instruction or all decisions is told, by the audit, at a cut
 abbrev pub AuditTells : Command → Findings → cuts.Cut → (told : List ℕ) → Type 0
 AuditTells (Edges at) a cut told = AreEdgesTold a cut at told
 AuditTells (Writer word) a cut told = IsWriterTold a cut word told
 AuditTells (Readers word) a cut told = AreReadersTold a cut word told
-AuditTells (History word) a cut told = IsHistoryTold a cut word told
+AuditTells (History word filter) a cut told = IsHistoryTold a cut word filter told
 AuditTells (Conflicts at) a cut told = AreConflictsTold a at told
 AuditTells Decisions a cut told = AreDecisionsTold a told
 AuditTells (Why at) a cut told = IsWhyTold a at told
+AuditTells (Other at next) a cut told = IsOtherTold a at next told
+AuditTells Info a cut told = told ≡ info_text a
 AuditTells _ a cut told = told ≡ []
 
 -- by the audit of the place's recording, at its cut, and nothing moves
@@ -47,7 +52,7 @@ Obeys (Latest core) old new told = GoesAround extremes.Latest core old new told
 Obeys (Edges at) old new told = Asks (Edges at) old new told
 Obeys (Writer word) old new told = Asks (Writer word) old new told
 Obeys (Readers word) old new told = Asks (Readers word) old new told
-Obeys (History word) old new told = Asks (History word) old new told
+Obeys (History word filter) old new told = Asks (History word filter) old new told
 Obeys (Conflicts at) old new told = Asks (Conflicts at) old new told
 Obeys Decisions old new told = Asks Decisions old new told
 Obeys (Order at other) old new told = (new ≡ old) × IsOrderTold at other old told
@@ -56,4 +61,7 @@ Obeys (Lead core) old new told = Tells old new told (lead_told core old.recordin
 Obeys (Last word) old new told = GoesToLast word old new told
 Obeys (Slack core) old new told = (new ≡ old) × IsSlackTold core old told
 Obeys (Why at) old new told = Asks (Why at) old new told
+Obeys (Other at next) old new told = Asks (Other at next) old new told
+Obeys When old new told = Tells old new told (when_text old)
+Obeys Info old new told = Asks Info old new told
 Obeys (Unmeant word) old new told = Tells old new told (unmeant_text word)

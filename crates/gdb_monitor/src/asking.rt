@@ -8,10 +8,11 @@ ghost use Rattle.gdb_monitor.specs.Asking.{history_row, rows_text};
 ghost use Rattle.gdb_monitor.specs.Instrs.{row_text};
 ghost use Rattle.gdb_monitor.specs.Texts.{line};
 
+use crate::filters::{Filter, history_by};
 use crate::instrs::put_row;
 use crate::pcs::{Known, known_of};
 use crate::texts::{Put, Told, bytes_of, line};
-use race_queries::{history, holds, last_write, reads_since};
+use race_queries::{holds, last_write, reads_since};
 use replay_audit::Audited;
 use rtr_types::{Access, Cut};
 use std::alloc::Global;
@@ -78,11 +79,17 @@ fn put_rows(alloc: Global, text: &mut String, known: &Known, list: &[Access]) ->
     Ok(())
 }
 
-/// All accesses to a word.
-pub(crate) fn history_told(alloc: Global, audited: &Audited, cut: &Cut, word: u32) -> Told
-    ensures { IfOk result (IsHistoryTold audited.now cut.now word) }
+/// The accesses to a word that are asked for.
+pub(crate) fn history_told(
+    alloc: Global,
+    audited: &Audited,
+    cut: &Cut,
+    word: u32,
+    filter: Filter,
+) -> Told
+    ensures { IfOk result (IsHistoryTold audited.now cut.now word filter) }
 {
-    let list = history(alloc, audited, word)?;
+    let list = history_by(alloc, audited, word, filter)?;
     if list.len() == 0 {
         line(alloc, "no access")
     } else {

@@ -1,11 +1,13 @@
 //! What a command's text means.
 ghost use Rattle.std.specs.Prelude.{◌≡◌, IfOk};
 ghost use Rattle.std.specs.Option.{option_map};
-ghost use Rattle.gdb_monitor.specs.Commands.{command_of, counts_of, cut_of, goto_of, meaning, named, one_core, only};
+ghost use Rattle.gdb_monitor.specs.Commands.{alone, command_of, counts_of, goto_of, meaning, named, one_core, only};
 ghost use Rattle.gdb_monitor.specs.Commands.{lead_of, leader_of, one_instr, one_word, order_of, place_named};
-ghost use Rattle.gdb_monitor.specs.Commands.{cause_named, decision_of, decisions_of, first_word, run_named};
+ghost use Rattle.gdb_monitor.specs.Commands.{cause_named, decision_of, filter_of, first_word, history_of};
+ghost use Rattle.gdb_monitor.specs.Commands.{other_of, run_named, two_instrs};
 ghost use Rattle.gdb_monitor.specs.declared.commands.Command.TheVariants.{Unmeant};
 
+use crate::filters::Filter;
 use crate::numbers::{core_of, count_of, named_instr, word_of};
 use crate::words::words_of;
 use gdb_packets::is;
@@ -31,8 +33,9 @@ pub enum Command {
     Writer(u32),
     /// `readers ADDR`: the loads of this word since then.
     Readers(u32),
-    /// `history ADDR`: all accesses to this word.
-    History(u32),
+    /// `history ADDR`: all accesses to this word. `history ADDR writes`, `history ADDR core C`: those that write it,
+    /// those of this core.
+    History(u32, Filter),
     /// `conflicts C:N`: the accesses around this instruction's with which it conflicts.
     Conflicts(Instr),
     /// `order C:N C:N`: which of the two instructions comes before the other.
@@ -49,6 +52,12 @@ pub enum Command {
     Slack(u8),
     /// `why C:N`: the chain of edges by which this instruction waited.
     Why(Instr),
+    /// `other C:N C:N`: what the run comes to if the second instruction goes first where both come next.
+    Other(Instr, Instr),
+    /// `when`: where each core is.
+    When,
+    /// `info`: what the session was begun with, and how each core of the recording ends.
+    Info,
     /// Every other text, by its first word.
     Unmeant(Items<u8>),
 }
@@ -104,7 +113,7 @@ fn place_named(name: &[u8], arguments: &[Items<u8>]) -> Option<Command>
     ensures { result ≡ place_named name.now arguments.now }
 {
     if is(name, "cut") {
-        cut_of(arguments)
+        alone(Command::Cut, arguments)
     } else if is(name, "earliest") {
         one_core(arguments).map(Command::Earliest)
     } else if is(name, "latest") {
@@ -120,7 +129,8 @@ fn place_named(name: &[u8], arguments: &[Items<u8>]) -> Option<Command>
     }
 }
 
-/// The commands that go to a word's last write, or tell how far cores may move and why one waited.
+/// The commands that go to a word's last write, or tell how far cores may move, why one waited, what the other order
+/// comes to, and where all cores are.
 fn cause_named(name: &[u8], arguments: &[Items<u8>]) -> Option<Command>
     ensures { result ≡ cause_named name.now arguments.now }
 {
@@ -130,12 +140,16 @@ fn cause_named(name: &[u8], arguments: &[Items<u8>]) -> Option<Command>
         one_core(arguments).map(Command::Slack)
     } else if is(name, "why") {
         one_instr(arguments).map(Command::Why)
+    } else if is(name, "other") {
+        other_of(arguments)
+    } else if is(name, "when") {
+        alone(Command::When, arguments)
     } else {
         None
     }
 }
 
-/// The commands that ask for a word or an instruction of the run, and `decisions`.
+/// The commands that ask for a word or an instruction of the run, `decisions` and `info`.
 fn run_named(name: &[u8], arguments: &[Items<u8>]) -> Option<Command>
     ensures { result ≡ run_named name.now arguments.now }
 {
@@ -146,32 +160,24 @@ fn run_named(name: &[u8], arguments: &[Items<u8>]) -> Option<Command>
     } else if is(name, "readers") {
         one_word(arguments).map(Command::Readers)
     } else if is(name, "history") {
-        one_word(arguments).map(Command::History)
+        history_of(arguments)
     } else if is(name, "conflicts") {
         one_instr(arguments).map(Command::Conflicts)
     } else if is(name, "decisions") {
-        decisions_of(arguments)
+        alone(Command::Decisions, arguments)
+    } else if is(name, "info") {
+        alone(Command::Info, arguments)
     } else {
         None
     }
 }
 
-/// `cut`, which has no argument.
-fn cut_of(arguments: &[Items<u8>]) -> Option<Command>
-    ensures { result ≡ cut_of arguments.now }
+/// A command that has no argument.
+fn alone(command: Command, arguments: &[Items<u8>]) -> Option<Command>
+    ensures { result ≡ alone command arguments.now }
 {
     match arguments {
-        [] => Some(Command::Cut),
-        _ => None,
-    }
-}
-
-/// `decisions`, which has no argument.
-fn decisions_of(arguments: &[Items<u8>]) -> Option<Command>
-    ensures { result ≡ decisions_of arguments.now }
-{
-    match arguments {
-        [] => Some(Command::Decisions),
+        [] => Some(command),
         _ => None,
     }
 }
@@ -186,30 +192,66 @@ fn goto_of(alloc: Global, arguments: &[Items<u8>]) -> Result<Option<Command>, Al
     }
 }
 
+/// Two instructions.
+fn two_instrs(arguments: &[Items<u8>]) -> Option<(Instr, Instr)>
+    ensures { result ≡ two_instrs arguments.now }
+{
+    match arguments {
+        [at, next] => {
+            let at = named_instr(at.as_slice())?;
+            let next = named_instr(next.as_slice())?;
+            Some((at, next))
+        }
+        _ => None,
+    }
+}
+
 /// `order` with two instructions.
 fn order_of(arguments: &[Items<u8>]) -> Option<Command>
     ensures { result ≡ order_of arguments.now }
 {
-    match arguments {
-        [at, other] => {
-            let at = named_instr(at.as_slice())?;
-            let other = named_instr(other.as_slice())?;
-            Some(Command::Order(at, other))
-        }
-        _ => None,
-    }
+    let (at, next) = two_instrs(arguments)?;
+    Some(Command::Order(at, next))
 }
 
 /// `decision` with two instructions.
 fn decision_of(arguments: &[Items<u8>]) -> Option<Command>
     ensures { result ≡ decision_of arguments.now }
 {
-    match arguments {
-        [at, other] => {
-            let at = named_instr(at.as_slice())?;
-            let other = named_instr(other.as_slice())?;
-            Some(Command::Decision(at, other))
+    let (at, next) = two_instrs(arguments)?;
+    Some(Command::Decision(at, next))
+}
+
+/// `other` with two instructions.
+fn other_of(arguments: &[Items<u8>]) -> Option<Command>
+    ensures { result ≡ other_of arguments.now }
+{
+    let (at, next) = two_instrs(arguments)?;
+    Some(Command::Other(at, next))
+}
+
+/// `history` with a word, and which accesses to it are told.
+fn history_of(arguments: &[Items<u8>]) -> Option<Command>
+    ensures { result ≡ history_of arguments.now }
+{
+    match arguments.split_first() {
+        Some((word, rest)) => {
+            let word = word_of(word.as_slice())?;
+            let filter = filter_of(rest)?;
+            Some(Command::History(word, filter))
         }
+        None => None,
+    }
+}
+
+/// Which accesses to a word are told.
+fn filter_of(arguments: &[Items<u8>]) -> Option<Filter>
+    ensures { result ≡ filter_of arguments.now }
+{
+    match arguments {
+        [] => Some(Filter::Every),
+        [one] if is(one.as_slice(), "writes") => Some(Filter::Writes),
+        [one, next] if is(one.as_slice(), "core") => core_of(next.as_slice()).map(Filter::ByCore),
         _ => None,
     }
 }

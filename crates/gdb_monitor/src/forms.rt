@@ -50,9 +50,12 @@ fn put_names(text: &mut Vec<u8>) -> Put
 {
     put(
         text,
-        "cut, goto, earliest, latest, last, decision, lead, slack, why, edges, order, ",
+        "cut, when, goto, earliest, latest, last, decision, other, lead, slack, why, edges, ",
     )?;
-    put(text, "conflicts, writer, readers, history and decisions")
+    put(
+        text,
+        "order, conflicts, writer, readers, history, decisions and info",
+    )
 }
 
 /// Puts words behind others.
@@ -91,6 +94,8 @@ fn moving_form(name: &[u8]) -> Option<&'static str>
         Some("last ADDR")
     } else if is(name, "decision") {
         Some("decision C:N C:N")
+    } else if is(name, "when") {
+        Some("when")
     } else {
         None
     }
@@ -108,6 +113,8 @@ fn cause_form(name: &[u8]) -> Option<&'static str>
         Some("why C:N")
     } else if is(name, "order") {
         Some("order C:N C:N")
+    } else if is(name, "other") {
+        Some("other C:N C:N")
     } else if is(name, "decisions") {
         Some("decisions")
     } else {
@@ -115,7 +122,7 @@ fn cause_form(name: &[u8]) -> Option<&'static str>
     }
 }
 
-/// The commands that ask for a word or an instruction of the run.
+/// The commands that ask for a word, an instruction or the whole of the run.
 fn asking_form(name: &[u8]) -> Option<&'static str>
     ensures { option_map (λ form. form.now) result ≡ asking_form name.now }
 {
@@ -127,8 +134,10 @@ fn asking_form(name: &[u8]) -> Option<&'static str>
         Some("writer ADDR")
     } else if is(name, "readers") {
         Some("readers ADDR")
+    } else if is(name, "info") {
+        Some("info")
     } else if is(name, "history") {
-        Some("history ADDR")
+        Some("history ADDR, history ADDR writes or history ADDR core C")
     } else {
         None
     }

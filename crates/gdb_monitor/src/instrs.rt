@@ -11,7 +11,7 @@ use rtr_types::{Access, Instr, Kind};
 use std::alloc::Global;
 
 /// Puts a word as eight digits.
-fn put_word(alloc: Global, text: &mut String, word: u32) -> Put
+pub(crate) fn put_word(alloc: Global, text: &mut String, word: u32) -> Put
     ensures { OnOk result (string_bytes text.new ≡ string_bytes text.old ++ hex_word word) }
 {
     let digits = hex::encode(alloc, &word.to_be_bytes())?;

@@ -15,19 +15,24 @@
 //! leads: how many edges lead this way, how many the other, and the last one. What goes both ways comes first, and then
 //! what is rare (`AreDecisions`). `last ADDR` comes to the greatest closed cut without the last write of the word in
 //! the cut (`GoesToLast`). `slack` tells the counts in the cuts to which `earliest` and `latest` go (`IsSlack`). `why`
-//! tells the chain of edges by which an instruction waited (`AreWaits`). An instruction's pc is where its core is in
-//! the state of a closed cut that has all of the core's instructions before it, and not it. There is one (`IsPcOf`,
-//! `one_pc`). If what is named isn't there, that is told, and nothing moves. Of a text that is no command it is told
-//! how its command goes, or which there are. `payloads_of`: one payload, or one for each part of at most 1000 bytes, in
-//! order, and one more. Each is refused for want of memory alone; `obey` then leaves the place as it was.
+//! tells the chain of edges by which an instruction waited (`AreWaits`). `other` tells what the run comes to if at the
+//! cut of `decision` the second instruction goes first, by `what_if`'s definition (`IsOtherTold`). `history` tells all
+//! accesses to a word, those that write it, or those of a core (`chosen`). `when` and `info` are functions of the place
+//! and of the audit (`when_text`, `info_text`). An instruction's pc is where its core is in the state of a closed cut
+//! that has all of the core's instructions before it, and not it. There is one (`IsPcOf`, `one_pc`). If what is named
+//! isn't there, that is told, and nothing moves. Of a text that is no command it is told how its command goes, or which
+//! there are. `payloads_of`: one payload, or one for each part of at most 1000 bytes, in order, and one more. Each is
+//! refused for want of memory alone; `obey` then leaves the place as it was.
 #![tactic(auto)]
 
+mod about;
 mod asking;
 mod commands;
 mod conflicts;
 mod decisions;
 mod decisions_told;
 mod edges;
+mod filters;
 mod forms;
 mod instrs;
 mod lasts;
@@ -37,15 +42,18 @@ mod moves;
 mod numbers;
 mod obeying;
 mod ordering;
+mod other_way;
 mod payloads;
 mod pcs;
 mod sites;
 mod slack;
 mod texts;
 mod waits_told;
+mod whens;
 mod words;
 
 pub use commands::{Command, command_of};
+pub use filters::Filter;
 pub use leading::can_lead;
 pub use obeying::obey;
 pub use payloads::payloads_of;

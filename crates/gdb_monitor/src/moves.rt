@@ -74,7 +74,7 @@ pub(crate) fn go_to_decision(
 }
 
 /// Whether both instructions are the next ones of their cores.
-fn both_come_next(cut: &Cut, at: Instr, other: Instr) -> bool
+pub(crate) fn both_come_next(cut: &Cut, at: Instr, other: Instr) -> bool
     ensures { IsTrue result ↔ BothComeNext cut.now at other }
 {
     comes_next(cut, at) && comes_next(cut, other)

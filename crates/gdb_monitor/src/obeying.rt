@@ -4,6 +4,7 @@ ghost use Rattle.debug_place.specs.Places.{IsKept};
 ghost use Rattle.gdb_monitor.specs.Moves.{IsOf};
 ghost use Rattle.gdb_monitor.specs.Obeying.{Asks, AuditTells, Obeys};
 
+use crate::about::info_told;
 use crate::asking::{history_told, readers_told, writer_told};
 use crate::commands::Command;
 use crate::conflicts::conflicts_told;
@@ -14,9 +15,11 @@ use crate::lasts::go_to_last;
 use crate::leading::lead_told;
 use crate::moves::{Extreme, go_around, go_to, go_to_cut, go_to_decision};
 use crate::ordering::order_told;
+use crate::other_way::other_told;
 use crate::slack::slack_told;
 use crate::texts::cut_text;
 use crate::waits_told::why_told;
+use crate::whens::when_told;
 use debug_place::Place;
 use replay_audit::Audited;
 use rtr_types::{Cut, Items};
@@ -45,7 +48,7 @@ pub fn obey(
         Command::Edges(_) => ask(alloc, audited, place, command),
         Command::Writer(_) => ask(alloc, audited, place, command),
         Command::Readers(_) => ask(alloc, audited, place, command),
-        Command::History(_) => ask(alloc, audited, place, command),
+        Command::History(_, _) => ask(alloc, audited, place, command),
         Command::Conflicts(_) => ask(alloc, audited, place, command),
         Command::Decisions => ask(alloc, audited, place, command),
         Command::Order(at, other) => order_told(alloc, audited, place, *at, *other),
@@ -54,6 +57,9 @@ pub fn obey(
         Command::Last(word) => go_to_last(alloc, audited, place, *word),
         Command::Slack(core) => slack_told(alloc, audited, place, *core),
         Command::Why(_) => ask(alloc, audited, place, command),
+        Command::Other(_, _) => ask(alloc, audited, place, command),
+        Command::When => when_told(alloc, audited, place),
+        Command::Info => ask(alloc, audited, place, command),
         Command::Unmeant(word) => unmeant_told(alloc, word.as_slice()),
     }
 }
@@ -86,10 +92,12 @@ fn audit_tells(
         Command::Edges(at) => edges_told(alloc, audited, cut, *at),
         Command::Writer(word) => writer_told(alloc, audited, cut, *word),
         Command::Readers(word) => readers_told(alloc, audited, cut, *word),
-        Command::History(word) => history_told(alloc, audited, cut, *word),
+        Command::History(word, filter) => history_told(alloc, audited, cut, *word, *filter),
         Command::Conflicts(at) => conflicts_told(alloc, audited, *at),
         Command::Decisions => decisions_told(alloc, audited),
         Command::Why(at) => why_told(alloc, audited, *at),
+        Command::Other(at, next) => other_told(alloc, audited, *at, *next),
+        Command::Info => info_told(alloc, audited),
         _ => Ok(Items::new(alloc)),
     }
 }

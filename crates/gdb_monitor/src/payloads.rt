@@ -1,8 +1,8 @@
 //! A text for the debugger's user, in payloads.
-ghost use Rattle.std.specs.Prelude.{◌≡◌, ◌≤◌, ◌*◌, IfOk, length, take};
+ghost use Rattle.std.specs.Prelude.{◌≡◌, ◌≤◌, ◌*◌, ◌∷◌, [], ◌++◌, IfOk, length, take};
 ghost use Rattle.gdb_monitor.specs.Payloads.{outputs, part_of, parts_in, payloads_of};
 ghost use Rattle.gdb_packets.specs.Replies.{spelled};
-ghost use Rattle.gdb_packets.specs.declared.replies.Reply.TheVariants.{Output};
+ghost use Rattle.gdb_packets.specs.declared.replies.Reply.TheVariants.{Done, Output};
 
 use crate::FRAME_MAX;
 use gdb_packets::{Reply, spell};
@@ -15,12 +15,27 @@ pub fn payloads_of(alloc: Global, text: Items<u8>) -> Result<Items<Items<u8>>, A
     ensures { IfOk result (λ payloads. payloads ≡ payloads_of text) }
 {
     if text.len() > FRAME_MAX {
-        let mut payloads = outputs(alloc, text.as_slice())?;
-        payloads.push(spell(alloc, &Reply::Done)?)?;
-        return Ok(payloads);
+        in_parts(alloc, text.as_slice())
+    } else {
+        in_one(alloc, &Reply::Bytes(text))
     }
+}
+
+/// A payload for each part of a text, and then one that says that it's done.
+fn in_parts(alloc: Global, text: &[u8]) -> Result<Items<Items<u8>>, AllocError>
+    ensures { IfOk result (λ payloads. payloads ≡ outputs text.now (parts_in text.now) ++ spelled Done ∷ []) }
+{
+    let mut payloads = outputs(alloc, text)?;
+    payloads.push(spell(alloc, &Reply::Done)?)?;
+    Ok(payloads)
+}
+
+/// One payload.
+fn in_one(alloc: Global, reply: &Reply) -> Result<Items<Items<u8>>, AllocError>
+    ensures { IfOk result (λ payloads. payloads ≡ spelled reply.now ∷ []) }
+{
     let mut payloads = Items::new(alloc);
-    payloads.push(spell(alloc, &Reply::Bytes(text))?)?;
+    payloads.push(spell(alloc, reply)?)?;
     Ok(payloads)
 }
 

@@ -14,8 +14,20 @@ macro_rules! told {
 }
 
 /// Where the place is and goes, what comes before what, and what is asked on the way.
-pub static PLACES: [Told; 21] = [
+pub static PLACES: [Told; 25] = [
     told!("cut" => "cut 32 26 32 26\n"),
+    told!("when" =>
+        "core 0: 32 of 242, pc 00000024\n\
+        core 1: 26 of 264, pc 00000024\n\
+        core 2: 32 of 194, pc 00000098\n\
+        core 3: 26 of 198, pc 00000024\n"),
+    told!("info" =>
+        "cores 4, limit 10000, words 16384\n\
+        log reduced, edges 184\n\
+        core 0: retired 242, exit\n\
+        core 1: retired 264, exit\n\
+        core 2: retired 194, exit\n\
+        core 3: retired 198, exit\n"),
     told!("edges 2:33" => "2:33 pc 00000098 load 000010f8 00000001\n"),
     told!("conflicts 2:33" =>
         "2:33 pc 00000098 load 000010f8 00000001\n  \
@@ -36,6 +48,13 @@ pub static PLACES: [Told; 21] = [
         1:174 pc 0000008c load 000010f8 0000000d\n"),
     told!("decision 2:35 3:29" => "cut 36 36 34 28\n"),
     told!("decision 2:35 0:36" => "no decision: the log says more of their order\n"),
+    told!("other 0:111 2:109" =>
+        "core 0: retired 226, exit; recorded 242, exit\n\
+        core 1: retired 232, exit; recorded 264, exit\n\
+        core 2: retired 182, exit; recorded 194, exit\n\
+        core 3: retired 150, exit; recorded 198, exit\n\
+        word 0000110c: 0000000b, recorded 00000011\n"),
+    told!("other 2:35 0:36" => "no decision: the log says more of their order\n"),
     told!("decisions" =>
         "19 this way, 19 the other: 3:45 pc 00000024 amo 000010fc 00000001 -> 00000001 \
         before 2:67 pc 000000a0 amo 000010fc 00000001 -> 00000000\n\
@@ -52,8 +71,8 @@ pub static PLACES: [Told; 21] = [
 macro_rules! unknown {
     ($command:literal, $name:literal) => {
         told!($command => concat!("rtr_gdb: no command '", $name,
-            "'; monitor takes cut, goto, earliest, latest, last, decision, lead, slack, why, edges, order, ",
-            "conflicts, writer, readers, history and decisions\n"))
+            "'; monitor takes cut, when, goto, earliest, latest, last, decision, other, lead, slack, why, edges, ",
+            "order, conflicts, writer, readers, history, decisions and info\n"))
     };
 }
 
@@ -72,7 +91,7 @@ macro_rules! lacks {
 }
 
 /// Commands that aren't known, or that name what isn't there.
-pub static REFUSED: [Told; 34] = [
+pub static REFUSED: [Told; 41] = [
     unknown!("", ""),
     unknown!("nonsense 1", "nonsense"),
     goes!("cut 1" => "cut"),
@@ -97,6 +116,11 @@ pub static REFUSED: [Told; 34] = [
     lacks!("decision 0:242 2:195" => "2:195"),
     lacks!("decision 0:242 4:1" => "4:1"),
     goes!("decisions 0" => "decisions"),
+    goes!("other 0:1" => "other C:N C:N"),
+    lacks!("other 0:0 1:1" => "0:0"),
+    lacks!("other 0:242 4:1" => "4:1"),
+    goes!("when 1" => "when"),
+    goes!("info 1" => "info"),
     lacks!("edges 0:0" => "0:0"),
     goes!("edges" => "edges C:N"),
     lacks!("conflicts 2:195" => "2:195"),
@@ -105,19 +129,32 @@ pub static REFUSED: [Told; 34] = [
     goes!("why 1" => "why C:N"),
     goes!("writer 0X10f8" => "writer ADDR"),
     goes!("readers 4294967296" => "readers ADDR"),
-    goes!("history" => "history ADDR"),
+    goes!("history" => "history ADDR, history ADDR writes or history ADDR core C"),
+    goes!("history 64 reads" => "history ADDR, history ADDR writes or history ADDR core C"),
+    goes!("history 64 core" => "history ADDR, history ADDR writes or history ADDR core C"),
     goes!("last x" => "last ADDR"),
 ];
 
 /// What is asked where core 0 has stored to word 16 and core 1 has loaded it: on the recording of two cores.
-pub static RUN: [Told; 24] = [
+pub static RUN: [Told; 28] = [
     told!("history 64" =>
         "+ 0:3 pc 00000008 store 00000040 00000000 -> 00000007\n\
         + 1:2 pc 00000014 load 00000040 00000007\n\
         + 1:3 pc 00000018 store 00000040 00000007 -> 00000001\n\
         + 0:4 pc 0000000c load 00000040 00000001\n"),
+    told!("history 64 writes" =>
+        "+ 0:3 pc 00000008 store 00000040 00000000 -> 00000007\n\
+        + 1:3 pc 00000018 store 00000040 00000007 -> 00000001\n"),
     told!("writer 64" => "no write: the opening value\n"),
     told!("goto 1:2" => "cut 3 2\n"),
+    told!("history 64 core 1" =>
+        "  1:2 pc 00000014 load 00000040 00000007\n\
+        + 1:3 pc 00000018 store 00000040 00000007 -> 00000001\n"),
+    told!("history 64 core 2" => "no access\n"),
+    told!("other 0:3 1:2" =>
+        "core 0: retired 5, exit; recorded 5, exit\n\
+        core 1: retired 4, exit; recorded 4, exit\n\
+        no word differs\n"),
     told!("history 0x40" =>
         "  0:3 pc 00000008 store 00000040 00000000 -> 00000007\n  \
         1:2 pc 00000014 load 00000040 00000007\n\
