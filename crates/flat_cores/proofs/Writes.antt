@@ -260,7 +260,8 @@ module _ (f : Flat) (s : PlainState) (memory : ℕ → List ℕ) (c word before 
       home_is = home ∙ (ap (λ (x : Node). slice_set f.home.items (line_at x (block % LINES)).place (block_with b
           (slice_set
           b.words slot value))) is
-          ∙ (ap (λ (x : HomeBlock). slice_set f.home.items line.place (block_with x (slice_set x.words slot value))) b_is
+          ∙ (ap (λ (x : HomeBlock). slice_set f.home.items line.place (block_with x (slice_set x.words slot value)))
+          b_is
           ∙ ap (λ (v : ℕ). slice_set f.home.items line.place (block_with b0 (slice_set b0.words slot v))) value_is))
 
       same_blocks : blocks_of f'.home.items ≡ blocks_of f.home.items

@@ -225,7 +225,8 @@ module _ (f : Flat) (s : PlainState) (memory : ℕ → List ℕ) (c : ℕ) (n : 
   -- what is read in the entry is what the access finds
   read_here : (b : HomeBlock) (before : ℕ) → b ≡ home_at f.home.items m.place →
       before ≡ slice_index b.words (word_of n.need % BLOCK_WORDS) → before ≡ slice_index b0.words slot
-  read_here b before found read = read ∙ (ap (λ (x : HomeBlock). slice_index x.words (word_of n.need % BLOCK_WORDS)) found
+  read_here b before found read =
+      read ∙ (ap (λ (x : HomeBlock). slice_index x.words (word_of n.need % BLOCK_WORDS)) found
       ∙ ap (λ (w : ℕ). slice_index b0.words (w % BLOCK_WORDS)) word_is)
 
   found_before : (b : HomeBlock) (before : ℕ) → b ≡ home_at f.home.items m.place →
