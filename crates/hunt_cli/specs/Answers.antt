@@ -84,7 +84,8 @@ pub record TellsFaults (exit : HuntExit) (read read' written written' : ℕ) : T
   pub write_fault : exit ≡ As exits.WriteFault → HasRisen written written'
   pub no_write_fault : (exit ≡ As exits.WriteFault) ⊎ (written' ≡ written)
 
--- Words that ask for nothing end at Usage, unless memory runs out, and are told so; neither input nor output is touched.
+-- Words that ask for nothing end at Usage, unless memory runs out, and are told so; neither input nor output is
+-- touched.
 abbrev pub IsIdle : HuntExit → Moved → Type 0
 IsIdle exit m =
     (((exit ≡ As exits.Usage) × IsTold (fault_line exits.Usage) m)

@@ -16,7 +16,7 @@ ghost use Rattle.hunt_cli.specs.declared.exits.HuntExit.TheVariants.{Breaks};
 
 use crate::ends::RunEnd;
 use crate::exits::Answer;
-use crate::ranges::{Growing, PolicyRuns};
+use crate::ranges::PolicyRuns;
 use crate::runs::{counted, run_at};
 use crate::shows::put_run;
 use crate::smalls::SmallOf;
@@ -25,7 +25,7 @@ use hunt_runs::{Counted, HuntedMachine};
 use hunt_texts::{found_report, none_text, run_text};
 use hunt_words::{Runs, Setup};
 use rtr_types::Items;
-use run_ranges::first_of_range;
+use run_ranges::{Pace, first_of_range};
 use std::alloc::{AllocError, Global};
 use std::marker::PhantomData;
 use std::thread::Threads;
@@ -109,9 +109,10 @@ impl FirstOf<'_> {
 }
 
 /// The first run of the range that breaks the demand, shown; or that none does. The only refusal is want of memory.
-pub(crate) fn first_of<M: HuntedMachine + Sync, R: Threads + Sync>(
+pub(crate) fn first_of<M: HuntedMachine + Sync, R: Threads + Sync, P: Pace>(
     rt: &R,
     alloc: Global,
+    pace: &mut P,
     asked: FirstOf<'_>,
     threads: usize,
 ) -> Result<Answer, AllocError>
@@ -123,7 +124,7 @@ pub(crate) fn first_of<M: HuntedMachine + Sync, R: Threads + Sync>(
     let Runs { first, last, .. } = asked.runs;
     let counted = counted::<M>(alloc, asked.bytes, asked.setup.params)?;
     let values = first_values::<M>(alloc, asked, &counted)?;
-    match first_number::<M, R>(rt, alloc, asked, &counted, values.as_slice(), threads)? {
+    match first_number::<M, R, P>(rt, alloc, pace, asked, &counted, values.as_slice(), threads)? {
         Some(number) => {
             let shown = found::<M>(alloc, asked, &counted, values.as_slice(), number)?;
             Ok(shown)
@@ -154,9 +155,10 @@ fn first_values<M: HuntedMachine>(
 }
 
 /// The number of the first run of the range that breaks the demand.
-fn first_number<M: HuntedMachine + Sync, R: Threads + Sync>(
+fn first_number<M: HuntedMachine + Sync, R: Threads + Sync, P: Pace>(
     rt: &R,
     alloc: Global,
+    pace: &mut P,
     asked: FirstOf<'_>,
     counted: &Counted,
     first: &[u32],
@@ -183,7 +185,9 @@ fn first_number<M: HuntedMachine + Sync, R: Threads + Sync>(
     };
     let from = asked.runs.first;
     let to = asked.runs.last + 1;
-    first_of_range(rt, alloc, &trial, &mut Growing, from, to, threads)
+    let found = first_of_range(rt, alloc, &trial, pace, from, to, threads);
+    pace.over();
+    found
 }
 
 /// The run of this number, which breaks the demand, shown: made small, or as it is.

@@ -12,15 +12,17 @@ ghost use Rattle.hunt_cli.specs.declared.exits.HuntExit.TheVariants.{As};
 
 use crate::exits::HuntExit;
 use crate::tool::run_hunt;
+use crate::watched::Watched;
 use command_line::{Question, asked};
 use hunt_uses::{table, usage_told};
 use rtr_cli::{arguments, tell};
 use rtr_io::{Sink, Source, StdSink, StdSource, WriteFault, write_all};
+use run_ranges::Pace;
 use state_text::Exit;
 use std::alloc::Global;
-use std::io::{Stderr, Stdin, Stdout};
+use std::io::{Eprint, Stderr, Stdin, Stdout};
 use std::process::ExitCode;
-use std::rt::Env;
+use std::rt::{Clock, Env};
 use std::thread::Threads;
 
 /// Which program it is.
@@ -37,13 +39,12 @@ fn text_of(asked: Question) -> &'static str {
 /// Runs the program on the standard streams and the words of the command line, and answers the status that the process
 /// ends with. The three streams have types of their own, so that none can stand for another. `--help` and `--version`
 /// are answered on the output; and of words that ask for nothing the report tells, behind its line, which of them is at
-/// fault and how the program is used.
-pub fn run_program<R: AllocGlobal + Env + Threads + Sync>(
-    rt: &R,
-    input: Stdin,
-    output: Stdout,
-    report: Stderr,
-) -> ExitCode {
+/// fault and how the program is used. Where standard error is a terminal it shows how many runs of a range were made so
+/// far, and how many a second.
+pub fn run_program<R>(rt: &R, input: Stdin, output: Stdout, report: Stderr) -> ExitCode
+where
+    R: AllocGlobal + Clock + Env + Eprint + Threads + Sync,
+{
     let words = arguments(rt);
     let list = match &words {
         Ok(list) => list.as_slice(),
@@ -59,6 +60,7 @@ pub fn run_program<R: AllocGlobal + Env + Threads + Sync>(
     let status = conclude(
         rt,
         rt.alloc(),
+        &mut Watched::new(rt, report),
         words,
         &mut StdSource::new(input),
         &mut StdSink::new(output),
@@ -83,9 +85,10 @@ fn give(text: &str, output: Stdout, report: Stderr) -> ExitCode {
 
 /// Does what the words ask for, and answers the status that the process ends with. `words` leaves out the program's
 /// name; where they couldn't be had they are the exit for that, and neither input nor output is touched.
-pub fn conclude<R: Threads + Sync, I: Source, O: Sink, E: Sink>(
+pub fn conclude<R: Threads + Sync, P: Pace, I: Source, O: Sink, E: Sink>(
     rt: &R,
     alloc: Global,
+    pace: &mut P,
     words: Result<Vec<String>, Exit>,
     input: &mut I,
     output: &mut O,
@@ -112,7 +115,7 @@ pub fn conclude<R: Threads + Sync, I: Source, O: Sink, E: Sink>(
         × (O.faults output.new ≡ O.faults output.old)) }
 {
     let exit = match words {
-        Ok(words) => run_hunt(rt, alloc, words.as_slice(), input, output, report),
+        Ok(words) => run_hunt(rt, alloc, pace, words.as_slice(), input, output, report),
         Err(exit) => {
             tell(report, &exit);
             HuntExit::As(exit)

@@ -13,7 +13,7 @@ use crate::runs::numbered;
 use end_claims::{Demand, Place};
 use hunt_runs::{Counted, HuntedMachine};
 use rtr_types::Params;
-use run_ranges::{Asked, Pace, Row, Runs, Seen, Trial, first_in, table_in};
+use run_ranges::{Asked, Row, Runs, Seen, Trial, first_in, table_in};
 use std::alloc::{AllocError, Global};
 use std::marker::PhantomData;
 use turn_policies::Named;
@@ -108,15 +108,5 @@ impl<M: HuntedMachine + Sync> Trial for PolicyRuns<'_, M> {
 
     fn table(&self, alloc: Global, from: u64, to: u64) -> Result<Vec<Row>, AllocError> {
         table_in(alloc, self, from, to)
-    }
-}
-
-/// Batches that grow with the runs that were made: an eighth of these, and 4096 at most.
-#[derive(Drop)]
-pub(crate) struct Growing;
-
-impl Pace for Growing {
-    fn batch(&mut self, done: u64) -> u64 {
-        (done / 8).clamp(1, 4096)
     }
 }

@@ -11,14 +11,14 @@ ghost use Rattle.hunt_cli.specs.Finds.{table_report, told_broken};
 ghost use Rattle.hunt_cli.specs.Kinds.{kind_with, setting_on};
 
 use crate::exits::Answer;
-use crate::ranges::{Growing, PolicyRuns};
+use crate::ranges::PolicyRuns;
 use crate::runs::counted;
 use end_claims::{Demand, Place};
 use hunt_runs::HuntedMachine;
 use hunt_texts::{broken_report, table_text};
 use hunt_words::{Runs, Setup};
 use rtr_types::Items;
-use run_ranges::{Row, table_of_range};
+use run_ranges::{Pace, Row, table_of_range};
 use std::alloc::{AllocError, Global};
 use std::marker::PhantomData;
 use std::thread::Threads;
@@ -39,9 +39,10 @@ pub(crate) struct TableOf<'a> {
 }
 
 /// The table of the range: how its runs end, counted. The only refusal is want of memory.
-pub(crate) fn table_of<M: HuntedMachine + Sync, R: Threads + Sync>(
+pub(crate) fn table_of<M: HuntedMachine + Sync, R: Threads + Sync, P: Pace>(
     rt: &R,
     alloc: Global,
+    pace: &mut P,
     asked: TableOf<'_>,
     threads: usize,
 ) -> Result<Answer, AllocError>
@@ -51,15 +52,16 @@ pub(crate) fn table_of<M: HuntedMachine + Sync, R: Threads + Sync>(
         asked.entry.setup.params asked.entry.bytes.now) asked.entry.runs asked.entry.places.now
         (option_map (λ d. d.now) asked.entry.demand) a.out.items (string_bytes a.report) a.exit) }
 {
-    let rows = rows_of::<M, R>(rt, alloc, asked, threads)?;
+    let rows = rows_of::<M, R, P>(rt, alloc, pace, asked, threads)?;
     let answer = told(alloc, asked, rows.as_slice())?;
     Ok(answer)
 }
 
 /// The rows of the table.
-fn rows_of<M: HuntedMachine + Sync, R: Threads + Sync>(
+fn rows_of<M: HuntedMachine + Sync, R: Threads + Sync, P: Pace>(
     rt: &R,
     alloc: Global,
+    pace: &mut P,
     asked: TableOf<'_>,
     threads: usize,
 ) -> Result<Items<Row>, AllocError>
@@ -85,7 +87,9 @@ fn rows_of<M: HuntedMachine + Sync, R: Threads + Sync>(
     };
     let from = asked.runs.first;
     let to = asked.runs.last + 1;
-    table_of_range(rt, alloc, &trial, &mut Growing, from, to, threads)
+    let rows = table_of_range(rt, alloc, &trial, pace, from, to, threads);
+    pace.over();
+    rows
 }
 
 /// The table's text, and what is reported of it.

@@ -29,6 +29,7 @@ use hunt_words::{Hunt, Runs, Setup, meaning};
 use msi_machine::Machine;
 use rtr_cli::tell;
 use rtr_io::{ReadEnd, Sink, Source, WriteFault, read_all, write_all};
+use run_ranges::Pace;
 use state_text::Exit;
 use std::alloc::{AllocError, Global};
 use std::thread::{Threads, available_parallelism};
@@ -42,15 +43,16 @@ use tso_core::BufferedMachine;
 /// `table` each row counts the runs of the range that end so, and names the least of them. At `Whole` the run that was
 /// given doesn't break the demand. The line for `rtr` records just the run that is shown (`lines_mean_their_runs` of
 /// `hunt_words`), and what `record` gives is what `rtr` gives by that line. The whole output is made before a byte is
-/// given.
+/// given. Nothing of it rests on the pace at which a range's runs are made.
 ///
 /// `Usage` comes only where the words ask for nothing, and then neither input nor output is touched. The other exits
 /// come as in `rtr`: `TooLarge` where the input has more bytes than the memory, or an ELF file more than one may have,
 /// `Elf` with the first fault of such a file, `ReadFault` and `WriteFault` by the streams, and `OutOfMemory` for want
 /// of memory.
-pub fn run_hunt<R: Threads + Sync, I: Source, O: Sink, E: Sink>(
+pub fn run_hunt<R: Threads + Sync, P: Pace, I: Source, O: Sink, E: Sink>(
     rt: &R,
     alloc: Global,
+    pace: &mut P,
     words: &[String],
     input: &mut I,
     output: &mut O,
@@ -84,16 +86,17 @@ pub fn run_hunt<R: Threads + Sync, I: Source, O: Sink, E: Sink>(
         (O.faults output.new) }
 {
     match meaning(alloc, words) {
-        Ok(Some(hunt)) => hunted(rt, alloc, hunt, input, output, report),
+        Ok(Some(hunt)) => hunted(rt, alloc, pace, hunt, input, output, report),
         Ok(None) => ends_as(report, Exit::Usage),
         Err(AllocError) => ends_as(report, Exit::OutOfMemory),
     }
 }
 
 /// Does what is asked for.
-fn hunted<R: Threads + Sync, I: Source, O: Sink, E: Sink>(
+fn hunted<R: Threads + Sync, P: Pace, I: Source, O: Sink, E: Sink>(
     rt: &R,
     alloc: Global,
+    pace: &mut P,
     hunt: Hunt,
     input: &mut I,
     output: &mut O,
@@ -117,7 +120,7 @@ fn hunted<R: Threads + Sync, I: Source, O: Sink, E: Sink>(
         Ok(bytes) => bytes,
         Err(exit) => return ends_as(report, exit),
     };
-    match answer(rt, alloc, hunt, bytes) {
+    match answer(rt, alloc, pace, hunt, bytes) {
         Ok(answer) => give(output, report, &answer),
         Err(AllocError) => ends_as(report, Exit::OutOfMemory),
     }
@@ -185,9 +188,10 @@ fn taken<I: Source>(alloc: Global, setup: &Setup, input: &mut I) -> Result<Vec<u
 }
 
 /// What the hunt finds of the image of these bytes.
-fn answer<R: Threads + Sync>(
+fn answer<R: Threads + Sync, P: Pace>(
     rt: &R,
     alloc: Global,
+    pace: &mut P,
     hunt: Hunt,
     bytes: Vec<u8>,
 ) -> Result<Answer, AllocError>
@@ -196,16 +200,17 @@ fn answer<R: Threads + Sync>(
     ensures { IfOk result (λ a. Finds hunt bytes.items a.out.items (string_bytes a.report) a.exit) }
 {
     if setup_in(&hunt).tso {
-        answer_on::<BufferedMachine<NoRider, NoCarry>, R>(rt, alloc, hunt, bytes)
+        answer_on::<BufferedMachine<NoRider, NoCarry>, R, P>(rt, alloc, pace, hunt, bytes)
     } else {
-        answer_on::<Machine<NoRider, NoCarry>, R>(rt, alloc, hunt, bytes)
+        answer_on::<Machine<NoRider, NoCarry>, R, P>(rt, alloc, pace, hunt, bytes)
     }
 }
 
 /// What the hunt finds of the image of these bytes on this kind of machine.
-fn answer_on<M: HuntedMachine + Sync, R: Threads + Sync>(
+fn answer_on<M: HuntedMachine + Sync, R: Threads + Sync, P: Pace>(
     rt: &R,
     alloc: Global,
+    pace: &mut P,
     hunt: Hunt,
     bytes: Vec<u8>,
 ) -> Result<Answer, AllocError>
@@ -228,7 +233,7 @@ fn answer_on<M: HuntedMachine + Sync, R: Threads + Sync>(
                 demand: &demand,
                 plain,
             };
-            first_of::<M, R>(rt, alloc, asked, threads_of(rt, &runs))
+            first_of::<M, R, P>(rt, alloc, pace, asked, threads_of(rt, &runs))
         }
         Hunt::Table {
             setup,
@@ -243,7 +248,7 @@ fn answer_on<M: HuntedMachine + Sync, R: Threads + Sync>(
                 places: places.as_slice(),
                 demand: demand.as_ref(),
             };
-            table_of::<M, R>(rt, alloc, asked, threads_of(rt, &runs))
+            table_of::<M, R, P>(rt, alloc, pace, asked, threads_of(rt, &runs))
         }
         Hunt::Small { setup, run, demand } => {
             let asked = SmallOf {

@@ -4,6 +4,7 @@ use crate::rows::Row;
 use hunt_cli::run_hunt;
 use row_texts::{bytes, words};
 use rtr_io::{MemSink, MemSource};
+use run_ranges::Pace;
 use std::alloc::Global;
 use std::test::Fail;
 use std::thread::Threads;
@@ -19,6 +20,18 @@ pub struct Answer {
     pub report: Vec<u8>,
 }
 
+/// Five runs a batch.
+#[derive(Drop)]
+struct Fives;
+
+impl Pace for Fives {
+    fn batch(&mut self, _done: u64) -> u64 {
+        5
+    }
+
+    fn over(&mut self) {}
+}
+
 /// The answer to a row.
 pub fn ask<R: Threads + Sync>(rt: &R, alloc: Global, row: &Row) -> Result<Answer, Fail> {
     let words = words(alloc, row.words)?;
@@ -28,6 +41,7 @@ pub fn ask<R: Threads + Sync>(rt: &R, alloc: Global, row: &Row) -> Result<Answer
     let exit = run_hunt(
         rt,
         alloc,
+        &mut Fives,
         words.as_slice(),
         &mut input,
         &mut output,

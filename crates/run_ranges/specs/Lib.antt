@@ -1,3 +1,4 @@
 pub mod Firsts
+pub mod Batches
 pub mod Rounds
 pub mod Tables

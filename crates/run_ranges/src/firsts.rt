@@ -43,7 +43,8 @@ fn first_of_round<R: Threads + Sync, T: Trial>(
         batches,
         &|i: usize| -> Result<Option<u64>, AllocError>
             requires { from + batch * (i + 1) < 2 ^ 64 }
-            ensures { IfOk result (λ f. IsFirst (T.breaks trial.entry.now) (from + batch * i) (from + batch * (i + 1)) f) }
+            ensures { IfOk result (λ f. IsFirst (T.breaks trial.entry.now) (from + batch * i)
+                (from + batch * (i + 1)) f) }
         {
             let start = from + batch * i as u64;
             trial.first(start, start + batch)

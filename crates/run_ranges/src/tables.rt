@@ -57,7 +57,8 @@ fn tables_of_round<R: Threads + Sync, T: Trial>(
 ) -> Result<Vec<Result<Vec<Row>, AllocError>>, AllocError>
     requires { from + batch * batches < 2 ^ 64 }
     ensures many { IfOk result (λ v. vec_len v ≡ batches) }
-    ensures each { IfOk result (λ v. AreTables (λ t. t.items) (T.ends trial.now) (T.breaks trial.now) from batch v.items) }
+    ensures each { IfOk result (λ v. AreTables (λ t. t.items) (T.ends trial.now) (T.breaks trial.now) from batch
+        v.items) }
 {
     thread::map_indices(
         rt,
@@ -65,8 +66,8 @@ fn tables_of_round<R: Threads + Sync, T: Trial>(
         batches,
         &|i: usize| -> Result<Vec<Row>, AllocError>
             requires { from + batch * (i + 1) < 2 ^ 64 }
-            ensures { IfOk result (λ rows. IsTable (T.ends trial.entry.now) (T.breaks trial.entry.now) (from + batch * i)
-                (from + batch * (i + 1)) rows.items) }
+            ensures { IfOk result (λ rows. IsTable (T.ends trial.entry.now) (T.breaks trial.entry.now)
+                (from + batch * i) (from + batch * (i + 1)) rows.items) }
         {
             let start = from + batch * i as u64;
             trial.table(alloc, start, start + batch)
@@ -84,7 +85,8 @@ fn table_of_round<R: Threads + Sync, T: Trial>(
     batches: usize,
 ) -> Result<Vec<Row>, AllocError>
     requires { from + batch * batches < 2 ^ 64 }
-    ensures { IfOk result (λ rows. IsTable (T.ends trial.now) (T.breaks trial.now) from (from + batch * batches) rows.items) }
+    ensures { IfOk result (λ rows. IsTable (T.ends trial.now) (T.breaks trial.now) from (from + batch * batches)
+        rows.items) }
 {
     let mut tables = tables_of_round(rt, alloc, trial, from, batch, batches)?;
     let mut all = Vec::new(alloc);

@@ -128,6 +128,9 @@ pub trait Pace {
     /// The greatest length of the next batches, where so many runs have been made.
     fn batch(&mut self, done: u64) -> u64
         ensures { 0 < result };
+
+    /// Hears from who asked of the range that no batches follow.
+    fn over(&mut self);
 }
 
 /// The length of the next batches, one for each thread: no more than the pace says, and together no more than are left.

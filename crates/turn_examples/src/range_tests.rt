@@ -69,6 +69,8 @@ impl Pace for Twos {
     fn batch(&mut self, _done: u64) -> u64 {
         2
     }
+
+    fn over(&mut self) {}
 }
 
 /// Each row's value, count, number of broken runs and least run.
