@@ -1,6 +1,6 @@
 -- Rule: the turns of a run: turns_named
 -- The acts of a run, the turns in which they were made, and the turns that a run's name means.
-use Rattle.std.specs.Prelude.{Bool, List, map, if◌then◌else◌, ℕ}
+use Rattle.std.specs.Prelude.{Bool, List, length, map, if◌then◌else◌, ℕ}
 use Rattle.image_mem.specs.Contents.{Contents}
 use Rattle.rtr_types.specs.Accesses.{is_write}
 use Rattle.rtr_types.specs.declared.access.Access.{Access}
@@ -17,11 +17,12 @@ use Rattle.turn_policies.specs.declared.named.Numbered.{Numbered}
 use Rattle.turn_policies.specs.declared.named.Numbered.TheVariants.{Few, Ranked, Seed, Walk}
 use Rattle.run_accesses.specs.Accesses.{accesses_of}
 use Rattle.run_accesses.specs.TsoAccesses.{tso_accesses_of}
-use Rattle.small_turns.specs.Acts.{turns_made}
+use Rattle.hunt_runs.specs.Picked.{picks_numbered}
+use Rattle.small_turns.specs.Acts.{turns_made, turns_of}
 use Rattle.small_turns.specs.declared.acts.Act.{Act}
 use Rattle.hunt_words.specs.declared.hunt.RunName.{RunName}
 use Rattle.hunt_words.specs.declared.hunt.RunName.TheVariants as names
-use Rattle.hunt_cli.specs.Kinds.{Setting, numbered_choices, picks}
+use Rattle.hunt_cli.specs.Kinds.{Setting, course, numbered_choices, picks}
 
 -- who makes a core's access of this kind: a store its buffer, where it has one, and any other the core
 abbrev pub actor_of : (buffers : Bool) → AccessKind → (core : ℕ) → Actor
@@ -45,12 +46,19 @@ acts_on buffers image params choices = map (act_of buffers) (accesses_on buffers
 abbrev pub turns_under : Setting → Choices → List Turn
 turns_under s choices = turns_made (acts_on s.kind.buffers s.image s.params choices)
 
--- the turns of the run of a number: those that the number means by `few`, else those in which the run was made
+-- whom the run of a number picks, in order; no run has more picks than choices
+abbrev pub picks_made : Setting → Numbered → List Actor
+picks_made s number =
+    picks_numbered (course s) (picks s) number (length (numbered_choices s number).bytes) s.params.cores
+    (s.kind.most_steps s.params)
+
+-- The turns of the run of a number: those that the number means by `few`; by a policy that picks, those that its picks
+-- make; and by a seed, which picks nobody, those in which the accesses were made.
 abbrev pub turns_numbered : Setting → Numbered → List Turn
 turns_numbered s (Seed n) = turns_under s (numbered_choices s (Seed n))
 turns_numbered s (Few n) = few (picks s).each n
-turns_numbered s (Walk n) = turns_under s (numbered_choices s (Walk n))
-turns_numbered s (Ranked depth n) = turns_under s (numbered_choices s (Ranked depth n))
+turns_numbered s (Walk n) = turns_of (picks_made s (Walk n))
+turns_numbered s (Ranked depth n) = turns_of (picks_made s (Ranked depth n))
 
 -- the turns of the run of this name
 abbrev pub turns_named : Setting → RunName → List Turn

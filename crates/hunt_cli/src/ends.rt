@@ -86,6 +86,13 @@ impl<M: HuntedMachine> RunEnd<M> {
         values_at(alloc, &self.asked(), places)
     }
 
+    /// How many choices were noted in the run.
+    pub(crate) fn noted(&self) -> usize
+        ensures { result ≡ length self.now.choices }
+    {
+        self.ended.choices.len()
+    }
+
     /// The choice bytes of the run, and the seed.
     pub(crate) fn into_choices(self) -> (Items<u8>, u64)
         ensures choices { result.0 ≡ self.choices }

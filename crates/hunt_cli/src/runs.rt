@@ -3,15 +3,20 @@ ghost use Rattle.std.specs.Prelude.{◌≡◌, ◌*◌, ◌≤◌, IfOk, length}
 ghost use Rattle.rtr_types.specs.Parameters.{Fits};
 ghost use Rattle.run_steps.specs.Ways.{IsSetUp};
 ghost use Rattle.turn_policies.specs.Named.{numbered_by};
-ghost use Rattle.hunt_cli.specs.Kinds.{kind_with, named_choices, numbered_choices, picks, setting_in, setting_on};
-ghost use Rattle.hunt_cli.specs.Kinds.{turns_choices};
+ghost use Rattle.small_turns.specs.Acts.{turns_of};
+ghost use Rattle.hunt_runs.specs.Picked.{picks_numbered};
+ghost use Rattle.hunt_cli.specs.Kinds.{course, kind_with, named_choices, numbered_choices, picks, setting_in};
+ghost use Rattle.hunt_cli.specs.Kinds.{setting_on, turns_choices};
 ghost use Rattle.hunt_cli.specs.RunEnds.{IsRunUnder};
 
 use crate::ends::RunEnd;
 use crate::images::machine;
-use hunt_runs::{Counted, Counting, HuntedMachine, run_numbered, run_of_turns, straight_counts};
+use hunt_runs::{
+    Counted, Counting, HuntedMachine, picks_numbered, run_numbered, run_of_turns, straight_counts,
+};
 use hunt_words::RunName;
 use rtr_types::{Items, Params};
+use small_turns::turns_of;
 use std::alloc::{AllocError, Global};
 use turn_lists::Turn;
 use turn_policies::{Named, Numbered};
@@ -70,6 +75,29 @@ pub(crate) fn by_turns<M: HuntedMachine>(
     let turns = Items::from_vec(turns.to_vec(alloc)?);
     let ended = run_of_turns::<M>(alloc, machine, params, turns)?;
     Ok(RunEnd::of(ended, params.cores))
+}
+
+/// The turns that the picks of the run of this number make, of the image of these bytes, of whose straight run these
+/// are the counts: of the first `room` picks. The only refusal is want of memory.
+pub(crate) fn picked_turns<M: HuntedMachine>(
+    alloc: Global,
+    bytes: &[u8],
+    params: Params,
+    counted: &Counted,
+    number: Numbered,
+    room: usize,
+) -> Result<Items<Turn>, AllocError>
+    requires fits { Fits params }
+    requires memory { length bytes.now ≤ 4 * params.words }
+    requires counts { counted.now ≡ picks (setting_on (kind_with M.seen_at M.changes_at M.outcome M.most_steps
+        M.buffers) params bytes.now) }
+    ensures { IfOk result (λ turns. let s = setting_on (kind_with M.seen_at M.changes_at M.outcome M.most_steps
+        M.buffers) params bytes.now in turns ≡ turns_of (picks_numbered (course s) (picks s) number room params.cores
+        (M.most_steps params))) }
+{
+    let opening = machine::<M>(alloc, bytes, params)?;
+    let actors = picks_numbered(alloc, opening, params, counted, number, room)?;
+    turns_of(alloc, actors.as_slice())
 }
 
 /// The run of a policy with this number, of the image of these bytes, of whose straight run these are the counts. The

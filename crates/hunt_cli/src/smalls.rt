@@ -3,13 +3,14 @@ ghost use Rattle.std.specs.Prelude.{◌≡◌, ◌*◌, ◌≤◌, IfOk, OnOk, S
 ghost use Rattle.rtr_types.specs.Parameters.{Fits};
 ghost use Rattle.schedule_pick.specs.Choices.{choices_of};
 ghost use Rattle.end_claims.specs.Demands.{is_demanded_within};
+ghost use Rattle.small_turns.specs.Acts.{turns_of};
 ghost use Rattle.small_turns.specs.Small.{IsSmall};
 ghost use Rattle.hunt_texts.specs.Reports.{whole_report};
 ghost use Rattle.state_text.specs.declared.exit.Exit.TheVariants.{Done};
 ghost use Rattle.hunt_cli.specs.Finds.{FindsSmall, IsMadeSmall, IsPut, IsShown, turns_break};
 ghost use Rattle.hunt_cli.specs.Kinds.{image_in, kind_with, named_choices, numbered_choices, picks, setting_on};
 ghost use Rattle.hunt_cli.specs.Kinds.{turns_choices};
-ghost use Rattle.hunt_cli.specs.OwnTurns.{turns_named, turns_numbered, turns_under};
+ghost use Rattle.hunt_cli.specs.OwnTurns.{picks_made, turns_named, turns_numbered, turns_under};
 ghost use Rattle.hunt_cli.specs.RunEnds.{IsRunUnder};
 ghost use Rattle.hunt_cli.specs.declared.exits.HuntExit.TheVariants.{As, Whole};
 
@@ -17,7 +18,7 @@ use crate::acts::acts_of;
 use crate::ends::RunEnd;
 use crate::exits::{Answer, HuntExit};
 use crate::images::machine;
-use crate::runs::{by_turns, counted, run_by, run_named};
+use crate::runs::{by_turns, counted, picked_turns, run_by, run_named};
 use crate::shows::put_run;
 use end_claims::Demand;
 use hunt_runs::{Counted, HuntedMachine};
@@ -117,9 +118,10 @@ impl<'a> SmallOf<'a> {
         alloc: Global,
         run: RunEnd<M>,
     ) -> Result<Option<Items<Turn>>, AllocError>
-        ensures { IfOk result (λ found. let s = setting_on (kind_with M.seen_at M.changes_at M.outcome M.most_steps M.buffers)
-            self.entry.setup.params self.entry.bytes.now in
-            IsMadeSmall (turns_break s self.entry.demand.now self.entry.first.now) (turns_under s (choices_of run.choices run.seed)) found) }
+        ensures { IfOk result (λ found. let s = setting_on (kind_with M.seen_at M.changes_at M.outcome M.most_steps
+            M.buffers) self.entry.setup.params self.entry.bytes.now in
+            IsMadeSmall (turns_break s self.entry.demand.now self.entry.first.now)
+            (turns_under s (choices_of run.choices run.seed)) found) }
     {
         let acts = acts_of(alloc, self.bytes, self.setup.params, run)?;
         let bench = machine::<M>(alloc, self.bytes, self.setup.params)?;
@@ -136,8 +138,8 @@ impl<'a> SmallOf<'a> {
         alloc: Global,
         turns: &[Turn],
     ) -> Result<Option<Items<Turn>>, AllocError>
-        ensures { IfOk result (λ found. let s = setting_on (kind_with M.seen_at M.changes_at M.outcome M.most_steps M.buffers)
-            self.entry.setup.params self.entry.bytes.now in
+        ensures { IfOk result (λ found. let s = setting_on (kind_with M.seen_at M.changes_at M.outcome M.most_steps
+            M.buffers) self.entry.setup.params self.entry.bytes.now in
             IsMadeSmall (turns_break s self.entry.demand.now self.entry.first.now) turns.now found) }
     {
         match self.from_turns::<M>(alloc, turns)? {
@@ -146,8 +148,37 @@ impl<'a> SmallOf<'a> {
         }
     }
 
+    /// Turns that break the demand and are least in steps, made of the acts of the run of this number, or where these
+    /// break nothing of its picks; `None` where neither do. The only refusal is want of memory.
+    fn from_picks<M: HuntedMachine>(
+        self,
+        alloc: Global,
+        counted: &Counted,
+        number: Numbered,
+        run: RunEnd<M>,
+    ) -> Result<Option<Items<Turn>>, AllocError>
+        requires counts { counted.now ≡ picks (setting_on (kind_with M.seen_at M.changes_at M.outcome M.most_steps
+            M.buffers) self.setup.params self.bytes.now) }
+        requires run { let s = setting_on (kind_with M.seen_at M.changes_at M.outcome M.most_steps M.buffers)
+            self.setup.params self.bytes.now in IsRunUnder s (numbered_choices s number) run }
+        ensures { IfOk result (λ found. let s = setting_on (kind_with M.seen_at M.changes_at M.outcome M.most_steps
+            M.buffers) self.entry.setup.params self.entry.bytes.now in
+            IsMadeSmall (turns_break s self.entry.demand.now self.entry.first.now) (turns_of (picks_made s number))
+            found) }
+    {
+        let noted = run.noted();
+        match self.from_run(alloc, run)? {
+            Some(least) => Ok(Some(least)),
+            None => {
+                let (bytes, params) = (self.bytes, self.setup.params);
+                let turns = picked_turns::<M>(alloc, bytes, params, counted, number, noted)?;
+                self.least_of::<M>(alloc, turns.as_slice())
+            }
+        }
+    }
+
     /// Turns that break the demand and are least in steps, made of the list of turns that the number means, or of the
-    /// acts of the run of another policy; `None` where these break nothing. The only refusal is want of memory.
+    /// acts or the picks of another policy's run; `None` where these break nothing. The only refusal is want of memory.
     pub(crate) fn from_number<M: HuntedMachine>(
         self,
         alloc: Global,
@@ -159,8 +190,8 @@ impl<'a> SmallOf<'a> {
             M.buffers) self.setup.params self.bytes.now) }
         requires run { let s = setting_on (kind_with M.seen_at M.changes_at M.outcome M.most_steps M.buffers)
             self.setup.params self.bytes.now in IsRunUnder s (numbered_choices s number) run }
-        ensures { IfOk result (λ found. let s = setting_on (kind_with M.seen_at M.changes_at M.outcome M.most_steps M.buffers)
-            self.entry.setup.params self.entry.bytes.now in
+        ensures { IfOk result (λ found. let s = setting_on (kind_with M.seen_at M.changes_at M.outcome M.most_steps
+            M.buffers) self.entry.setup.params self.entry.bytes.now in
             IsMadeSmall (turns_break s self.entry.demand.now self.entry.first.now) (turns_numbered s number) found) }
     {
         match number {
@@ -168,8 +199,9 @@ impl<'a> SmallOf<'a> {
                 let turns = counted.turns(alloc, number)?;
                 self.least_of::<M>(alloc, turns.as_slice())
             }
-            Numbered::Seed(_) | Numbered::Walk(_) | Numbered::Ranked(..) => self.from_run(
-                alloc, run,
+            Numbered::Seed(_) => self.from_run(alloc, run),
+            Numbered::Walk(_) | Numbered::Ranked(..) => self.from_picks(
+                alloc, counted, number, run,
             ),
         }
     }
@@ -184,8 +216,8 @@ impl<'a> SmallOf<'a> {
     ) -> Result<Option<Items<Turn>>, AllocError>
         requires run { let s = setting_on (kind_with M.seen_at M.changes_at M.outcome M.most_steps M.buffers)
             self.setup.params self.bytes.now in IsRunUnder s (named_choices s name.now) run }
-        ensures { IfOk result (λ found. let s = setting_on (kind_with M.seen_at M.changes_at M.outcome M.most_steps M.buffers)
-            self.entry.setup.params self.entry.bytes.now in
+        ensures { IfOk result (λ found. let s = setting_on (kind_with M.seen_at M.changes_at M.outcome M.most_steps
+            M.buffers) self.entry.setup.params self.entry.bytes.now in
             IsMadeSmall (turns_break s self.entry.demand.now self.entry.first.now) (turns_named s name.now) found) }
     {
         match name {

@@ -26,6 +26,9 @@ const PETERSON: &str =
     "93022000 13132500 93431500 13942300 93041000 23209308 23247008 83250408 63860500 03268008 \
      e30a76fe 83260009 93861600 2328d008 23200308 9382f2ff e39a02fc 73000000";
 
+/// Each core stores 1 to the word at 44, loads both words, and stores its number plus one to both.
+const OWN_STORE: &str = "93021500 13031300 23226004 03230004 032e4004 23205004 23225004 73000000";
+
 /// The first run of a range that breaks a claim, or that none does.
 pub static FOUND: [Row; 9] = [
     Row {
@@ -207,7 +210,7 @@ pub static TABLES: [Row; 3] = [
 ];
 
 /// Runs of cores with store buffers.
-pub static BUFFERED: [Row; 4] = [
+pub static BUFFERED: [Row; 5] = [
     Row {
         image: STORE_BUFFERING,
         words: "words --tso --turns - --cores 2 --words 64",
@@ -241,6 +244,17 @@ pub static BUFFERED: [Row; 4] = [
         words: "first --runs 0..199 --expect [90]=4,all:exit --cores 2 --words 64",
         status: 0,
         given: "none 0..199\n",
+        report: "",
+    },
+    // The run's accesses, as turns, don't break it: one of its loads is logged.
+    Row {
+        image: OWN_STORE,
+        words: "small --tso --by walk --run 0 --never [44]=1 --cores 2 --words 32",
+        status: 0,
+        given: "turns 1*2,w1*3\n\
+                ends [44]=1\n\
+                rtr tsorecord --cores 2 --words 32 --choices \
+                0000000101010102020101010102020202020202000000000000000000000000000000000000\n",
         report: "",
     },
 ];

@@ -4,7 +4,9 @@ ghost use Rattle.run_steps.specs.Ways.{IsSetUp};
 
 use access_times::{NoCarry, NoRider};
 use end_claims::EndView;
-use hunt_runs::{AtEnd, Counting, HuntedMachine, run_numbered, run_of_turns, straight_counts};
+use hunt_runs::{
+    AtEnd, Counting, HuntedMachine, picks_numbered, run_numbered, run_of_turns, straight_counts,
+};
 use image_mem::Image;
 use msi_machine::Machine;
 use rtr_types::{Items, Params};
@@ -86,6 +88,19 @@ fn choices_numbered<M: HuntedMachine>(
     Ok(ended.into_choices())
 }
 
+/// The first `room` actors that the run of this number picks.
+fn picks_of<M: HuntedMachine>(
+    alloc: Global,
+    bytes: &[u8],
+    numbered: Numbered,
+    room: usize,
+) -> Result<Items<Actor>, Fail> {
+    let machine = M::start(alloc, program_of(alloc, bytes)?, PARAMS)?;
+    let Counting { counted, machine } = straight_counts(alloc, machine, PARAMS)?;
+    let picks = picks_numbered(alloc, machine, PARAMS, &counted, numbered, room)?;
+    Ok(picks)
+}
+
 /// The word at 0x40 where the run of these turns ended.
 fn counter_by_turns<M: HuntedMachine>(
     alloc: Global,
@@ -147,6 +162,25 @@ fn numbers_give_their_choices(rt: HostRuntime) -> Result<(), Fail> {
     let few = choices_numbered::<M>(alloc, &LOST_UPDATE, Numbered::Few(0))?;
     assert!(rt; few.as_slice() == CORE_BY_CORE.as_slice());
     let seed = choices_numbered::<M>(alloc, &LOST_UPDATE, Numbered::Seed(17))?;
+    assert!(rt; seed.as_slice().is_empty());
+    Ok(())
+}
+
+#[test]
+fn picks_are_noted(rt: HostRuntime) -> Result<(), Fail> {
+    type M = BufferedMachine<NoRider, NoCarry>;
+    let alloc = rt.alloc();
+    let all = [
+        Actor::Core(1),
+        Actor::Core(0),
+        Actor::Buffer(0),
+        Actor::Buffer(1),
+    ];
+    let ranked = picks_of::<M>(alloc, &STORE_BUFFERING, Numbered::Ranked(3, 5), 30)?;
+    assert!(rt; ranked.as_slice() == all.as_slice());
+    let first = picks_of::<M>(alloc, &STORE_BUFFERING, Numbered::Ranked(3, 5), 2)?;
+    assert!(rt; first.as_slice() == &all[..2]);
+    let seed = picks_of::<M>(alloc, &STORE_BUFFERING, Numbered::Seed(5), 30)?;
     assert!(rt; seed.as_slice().is_empty());
     Ok(())
 }

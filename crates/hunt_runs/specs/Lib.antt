@@ -9,3 +9,5 @@ pub mod Told
 pub mod PlainSeen
 pub mod BufferedSeen
 pub mod Ways
+pub mod Noted
+pub mod Picked

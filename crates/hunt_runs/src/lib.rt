@@ -10,7 +10,8 @@
 //! (`enabled`), and the machine at its end (`ended`), which is what the run under exactly these choices comes to,
 //! whatever seed follows them (`comes_to`). `run_of_turns` and `run_numbered` do so of a list of turns and of a
 //! number: by `few`, `walk`, ranks or a seed (`choices`, `comes_to`). `straight_counts` counts the picks of the
-//! straight run (`counted`). `AtEnd` asks the end's cores and words.
+//! straight run (`counted`). `AtEnd` asks the end's cores and words. `picks_numbered` makes the
+//! run of a number again and answers whom it picks.
 #![tactic(auto)]
 
 mod buffered;
@@ -22,7 +23,9 @@ mod ended;
 mod jumps;
 mod led;
 mod machine;
+mod noting;
 mod numbered;
+mod picked;
 mod plain;
 
 pub use decision::Enabled;
@@ -30,3 +33,4 @@ pub use ended::AtEnd;
 pub use led::{Led, lead};
 pub use machine::HuntedMachine;
 pub use numbered::{Counted, Counting, Ended, run_numbered, run_of_turns, straight_counts};
+pub use picked::picks_numbered;

@@ -131,7 +131,7 @@ impl Counted {
     }
 
     /// The policy of ranks of this number, for bugs of this depth. The only refusal is want of memory.
-    fn ranks(&self, alloc: Global, depth: u8, number: u64) -> Made<Ranks>
+    pub(crate) fn ranks(&self, alloc: Global, depth: u8, number: u64) -> Made<Ranks>
         ensures { IfOk result (λ ranks. ranks
             ≡ ranked_begun (map (λ t. t.actor) self.now.each) self.now.all depth number) }
     {

@@ -18,6 +18,10 @@ single_turns acts = map (λ act. single_turn act.actor) acts
 abbrev pub turns_made : List Act → List Turn
 turns_made acts = joined (single_turns acts)
 
+-- the turns in which these actors act, one after the other
+abbrev pub turns_of : List Actor → List Turn
+turns_of actors = joined (map single_turn actors)
+
 -- how many acts the actor makes
 abbrev pub acts_of : Actor → List Act → ℕ
 acts_of a acts = count_by (λ act. is_same a act.actor) acts
