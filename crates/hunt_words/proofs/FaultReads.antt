@@ -1,7 +1,7 @@
 -- Words as the code holds them: what is at fault, and where they stop.
-use Rattle.std.proofs.Common.{◌≡◌, ◌≢◌, ◌≤◌, ◌<◌, ◌+◌, ◌-◌, ℕ, List, [], ◌∷◌, ◌++◌, Option, Some, None, refl, sym, ap, ◌∙◌, arith}
-use Rattle.std.proofs.Common.{drop, length, length-drop, map, take, take_all, true, false, Bool, cond, is_some, inl, inr, ◌⊎◌, ◌||◌}
-use Rattle.std.proofs.Math.Seq.{take-length}
+use Rattle.std.proofs.Common.{◌≡◌, ◌≤◌, ◌+◌, ◌-◌, ℕ, List, [], ◌∷◌, ◌++◌, Option, Some, None, refl, sym, ap}
+use Rattle.std.proofs.Common.{◌∙◌, arith, drop, length, length-drop, map, take, take_all, true, false, Bool, cond}
+use Rattle.std.proofs.Common.{is_some, inl, inr, ◌⊎◌, ◌||◌}
 use Rattle.std.proofs.lemmas.List.{drop-map, length-map}
 use Rattle.hunt_words.specs.declared.faults.Fault.TheVariants.{NoVerb, NotAVerb, InOptions}
 use Rattle.hunt_words.specs.declared.faults.Missing.{Missing}
@@ -15,13 +15,13 @@ use Rattle.hunt_words.specs.declared.given.Given.{Given as Held}
 use Rattle.hunt_words.specs.declared.names.Name.TheVariants as options
 use Rattle.hunt_words.specs.declared.verbs.Verb.TheVariants as verbs
 use Rattle.hunt_words.specs.Given.{Given}
-use Rattle.hunt_words.specs.Meaning.{hunt_by, hunt_of, meaning}
+use Rattle.hunt_words.specs.Meaning.{hunt_of}
 use Rattle.hunt_words.specs.Open.{has, has_machine, lacks, lacks_run, one}
 use Rattle.hunt_words.specs.Seen.{all_seen, seen}
 use Rattle.hunt_words.specs.Stops.{IsCut, IsNext, Stops, StopsAfter}
 use Rattle.hunt_words.specs.Verbs.{verb_named}
-use Rattle.hunt_words.proofs.FaultLemmas.{end-means, end-stops, fault-after, next-cut, next-stops, no-verb, none-cut}
-use Rattle.hunt_words.proofs.FaultLemmas.{not-a-verb, tells-after, value-stops}
+use Rattle.hunt_words.proofs.FaultPlaces.{end-stops, fault-after, next-cut, next-stops, no-verb}
+use Rattle.hunt_words.proofs.FaultPlaces.{not-a-verb, tells-after, value-stops}
 
 empty : {S : Type 0} (f : S → List ℕ) (words : List S) → length words ≡ 0 → map f words ≡ []
 empty f [] h = refl
@@ -31,15 +31,16 @@ pub none-read : {S : Type 0} (f : S → List ℕ) (words : List S) → length wo
     → IsFaultAt (map f words) 0 × Tells (map f words) NoVerb
 none-read f words h = let none = empty f words h in (rw none no-verb, none)
 
-pub no-verb-read : {S : Type 0} (f : S → List ℕ) (words rest : List S) (first : S) (word : List ℕ) → words ≡ first ∷ rest
+pub no-verb-read : {S : Type 0} (f : S → List ℕ) (words rest : List S) (first : S) (word : List ℕ)
+    → words ≡ first ∷ rest
     → word ≡ f first → None ≡ verb_named word → IsFaultAt (map f words) 0 × Tells (map f words) NotAVerb
 no-verb-read f words rest first word are is none =
     let same : map f words ≡ f first ∷ map f rest = ap (map f) are in
     let unnamed : verb_named (f first) ≡ None = ap verb_named (sym is) ∙ sym none in
     (rw same (not-a-verb (f first) (map f rest) unnamed), (f first, map f rest, same, unnamed))
 
-pub stop-read : {S : Type 0} (f : S → List ℕ) (words rest : List S) (first : S) (word : List ℕ) (verb : Verb) (place : ℕ)
-    (why : Why) → words ≡ first ∷ rest → word ≡ f first → Some verb ≡ verb_named word
+pub stop-read : {S : Type 0} (f : S → List ℕ) (words rest : List S) (first : S) (word : List ℕ) (verb : Verb)
+    (place : ℕ) (why : Why) → words ≡ first ∷ rest → word ≡ f first → Some verb ≡ verb_named word
     → StopsAfter verb (map f rest) place why
     → IsFaultAt (map f words) (place + 1) × Tells (map f words) (InOptions verb (place + 1) why)
 stop-read f words rest first word verb place why are is named after =
@@ -49,20 +50,14 @@ stop-read f words rest first word verb place why are is named after =
       rw same (tells-after (f first) verb (map f rest) place why named_so after),
     )
 
-pub asks-read : {S : Type 0} (f : S → List ℕ) (words rest : List S) (first : S) (word : List ℕ) (verb : Verb)
-    → words ≡ first ∷ rest → word ≡ f first → Some verb ≡ verb_named word → hunt_by verb (map f rest) ≢ None
-    → meaning (map f words) ≢ None
-asks-read f words rest first word verb are is named some none =
-    some (sym (ap (λ (w : List (List ℕ)). meaning w) (ap (map f) are)
-    ∙ rw (ap verb_named (sym is) ∙ sym named) refl) ∙ none)
-
 -- ---- in the loop
 
 pub up-to-end : {S : Type 0} (words : List S) (n : ℕ) → take (length words - n) (drop n words) ≡ drop n words
 up-to-end words n = let long = length-drop n words in take_all (length words - n) (drop n words) (omega arith)
 
-pub next-so : {S : Type 0} (f : S → List ℕ) (words : List S) (verb : Verb) (given : List Given) (read place : ℕ) (why : Why)
-    → read ≤ length words → IsCut verb (take read (map f words)) given → Stops verb given (map f (drop read words)) place why
+pub next-so : {S : Type 0} (f : S → List ℕ) (words : List S) (verb : Verb) (given : List Given) (read place : ℕ)
+    (why : Why) → read ≤ length words → IsCut verb (take read (map f words)) given
+    → Stops verb given (map f (drop read words)) place why
     → StopsAfter verb (map f words) (read + place) why
 next-so f words verb given read place why within cut stops =
     next-stops verb (map f words) given read place why cut (let long = length-map words f in omega arith)
@@ -70,14 +65,15 @@ next-so f words verb given read place why within cut stops =
 
 pub value-so : {S : Type 0} (f : S → List ℕ) (words : List S) (verb : Verb) (given : List Given) (read used : ℕ)
     (name : Name) (text : List ℕ) (why : Why) → read ≤ length words → IsCut verb (take read (map f words)) given
-    → IsNext verb given (map f (drop read words)) name text used → has_machine verb (given ++ one name text ∷ []) ≡ false
+    → IsNext verb given (map f (drop read words)) name text used
+    → has_machine verb (given ++ one name text ∷ []) ≡ false
     → Refuses given name text why → StopsAfter verb (map f words) (read + used - 1) why
 value-so f words verb given read used name text why within cut next machine refuses =
     value-stops verb (map f words) given read used name text why cut (let long = length-map words f in omega arith)
     (rw (drop-map f read words) next) machine refuses
 
-pub cut-so : {S : Type 0} (f : S → List ℕ) (words : List S) (verb : Verb) (given : List Given) (read used : ℕ) (name : Name)
-    (text : List ℕ) → read ≤ length words → IsCut verb (take read (map f words)) given
+pub cut-so : {S : Type 0} (f : S → List ℕ) (words : List S) (verb : Verb) (given : List Given) (read used : ℕ)
+    (name : Name) (text : List ℕ) → read ≤ length words → IsCut verb (take read (map f words)) given
     → IsNext verb given (map f (drop read words)) name text used → has_machine verb (given ++ one name text ∷ []) ≡ true
     → (read + used ≤ length words) × IsCut verb (take (read + used) (map f words)) (given ++ one name text ∷ [])
 cut-so f words verb given read used name text within cut next machine =
@@ -88,17 +84,6 @@ cut-so f words verb given read used name text within cut next machine =
       omega arith,
       next-cut verb (map f words) given read used name text cut (omega arith) (rw (drop-map f read words) next) machine,
     )
-
-pub none-so : (verb : Verb) (words : List (List ℕ)) → IsCut verb (take 0 words) []
-none-so verb words = none-cut verb
-
-pub whole-so : {S : Type 0} (f : S → List ℕ) (words : List S) (verb : Verb) (given : List Given) (read : ℕ)
-    → read ≤ length words → length words ≤ read → IsCut verb (take read (map f words)) given
-    → IsCut verb (map f words) given
-whole-so f words verb given read within all cut =
-    let long = length-map words f in
-    let whole : take read (map f words) ≡ map f words = take_all read (map f words) (omega arith) in
-    rw (whole) at cut
 
 pub end-so : {S : Type 0} (f : S → List ℕ) (words : List S) (verb : Verb) (given : List Given) (missing : Missing)
     → IsCut verb (map f words) given → hunt_of verb given ≡ None → IsMissing verb given missing
@@ -127,7 +112,8 @@ pub hunt-none : {A : Type 0} (o p : Option A) (b : Bool) → o ≡ p → b ≡ i
 hunt-none None p b same is h = sym same
 hunt-none (Some a) p b same is h = absurd (cc)
 
-run-kind : (given : List Given) (missing : Missing) → lacks_run given ≡ Some missing → (missing ≡ lacking.ARun) ⊎ (missing ≡ lacking.Number)
+run-kind : (given : List Given) (missing : Missing) → lacks_run given ≡ Some missing
+    → (missing ≡ lacking.ARun) ⊎ (missing ≡ lacking.Number)
 run-kind given missing h = by (has options.Run given || has options.Turns given) (has options.By given) h
   where
     by : (b c : Bool) → cond b None (cond c (Some lacking.Number) (Some lacking.ARun)) ≡ Some missing
@@ -136,7 +122,8 @@ run-kind given missing h = by (has options.Run given || has options.Turns given)
     by false true h = inr (cc)
     by false false h = inl (cc)
 
-demand-kind : (b : Bool) (missing : Missing) → cond b None (Some lacking.Demand) ≡ Some missing → missing ≡ lacking.Demand
+demand-kind : (b : Bool) (missing : Missing) → cond b None (Some lacking.Demand) ≡ Some missing
+    → missing ≡ lacking.Demand
 demand-kind true missing h = absurd (cc)
 demand-kind false missing h = cc
 
@@ -153,7 +140,8 @@ own-run given missing h = by (run-kind given missing h)
     by (inl is) = rw is refl
     by (inr is) = rw is refl
 
-own-missing : (verb : Verb) (given : List Given) (missing : Missing) → lacks verb given ≡ Some missing → is-own missing ≡ true
+own-missing : (verb : Verb) (given : List Given) (missing : Missing) → lacks verb given ≡ Some missing
+    → is-own missing ≡ true
 own-missing verbs.First given missing h =
     rw (demand-kind (has options.Expect given || has options.Never given || has options.Same given) missing h) refl
 own-missing verbs.Table given missing h =

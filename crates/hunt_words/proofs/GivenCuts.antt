@@ -1,6 +1,5 @@
 -- Words that are cut into options, where more words follow.
-use Rattle.std.proofs.Common.{◌≡◌, ◌≢◌, ℕ, Bool, true, false, cond, List, [], ◌∷◌, ◌++◌, Option, Some, None}
-use Rattle.std.proofs.Common.{refl, sym, ◌∙◌, ap, is_some}
+use Rattle.std.proofs.Common.{◌≡◌, ℕ, cond, List, [], ◌∷◌, ◌++◌, Option, Some, None, refl, sym, ◌∙◌, ap, is_some}
 use Rattle.std.specs.Option.{option_map}
 use Rattle.hunt_words.specs.declared.verbs.Verb.{Verb}
 use Rattle.hunt_words.specs.Given.{Given, alone, given_in, prepend, valued}
@@ -46,9 +45,10 @@ given-append verb (word ∷ next ∷ rest) after given h =
     by : ((g : List Given) → given_in verb rest ≡ Some g
         → given_in verb (rest ++ after) ≡ after-all g (given_in verb after))
         → ((g : List Given) → given_in verb (next ∷ rest) ≡ Some g
-        → given_in verb (next ∷ rest ++ after) ≡ after-all g (given_in verb after)) → (o : Option Given) → alone verb word ≡ o
-        → cond (is_some o) (prepend o (given_in verb (next ∷ rest))) (prepend (valued verb word next) (given_in verb rest))
-        ≡ Some given
+        → given_in verb (next ∷ rest ++ after) ≡ after-all g (given_in verb after)) → (o : Option Given)
+        → alone verb word ≡ o
+        → cond (is_some o) (prepend o (given_in verb (next ∷ rest)))
+        (prepend (valued verb word next) (given_in verb rest)) ≡ Some given
         → given_in verb (word ∷ next ∷ (rest ++ after)) ≡ after-all given (given_in verb after)
     by two one None is k =
         let p = prepended (valued verb word next) (given_in verb rest) given k in

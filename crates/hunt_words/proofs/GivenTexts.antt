@@ -1,7 +1,6 @@
 -- Texts of options, where more options follow.
-use Rattle.std.proofs.Common.{◌≡◌, ℕ, Bool, true, false, cond, not, ◌&&◌, ◌||◌, List, [], ◌∷◌, ◌++◌}
-use Rattle.std.proofs.Common.{Option, Some, None}
-use Rattle.std.proofs.Common.{refl, sym, ◌∙◌, ap, is_some}
+use Rattle.std.proofs.Common.{◌≡◌, ℕ, Bool, true, false, cond, not, ◌&&◌, ◌||◌, List, [], ◌∷◌, ◌++◌, Option, Some, None}
+use Rattle.std.proofs.Common.{refl, sym, ap, is_some}
 use Rattle.std.specs.Option.{option_or}
 use Rattle.std.specs.Str.{bytes_eq}
 use Rattle.std.proofs.lemmas.Bool.{and_from, and_parts}
@@ -17,7 +16,8 @@ pub text_at-append : (name : List ℕ) (given more : List Given)
 text_at-append name [] more = refl
 text_at-append name (o ∷ given) more = by (text_at-append name given more) (bytes_eq o.name name)
   where
-    by : text_at name (given ++ more) ≡ option_or (text_at name given) (text_at name more) → (b : Bool) → cond b (Some o.text) (text_at name (given ++ more))
+    by : text_at name (given ++ more) ≡ option_or (text_at name given) (text_at name more) → (b : Bool)
+        → cond b (Some o.text) (text_at name (given ++ more))
         ≡ option_or (cond b (Some o.text) (text_at name given)) (text_at name more)
     by rest true = refl
     by rest false = rest
@@ -49,7 +49,8 @@ once-front [] more h = refl
 once-front (o ∷ given) more h =
     let both = and_parts (not (has_option o.name (given ++ more))) (are_each_once (given ++ more)) h in
     and_from (not (has_option o.name given)) (are_each_once given)
-    (ap not (either (has_option o.name given) (λ k. let later = has-front o.name given more k in absurd (clash later both.0))))
+    (ap not (either (has_option o.name given) (λ k.
+    let later = has-front o.name given more k in absurd (clash later both.0))))
     (once-front given more both.1)
   where
     clash : has_option o.name (given ++ more) ≡ true → not (has_option o.name (given ++ more)) ≡ true → ⊥
@@ -106,7 +107,8 @@ once-more name text (o ∷ given) once new =
 -- whether an option is given, where one follows
 pub has_with : (name other : List ℕ) (given : List Given)
     → has_option other (given ++ given-one name [] ∷ []) ≡ (has_option other given || bytes_eq name other)
-has_with name other given = rw (text_at-append other given (given-one name [] ∷ [])) (by (text_at other given) (bytes_eq name other))
+has_with name other given =
+    rw (text_at-append other given (given-one name [] ∷ [])) (by (text_at other given) (bytes_eq name other))
   where
     by : (o : Option (List ℕ)) (b : Bool) → is_some (option_or o (cond b (Some []) None)) ≡ (is_some o || b)
     by None true = refl

@@ -1,6 +1,6 @@
 -- Choice bytes, written as hexadecimal digits, are read as themselves.
-use Rattle.std.proofs.Common.{◌≡◌, ℕ, zero, suc, ◌+◌, ◌*◌, ◌/◌, ◌%◌, ◌<◌, ◌≤◌, Bool, true, false, not, ◌&&◌, List, [], ◌∷◌}
-use Rattle.std.proofs.Common.{length, get_or, arith, refl, sym, ap, ◌∙◌, map, eqb}
+use Rattle.std.proofs.Common.{◌≡◌, ℕ, zero, suc, ◌+◌, ◌*◌, ◌/◌, ◌%◌, ◌<◌, true, not, List, []}
+use Rattle.std.proofs.Common.{◌∷◌, length, get_or, arith, refl, sym, ap, ◌∙◌, map, eqb}
 use Rattle.std.specs.Prelude.{slice_index}
 use Rattle.std.specs.List.{list_all, range_with_len}
 use Rattle.std.proofs.lemmas.Bool.{and_from, eq-eqb, ne_eqb}
@@ -30,7 +30,8 @@ digit (suc (suc (suc (suc (suc (suc (suc (suc zero)))))))) h = record { hex = re
 digit (suc (suc (suc (suc (suc (suc (suc (suc (suc zero))))))))) h = record { hex = refl; value = refl }
 digit (suc (suc (suc (suc (suc (suc (suc (suc (suc (suc zero)))))))))) h = record { hex = refl; value = refl }
 digit (suc (suc (suc (suc (suc (suc (suc (suc (suc (suc (suc zero))))))))))) h = record { hex = refl; value = refl }
-digit (suc (suc (suc (suc (suc (suc (suc (suc (suc (suc (suc (suc zero)))))))))))) h = record { hex = refl; value = refl }
+digit (suc (suc (suc (suc (suc (suc (suc (suc (suc (suc (suc (suc zero)))))))))))) h =
+    record { hex = refl; value = refl }
 digit (suc (suc (suc (suc (suc (suc (suc (suc (suc (suc (suc (suc (suc zero))))))))))))) h =
     record { hex = refl; value = refl }
 digit (suc (suc (suc (suc (suc (suc (suc (suc (suc (suc (suc (suc (suc (suc zero)))))))))))))) h =

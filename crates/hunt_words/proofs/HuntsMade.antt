@@ -1,27 +1,25 @@
 -- Of open options that lack nothing a hunt comes, where the machine is the one that suits.
-use Rattle.std.proofs.Common.{◌≡◌, ℕ, ◌*◌, ◌+◌, ◌<◌, ◌≤◌, ◌^◌, Bool, true, false, cond, not, ◌&&◌, ◌||◌, List, [], ◌∷◌, ◌++◌}
+use Rattle.std.proofs.Common.{◌≡◌, ℕ, ◌*◌, ◌≤◌, ◌^◌, Bool, true, false, cond, ◌&&◌, ◌||◌, List, [], ◌∷◌}
 use Rattle.std.proofs.Common.{Option, Some, None, arith, refl, sym, ◌∙◌, ap, is_some, nat_le, eqb}
-use Rattle.std.specs.Prelude.{◌-◌, codes, unwrap_or, find}
-use Rattle.std.specs.List.{list_all}
+use Rattle.std.specs.Prelude.{◌-◌, codes, find}
+use Rattle.std.specs.List.{list_all, list_any}
+use Rattle.std.specs.Str.{bytes_eq}
 use Rattle.std.specs.Option.{option_map}
 use Rattle.std.proofs.lemmas.Bool.{and_parts, eqb-true, le-leb}
 use Rattle.std.proofs.lemmas.Bool.Decides.{nat_tests}
 use Rattle.rtr_types.specs.declared.TheConstants.{CORES_MAX}
 use Rattle.rtr_types.specs.declared.params.Params.{Params}
-use Rattle.rtr_types.specs.declared.params.TheConstants.{INSTRUCTIONS_MAX, LIMIT_MAX, WORDS_MAX}
+use Rattle.rtr_types.specs.declared.params.TheConstants.{INSTRUCTIONS_MAX, LIMIT_MAX}
 use Rattle.tool_words.specs.Numerals.{number_between}
 use Rattle.tool_words.specs.Options.{cores_default, limit_default, whole_blocks, words_default}
 use Rattle.turn_policies.specs.declared.named.Named.{Named}
 use Rattle.turn_policies.specs.declared.named.Named.TheVariants as by_names
-use Rattle.end_claims.specs.declared.claim.Atom.{Atom}
 use Rattle.end_claims.specs.declared.claim.Demand.{Demand}
 use Rattle.end_claims.specs.declared.claim.Demand.TheVariants as demands
 use Rattle.end_claims.specs.declared.claim.Place.{Place}
 use Rattle.end_claims.specs.Demands.{demand_places, is_demanded_within}
 use Rattle.end_claims.specs.Named.{are_named_within, are_within}
-use Rattle.end_claims.specs.Numbers.{◌>>=◌}
 use Rattle.end_claims.specs.Reading.{claim_of, places_of}
-use Rattle.turn_lists.specs.declared.actor.Turn.{Turn}
 use Rattle.hunt_words.specs.declared.faults.Missing.{Missing}
 use Rattle.hunt_words.specs.declared.faults.Missing.TheVariants as lacking
 use Rattle.hunt_words.specs.declared.hunt.Hunt.{Hunt}
@@ -32,26 +30,41 @@ use Rattle.hunt_words.specs.declared.hunt.Runs.{Runs as RunsAsked}
 use Rattle.hunt_words.specs.declared.hunt.Setup.{Setup}
 use Rattle.hunt_words.specs.declared.names.Name.{Name}
 use Rattle.hunt_words.specs.declared.names.Name.TheVariants.{Cores, Limit, Words, By, Runs, Threads, Run, Turns, Expect}
-use Rattle.hunt_words.specs.declared.names.Name.TheVariants.{Never, Same, See, Elf, Tso, Plain}
+use Rattle.hunt_words.specs.declared.names.Name.TheVariants.{Never, Same, See, Elf, Tso}
 use Rattle.hunt_words.specs.declared.options.TheConstants.{HUNT_THREADS_MAX}
 use Rattle.hunt_words.specs.declared.values.TheConstants.{LAST_DEFAULT}
 use Rattle.hunt_words.specs.declared.verbs.Verb.{Verb}
 use Rattle.hunt_words.specs.declared.verbs.Verb.TheVariants as verbs
-use Rattle.hunt_words.specs.Given.{Given, has_option, text_at}
-use Rattle.hunt_words.specs.Meaning.{asked_by, first_of, hunt_of, small_of, table_of}
-use Rattle.hunt_words.specs.Open.{are_both, has, is_value, is_value_or, lacks, lacks_run, most_words, odd_pair, passes, suits}
-use Rattle.hunt_words.specs.Open.{text_of}
-use Rattle.hunt_words.specs.Options.{demand_by, demand_of, numbered, params_of, passing, places_by, run_name_by, run_name_of}
-use Rattle.hunt_words.specs.Options.{runs_of, setup_of, table_demand, table_places, threads_of}
+use Rattle.hunt_words.specs.Given.{Given, has_option}
+use Rattle.hunt_words.specs.Meaning.{first_of, hunt_of, small_of, table_of}
+use Rattle.hunt_words.specs.Names.{word_of}
+use Rattle.hunt_words.specs.Open.{are_both, has, is_value, is_value_or, lacks, lacks_run, most_words, odd_pair, pairs}
+use Rattle.hunt_words.specs.Open.{passes, suits, text_of, valued_of}
+use Rattle.hunt_words.specs.Options.{demand_by, demand_of, numbered, params_of, passing, run_name_by}
+use Rattle.hunt_words.specs.Options.{run_name_of, runs_of, setup_of, table_demand, table_places, threads_of}
 use Rattle.hunt_words.specs.TurnTexts.{turns_named}
-use Rattle.hunt_words.specs.Values.{number_or, policy_named, policy_or, range_named, range_or, words_or}
+use Rattle.hunt_words.specs.Values.{number_or, policy_named, range_named, words_or}
+use Rattle.hunt_words.proofs.OptionNames.{same-option}
 use Rattle.hunt_words.proofs.PlacesWithin.{demanded-within}
 
 -- ---- tests of lists
 
-all-parts : (p : Name → Bool) (name : Name) (names : List Name) → list_all p (name ∷ names) ≡ true
-    → (p name ≡ true) × (list_all p names ≡ true)
-all-parts p name names h = and_parts (p name) (list_all p names) h
+-- the option is in the list
+abbrev is-among : Name → List Name → Bool
+is-among name options = list_any (λ other. bytes_eq (word_of name) (word_of other)) options
+
+-- a test that all options of a list pass, each of them passes
+all-at : (p : Name → Bool) (option : Name) (options : List Name) → is-among option options ≡ true
+    → list_all p options ≡ true → p option ≡ true
+all-at p option [] among h = absurd (cc)
+all-at p option (x ∷ xs) among h =
+    let both = and_parts (p x) (list_all p xs) h in
+    by (λ k. all-at p option xs k both.1) both.0 (bytes_eq (word_of option) (word_of x)) refl among
+  where
+    by : (is-among option xs ≡ true → p option ≡ true) → p x ≡ true → (b : Bool)
+        → bytes_eq (word_of option) (word_of x) ≡ b → (b || is-among option xs) ≡ true → p option ≡ true
+    by later here true is k = rw (same-option option x is) here
+    by later here false is k = later k
 
 -- no pair of several is given
 pub no-first : {A : Type 0} (p : A → Bool) (x : A) (xs : List A) → is_some (find p (x ∷ xs)) ≡ false
@@ -61,6 +74,27 @@ no-first p x xs h = by (p x) h
     by : (b : Bool) → is_some (cond b (Some x) (find p xs)) ≡ false → (b ≡ false) × (is_some (find p xs) ≡ false)
     by true k = absurd (cc)
     by false k = (refl, k)
+
+-- the two options are a pair of the list
+abbrev is-pair : Name → Name → List (Name × Name) → Bool
+is-pair a b xs = list_any (λ pair. bytes_eq (word_of a) (word_of pair.0) && bytes_eq (word_of b) (word_of pair.1)) xs
+
+-- where no pair of a list is given, none of them is
+none-at : (given : List Given) (a b : Name) (xs : List (Name × Name)) → is-pair a b xs ≡ true
+    → is_some (find (are_both given) xs) ≡ false → (has a given && has b given) ≡ false
+none-at given a b [] among h = absurd (cc)
+none-at given a b (x ∷ xs) among h =
+    let parts = no-first (are_both given) x xs h in
+    by (λ k. none-at given a b xs k parts.1) parts.0
+    (bytes_eq (word_of a) (word_of x.0) && bytes_eq (word_of b) (word_of x.1)) refl among
+  where
+    by : (is-pair a b xs ≡ true → (has a given && has b given) ≡ false) → are_both given x ≡ false → (c : Bool)
+        → (bytes_eq (word_of a) (word_of x.0) && bytes_eq (word_of b) (word_of x.1)) ≡ c
+        → (c || is-pair a b xs) ≡ true → (has a given && has b given) ≡ false
+    by later here true is k =
+        let same = and_parts (bytes_eq (word_of a) (word_of x.0)) (bytes_eq (word_of b) (word_of x.1)) is in
+        rw (same-option a x.0 same.0, same-option b x.1 same.1) here
+    by later here false is k = later k
 
 some-value : {A : Type 0} (o : Option A) → is_some o ≡ true → (a : A) × (o ≡ Some a)
 some-value None h = absurd (cc)
@@ -130,8 +164,10 @@ range-read cores words (Some text) h = some-value (range_named text) h
 
 threads-read : (cores words : ℕ) (o : Option (List ℕ)) → is_value_or cores words Threads o ≡ true
     → (threads : Option ℕ)
-    × (elim o as (λ _. Option (Option ℕ)) [ Some text ↦ option_map (λ n. Some n) (number_between 1 HUNT_THREADS_MAX text) | None ↦ Some None ]
-    ≡ Some threads)
+    × (elim o as (λ _. Option (Option ℕ)) [
+      | Some text ↦ option_map (λ n. Some n) (number_between 1 HUNT_THREADS_MAX text)
+      | None ↦ Some None
+    ] ≡ Some threads)
 threads-read cores words None h = (None, refl)
 threads-read cores words (Some text) h =
     let n = some-value (number_between 1 HUNT_THREADS_MAX text) h in
@@ -139,7 +175,8 @@ threads-read cores words (Some text) h =
 
 runs-made : (cores words : ℕ) (default : Named) (given : List Given)
     → is_value_or cores words By (text_of By given) ≡ true → is_value_or cores words Runs (text_of Runs given) ≡ true
-    → is_value_or cores words Threads (text_of Threads given) ≡ true → (runs : RunsAsked) × (runs_of default given ≡ Some runs)
+    → is_value_or cores words Threads (text_of Threads given) ≡ true
+    → (runs : RunsAsked) × (runs_of default given ≡ Some runs)
 unfolding runs_of threads_of
 runs-made cores words default given b r t =
     let by = by-read cores words default (text_of By given) b in
@@ -214,24 +251,13 @@ demanded : (params : Params) (given : List Given)
     → Demanded params given
 unfolding demand_of
 demanded params given e n s en es ns some =
-    let d = demand-made params.cores params.words (text_of Expect given) (text_of Never given) (text_of Same given) e n s en
-    es ns some in
+    let d = demand-made params.cores params.words (text_of Expect given) (text_of Never given) (text_of Same given)
+    e n s en es ns some in
     record {
       demand = d.0;
       is = passed-through (is_demanded_within params.cores params.words) _ d.0 d.1 d.2;
       within = d.2;
     }
-
--- the option isn't given, where one that it is at odds with is
-none-given : (cores words : ℕ) (other o : Option (List ℕ)) → (is_some other && is_some o) ≡ false → is_some other ≡ true
-    → o ≡ None
-none-given cores words (Some t) None h k = refl
-none-given cores words (Some t) (Some u) h k = absurd (cc)
-none-given cores words None o h k = absurd (cc)
-
-none-value : (cores words : ℕ) (name : Name) (o : Option (List ℕ)) → o ≡ None → is_value_or cores words name o ≡ true
-none-value cores words name None h = refl
-none-value cores words name (Some t) h = absurd (cc)
 
 -- where a claim is given, places that all runs end alike at aren't
 no-same : (cores words : ℕ) (expect never same : Option (List ℕ)) → (is_some expect && is_some same) ≡ false
@@ -254,6 +280,16 @@ Makes verb given = (hunt : Hunt) × (hunt_of verb given ≡ Some hunt)
 
 abbrev value-at : List Given → (cores : ℕ) → Name → Bool
 value-at given cores name = is_value_or cores (most_words given) name (text_of name given)
+
+-- on a machine that suits, each option of the verb has a value
+value-of : (verb : Verb) (given : List Given) (cores : ℕ) → suits verb given cores ≡ true → (name : Name)
+    → is-among name (valued_of verb) ≡ true → value-at given cores name ≡ true
+value-of verb given cores h name among = all-at (value-at given cores) name (valued_of verb) among h
+
+-- where no odd pair is given, none of the pairs of the verb is
+apart-of : (verb : Verb) (given : List Given) → is_some (odd_pair verb given) ≡ false → (a b : Name)
+    → is-pair a b (pairs verb) ≡ true → (has a given && has b given) ≡ false
+apart-of verb given h a b among = none-at given a b (pairs verb) among h
 
 first-hunt : (given : List Given) (setup : Setup) (runs : RunsAsked) (demand : Demand) → setup_of given ≡ Some setup
     → runs_of by_names.All given ≡ Some runs → demand_of setup.params given ≡ Some demand
@@ -288,26 +324,18 @@ first-made : (given : List Given) (cores : ℕ) → Set-up given cores (most_wor
     → is_some (odd_pair verbs.First given) ≡ false → suits verbs.First given cores ≡ true
     → lacks verbs.First given ≡ None → Makes verbs.First given
 first-made given cores s apart suited whole =
-    let P : Name → Bool = value-at given cores in
     let p = s.setup.params in
-    let a = all-parts P Cores (Limit ∷ Words ∷ By ∷ Runs ∷ Threads ∷ Expect ∷ Never ∷ Same ∷ []) suited in
-    let b = all-parts P Limit (Words ∷ By ∷ Runs ∷ Threads ∷ Expect ∷ Never ∷ Same ∷ []) a.1 in
-    let c = all-parts P Words (By ∷ Runs ∷ Threads ∷ Expect ∷ Never ∷ Same ∷ []) b.1 in
-    let d = all-parts P By (Runs ∷ Threads ∷ Expect ∷ Never ∷ Same ∷ []) c.1 in
-    let e = all-parts P Runs (Threads ∷ Expect ∷ Never ∷ Same ∷ []) d.1 in
-    let f = all-parts P Threads (Expect ∷ Never ∷ Same ∷ []) e.1 in
-    let g = all-parts P Expect (Never ∷ Same ∷ []) f.1 in
-    let h = all-parts P Never (Same ∷ []) g.1 in
-    let i = all-parts P Same [] h.1 in
-    let et = no-first (are_both given) (Elf, Tso) ((Expect, Never) ∷ (Expect, Same) ∷ (Never, Same) ∷ []) apart in
-    let en = no-first (are_both given) (Expect, Never) ((Expect, Same) ∷ (Never, Same) ∷ []) et.1 in
-    let es = no-first (are_both given) (Expect, Same) ((Never, Same) ∷ []) en.1 in
-    let ns = no-first (are_both given) (Never, Same) [] es.1 in
-    let runs = runs-made cores (most_words given) by_names.All given d.0 e.0 f.0 in
-    let demand = demanded p given (rw (s.cores_are, s.words_are) g.0) (rw (s.cores_are, s.words_are) h.0)
-    (rw (s.cores_are, s.words_are) i.0) en.0 es.0 ns.0
-    (named (has Expect given || has Never given || has Same given) _ whole) in
-    (asked.First s.setup runs.0 demand.demand (has_option (codes "--plain") given), first-hunt given s.setup runs.0 demand.demand s.is runs.1 demand.is)
+    let value = value-of verbs.First given cores suited in
+    let free = apart-of verbs.First given apart in
+    let runs = runs-made cores (most_words given) by_names.All given (value By refl) (value Runs refl)
+    (value Threads refl) in
+    let demand = demanded p given (rw (s.cores_are, s.words_are) (value Expect refl))
+    (rw (s.cores_are, s.words_are) (value Never refl)) (rw (s.cores_are, s.words_are) (value Same refl))
+    (free Expect Never refl) (free Expect Same refl) (free Never Same refl)
+    (named (has Expect given || has Never given || has Same given) _ whole) in (
+      asked.First s.setup runs.0 demand.demand (has_option (codes "--plain") given),
+      first-hunt given s.setup runs.0 demand.demand s.is runs.1 demand.is,
+    )
 
 -- what a table demands and shows
 record Tabled (params : Params) (given : List Given) : Type 0 where
@@ -358,8 +386,8 @@ tabled params given e n s en es ns some = by (has Expect given || has Never give
     demand : (has Expect given || has Never given) ≡ true → Demanded params given
     demand is =
         demanded params given e n
-        (no-same params.cores params.words (text_of Expect given) (text_of Never given) (text_of Same given) es ns is) en
-        es ns (wider (has Expect given) (has Never given) (has Same given) is)
+        (no-same params.cores params.words (text_of Expect given) (text_of Never given) (text_of Same given) es ns is)
+        en es ns (wider (has Expect given) (has Never given) (has Same given) is)
 
     by : (b : Bool) (o : Option (List ℕ)) → (has Expect given || has Never given) ≡ b → text_of See given ≡ o
         → Tabled params given
@@ -395,28 +423,20 @@ table-made : (given : List Given) (cores : ℕ) → Set-up given cores (most_wor
     → is_some (odd_pair verbs.Table given) ≡ false → suits verbs.Table given cores ≡ true
     → lacks verbs.Table given ≡ None → Makes verbs.Table given
 table-made given cores s apart suited whole =
-    let P : Name → Bool = value-at given cores in
     let p = s.setup.params in
-    let a = all-parts P Cores (Limit ∷ Words ∷ By ∷ Runs ∷ Threads ∷ Expect ∷ Never ∷ See ∷ []) suited in
-    let b = all-parts P Limit (Words ∷ By ∷ Runs ∷ Threads ∷ Expect ∷ Never ∷ See ∷ []) a.1 in
-    let c = all-parts P Words (By ∷ Runs ∷ Threads ∷ Expect ∷ Never ∷ See ∷ []) b.1 in
-    let d = all-parts P By (Runs ∷ Threads ∷ Expect ∷ Never ∷ See ∷ []) c.1 in
-    let e = all-parts P Runs (Threads ∷ Expect ∷ Never ∷ See ∷ []) d.1 in
-    let f = all-parts P Threads (Expect ∷ Never ∷ See ∷ []) e.1 in
-    let g = all-parts P Expect (Never ∷ See ∷ []) f.1 in
-    let h = all-parts P Never (See ∷ []) g.1 in
-    let i = all-parts P See [] h.1 in
-    let et = no-first (are_both given) (Elf, Tso) ((Expect, Never) ∷ (Expect, Same) ∷ (Never, Same) ∷ []) apart in
-    let en = no-first (are_both given) (Expect, Never) ((Expect, Same) ∷ (Never, Same) ∷ []) et.1 in
-    let es = no-first (are_both given) (Expect, Same) ((Never, Same) ∷ []) en.1 in
-    let ns = no-first (are_both given) (Never, Same) [] es.1 in
-    let runs = runs-made cores (most_words given) by_names.Mixed given d.0 e.0 f.0 in
-    let t = tabled p given (rw (s.cores_are, s.words_are) g.0) (rw (s.cores_are, s.words_are) h.0)
-    (rw (s.cores_are, s.words_are) i.0) en.0 es.0 ns.0
-    (named (has Expect given || has Never given || has See given) _ whole) in
-    (asked.Table s.setup runs.0 t.places t.demand, table-hunt given s.setup runs.0 t.demand t.places s.is runs.1 t.demand_is t.places_are)
+    let value = value-of verbs.Table given cores suited in
+    let free = apart-of verbs.Table given apart in
+    let runs = runs-made cores (most_words given) by_names.Mixed given (value By refl) (value Runs refl)
+    (value Threads refl) in
+    let t = tabled p given (rw (s.cores_are, s.words_are) (value Expect refl))
+    (rw (s.cores_are, s.words_are) (value Never refl)) (rw (s.cores_are, s.words_are) (value See refl))
+    (free Expect Never refl) (free Expect Same refl) (free Never Same refl)
+    (named (has Expect given || has Never given || has See given) _ whole) in (
+      asked.Table s.setup runs.0 t.places t.demand,
+      table-hunt given s.setup runs.0 t.demand t.places s.is runs.1 t.demand_is t.places_are,
+    )
 
--- the run that options name
+-- options that lack no run name one
 pub run-named : (given : List Given) → lacks_run given ≡ None → (has Run given || has Turns given) ≡ true
 run-named given h = by (has Run given || has Turns given) (has By given) h
   where
@@ -425,13 +445,23 @@ run-named given h = by (has Run given || has Turns given) (has By given) h
     by false true k = absurd (cc)
     by false false k = absurd (cc)
 
+-- the run that options name
+one-run : (given : List Given) (cores : ℕ) → value-at given cores Run ≡ true → value-at given cores By ≡ true
+    → value-at given cores Turns ≡ true → (has Run given && has Turns given) ≡ false
+    → (has By given && has Turns given) ≡ false → lacks_run given ≡ None
+    → (run : RunName) × (run_name_of given ≡ Some run)
+unfolding run_name_of
+one-run given cores r b t rt bt whole =
+    run-made cores (most_words given) (text_of Run given) (text_of By given) (text_of Turns given) r b t rt bt
+    (run-named given whole)
+
 lacks-small : (given : List Given) → lacks verbs.Small given ≡ None
     → (lacks_run given ≡ None) × ((has Expect given || has Never given) ≡ true)
 lacks-small given h = by (lacks_run given) (has Expect given || has Never given) h
   where
     by : (o : Option Missing) (b : Bool)
-        → elim o as (λ _. Option Missing) [ Some missing ↦ Some missing | None ↦ cond b None (Some lacking.Demand) ] ≡ None
-        → (o ≡ None) × (b ≡ true)
+        → elim o as (λ _. Option Missing) [ Some missing ↦ Some missing | None ↦ cond b None (Some lacking.Demand) ]
+        ≡ None → (o ≡ None) × (b ≡ true)
     by (Some m) b k = absurd (cc)
     by None true k = (refl, refl)
     by None false k = absurd (cc)
@@ -439,89 +469,51 @@ lacks-small given h = by (lacks_run given) (has Expect given || has Never given)
 small-made : (given : List Given) (cores : ℕ) → Set-up given cores (most_words given)
     → is_some (odd_pair verbs.Small given) ≡ false → suits verbs.Small given cores ≡ true
     → lacks verbs.Small given ≡ None → Makes verbs.Small given
-unfolding run_name_of
 small-made given cores s apart suited whole =
-    let P : Name → Bool = value-at given cores in
     let p = s.setup.params in
-    let W : ℕ = most_words given in
-    let a = all-parts P Cores (Limit ∷ Words ∷ By ∷ Run ∷ Turns ∷ Expect ∷ Never ∷ []) suited in
-    let b = all-parts P Limit (Words ∷ By ∷ Run ∷ Turns ∷ Expect ∷ Never ∷ []) a.1 in
-    let c = all-parts P Words (By ∷ Run ∷ Turns ∷ Expect ∷ Never ∷ []) b.1 in
-    let d = all-parts P By (Run ∷ Turns ∷ Expect ∷ Never ∷ []) c.1 in
-    let e = all-parts P Run (Turns ∷ Expect ∷ Never ∷ []) d.1 in
-    let f = all-parts P Turns (Expect ∷ Never ∷ []) e.1 in
-    let g = all-parts P Expect (Never ∷ []) f.1 in
-    let h = all-parts P Never [] g.1 in
-    let et = no-first (are_both given) (Elf, Tso) ((Expect, Never) ∷ (Expect, Same) ∷ (Never, Same) ∷ (Run, Turns) ∷ (By, Turns) ∷ []) apart in
-    let en = no-first (are_both given) (Expect, Never) ((Expect, Same) ∷ (Never, Same) ∷ (Run, Turns) ∷ (By, Turns) ∷ []) et.1 in
-    let es = no-first (are_both given) (Expect, Same) ((Never, Same) ∷ (Run, Turns) ∷ (By, Turns) ∷ []) en.1 in
-    let ns = no-first (are_both given) (Never, Same) ((Run, Turns) ∷ (By, Turns) ∷ []) es.1 in
-    let rt = no-first (are_both given) (Run, Turns) ((By, Turns) ∷ []) ns.1 in
-    let bt = no-first (are_both given) (By, Turns) [] rt.1 in
+    let value = value-of verbs.Small given cores suited in
+    let free = apart-of verbs.Small given apart in
     let l = lacks-small given whole in
-    let run = run-made cores W (text_of Run given) (text_of By given) (text_of Turns given) e.0 d.0 f.0 rt.0 bt.0
-    (run-named given l.0) in
-    let demand = demanded p given (rw (s.cores_are, s.words_are) g.0) (rw (s.cores_are, s.words_are) h.0)
-    (no-same p.cores p.words (text_of Expect given) (text_of Never given) (text_of Same given) es.0 ns.0 l.1) en.0 es.0 ns.0
-    (wider (has Expect given) (has Never given) (has Same given) l.1) in
-    (asked.Small s.setup run.0 demand.demand, small-hunt given s.setup run.0 demand.demand s.is run.1 demand.is)
+    let run = one-run given cores (value Run refl) (value By refl) (value Turns refl) (free Run Turns refl)
+    (free By Turns refl) l.0 in
+    let same = no-same p.cores p.words (text_of Expect given) (text_of Never given) (text_of Same given)
+    (free Expect Same refl) (free Never Same refl) l.1 in
+    let demand = demanded p given (rw (s.cores_are, s.words_are) (value Expect refl))
+    (rw (s.cores_are, s.words_are) (value Never refl)) same (free Expect Never refl) (free Expect Same refl)
+    (free Never Same refl) (wider (has Expect given) (has Never given) (has Same given) l.1) in (
+      asked.Small s.setup run.0 demand.demand,
+      small-hunt given s.setup run.0 demand.demand s.is run.1 demand.is,
+    )
 
 words-made : (given : List Given) (cores : ℕ) → Set-up given cores (most_words given)
     → is_some (odd_pair verbs.Words given) ≡ false → suits verbs.Words given cores ≡ true
     → lacks verbs.Words given ≡ None → Makes verbs.Words given
-unfolding run_name_of
 words-made given cores s apart suited whole =
-    let P : Name → Bool = value-at given cores in
-    let W : ℕ = most_words given in
-    let a = all-parts P Cores (Limit ∷ Words ∷ By ∷ Run ∷ Turns ∷ []) suited in
-    let b = all-parts P Limit (Words ∷ By ∷ Run ∷ Turns ∷ []) a.1 in
-    let c = all-parts P Words (By ∷ Run ∷ Turns ∷ []) b.1 in
-    let d = all-parts P By (Run ∷ Turns ∷ []) c.1 in
-    let e = all-parts P Run (Turns ∷ []) d.1 in
-    let f = all-parts P Turns [] e.1 in
-    let et = no-first (are_both given) (Elf, Tso) ((Run, Turns) ∷ (By, Turns) ∷ []) apart in
-    let rt = no-first (are_both given) (Run, Turns) ((By, Turns) ∷ []) et.1 in
-    let bt = no-first (are_both given) (By, Turns) [] rt.1 in
-    let run = run-made cores W (text_of Run given) (text_of By given) (text_of Turns given) e.0 d.0 f.0 rt.0 bt.0
-    (run-named given whole) in
+    let value = value-of verbs.Words given cores suited in
+    let free = apart-of verbs.Words given apart in
+    let run = one-run given cores (value Run refl) (value By refl) (value Turns refl) (free Run Turns refl)
+    (free By Turns refl) whole in
     (asked.Words s.setup run.0, words-hunt given s.setup run.0 s.is run.1)
 
 record-made : (given : List Given) (cores : ℕ) → Set-up given cores (most_words given)
     → is_some (odd_pair verbs.Record given) ≡ false → suits verbs.Record given cores ≡ true
     → lacks verbs.Record given ≡ None → Makes verbs.Record given
-unfolding run_name_of
 record-made given cores s apart suited whole =
-    let P : Name → Bool = value-at given cores in
-    let W : ℕ = most_words given in
-    let a = all-parts P Cores (Limit ∷ Words ∷ By ∷ Run ∷ Turns ∷ []) suited in
-    let b = all-parts P Limit (Words ∷ By ∷ Run ∷ Turns ∷ []) a.1 in
-    let c = all-parts P Words (By ∷ Run ∷ Turns ∷ []) b.1 in
-    let d = all-parts P By (Run ∷ Turns ∷ []) c.1 in
-    let e = all-parts P Run (Turns ∷ []) d.1 in
-    let f = all-parts P Turns [] e.1 in
-    let et = no-first (are_both given) (Elf, Tso) ((Run, Turns) ∷ (By, Turns) ∷ []) apart in
-    let rt = no-first (are_both given) (Run, Turns) ((By, Turns) ∷ []) et.1 in
-    let bt = no-first (are_both given) (By, Turns) [] rt.1 in
-    let run = run-made cores W (text_of Run given) (text_of By given) (text_of Turns given) e.0 d.0 f.0 rt.0 bt.0
-    (run-named given whole) in
+    let value = value-of verbs.Record given cores suited in
+    let free = apart-of verbs.Record given apart in
+    let run = one-run given cores (value Run refl) (value By refl) (value Turns refl) (free Run Turns refl)
+    (free By Turns refl) whole in
     (asked.Record s.setup run.0, record-hunt given s.setup run.0 s.is run.1)
 
--- the limit and the two flags, of each verb
-limit-of : (verb : Verb) (given : List Given) (cores : ℕ) → suits verb given cores ≡ true
-    → is_value_or cores (most_words given) Limit (text_of Limit given) ≡ true
-limit-of verbs.First given cores h = (all-parts (value-at given cores) Limit (Words ∷ By ∷ Runs ∷ Threads ∷ Expect ∷ Never ∷ Same ∷ []) (all-parts (value-at given cores) Cores (Limit ∷ Words ∷ By ∷ Runs ∷ Threads ∷ Expect ∷ Never ∷ Same ∷ []) h).1).0
-limit-of verbs.Table given cores h = (all-parts (value-at given cores) Limit (Words ∷ By ∷ Runs ∷ Threads ∷ Expect ∷ Never ∷ See ∷ []) (all-parts (value-at given cores) Cores (Limit ∷ Words ∷ By ∷ Runs ∷ Threads ∷ Expect ∷ Never ∷ See ∷ []) h).1).0
-limit-of verbs.Small given cores h = (all-parts (value-at given cores) Limit (Words ∷ By ∷ Run ∷ Turns ∷ Expect ∷ Never ∷ []) (all-parts (value-at given cores) Cores (Limit ∷ Words ∷ By ∷ Run ∷ Turns ∷ Expect ∷ Never ∷ []) h).1).0
-limit-of verbs.Words given cores h = (all-parts (value-at given cores) Limit (Words ∷ By ∷ Run ∷ Turns ∷ []) (all-parts (value-at given cores) Cores (Limit ∷ Words ∷ By ∷ Run ∷ Turns ∷ []) h).1).0
-limit-of verbs.Record given cores h = (all-parts (value-at given cores) Limit (Words ∷ By ∷ Run ∷ Turns ∷ []) (all-parts (value-at given cores) Cores (Limit ∷ Words ∷ By ∷ Run ∷ Turns ∷ []) h).1).0
-
-flags-of : (verb : Verb) (given : List Given) → is_some (odd_pair verb given) ≡ false
-    → (has Elf given && has Tso given) ≡ false
-flags-of verbs.First given h = (no-first (are_both given) (Elf, Tso) ((Expect, Never) ∷ (Expect, Same) ∷ (Never, Same) ∷ []) h).0
-flags-of verbs.Table given h = (no-first (are_both given) (Elf, Tso) ((Expect, Never) ∷ (Expect, Same) ∷ (Never, Same) ∷ []) h).0
-flags-of verbs.Small given h = (no-first (are_both given) (Elf, Tso) ((Expect, Never) ∷ (Expect, Same) ∷ (Never, Same) ∷ (Run, Turns) ∷ (By, Turns) ∷ []) h).0
-flags-of verbs.Words given h = (no-first (are_both given) (Elf, Tso) ((Run, Turns) ∷ (By, Turns) ∷ []) h).0
-flags-of verbs.Record given h = (no-first (are_both given) (Elf, Tso) ((Run, Turns) ∷ (By, Turns) ∷ []) h).0
+-- the options of the machine, of each verb
+machine-options : (verb : Verb)
+    → (is-among Cores (valued_of verb) ≡ true) × (is-among Limit (valued_of verb) ≡ true)
+    × (is-among Words (valued_of verb) ≡ true) × (is-pair Elf Tso (pairs verb) ≡ true)
+machine-options verbs.First = (refl, refl, refl, refl)
+machine-options verbs.Table = (refl, refl, refl, refl)
+machine-options verbs.Small = (refl, refl, refl, refl)
+machine-options verbs.Words = (refl, refl, refl, refl)
+machine-options verbs.Record = (refl, refl, refl, refl)
 
 pub hunt-made : (verb : Verb) (given : List Given) (cores : ℕ) → 1 ≤ cores → cores ≤ CORES_MAX
     → number_or (codes "--cores") 1 CORES_MAX cores_default given ≡ Some cores
@@ -534,8 +526,8 @@ hunt-made verb given cores low high cores_is words_is apart suited whole =
       high = high;
       cores_is = cores_is;
       words_is = words_is;
-      limit_value = limit-of verb given cores suited;
-      apart = flags-of verb given apart;
+      limit_value = value-of verb given cores suited Limit (machine-options verb).1;
+      apart = apart-of verb given apart Elf Tso (machine-options verb).3;
     }))
   where
     by : (verb : Verb) → is_some (odd_pair verb given) ≡ false → suits verb given cores ≡ true
@@ -562,34 +554,16 @@ words-given cores words (Some text) there h =
     let n = passed (λ n. eqb n words) (whole_blocks text) h in
     rw (← eqb-true n.0 words n.2) n.1
 
-cores-of : (verb : Verb) (given : List Given) (cores : ℕ) → suits verb given cores ≡ true
-    → is_value_or cores (most_words given) Cores (text_of Cores given) ≡ true
-cores-of verbs.First given cores h = (all-parts (value-at given cores) Cores (Limit ∷ Words ∷ By ∷ Runs ∷ Threads ∷ Expect ∷ Never ∷ Same ∷ []) h).0
-cores-of verbs.Table given cores h = (all-parts (value-at given cores) Cores (Limit ∷ Words ∷ By ∷ Runs ∷ Threads ∷ Expect ∷ Never ∷ See ∷ []) h).0
-cores-of verbs.Small given cores h = (all-parts (value-at given cores) Cores (Limit ∷ Words ∷ By ∷ Run ∷ Turns ∷ Expect ∷ Never ∷ []) h).0
-cores-of verbs.Words given cores h = (all-parts (value-at given cores) Cores (Limit ∷ Words ∷ By ∷ Run ∷ Turns ∷ []) h).0
-cores-of verbs.Record given cores h = (all-parts (value-at given cores) Cores (Limit ∷ Words ∷ By ∷ Run ∷ Turns ∷ []) h).0
-
-words-of : (verb : Verb) (given : List Given) (cores : ℕ) → suits verb given cores ≡ true
-    → is_value_or cores (most_words given) Words (text_of Words given) ≡ true
-words-of verb given cores h = third verb h
-  where
-    P : Name → Bool
-    P = value-at given cores
-
-    third : (verb : Verb) → suits verb given cores ≡ true → P Words ≡ true
-    third verbs.First h = (all-parts (value-at given cores) Words (By ∷ Runs ∷ Threads ∷ Expect ∷ Never ∷ Same ∷ []) (all-parts (value-at given cores) Limit (Words ∷ By ∷ Runs ∷ Threads ∷ Expect ∷ Never ∷ Same ∷ []) (all-parts (value-at given cores) Cores (Limit ∷ Words ∷ By ∷ Runs ∷ Threads ∷ Expect ∷ Never ∷ Same ∷ []) h).1).1).0
-    third verbs.Table h = (all-parts (value-at given cores) Words (By ∷ Runs ∷ Threads ∷ Expect ∷ Never ∷ See ∷ []) (all-parts (value-at given cores) Limit (Words ∷ By ∷ Runs ∷ Threads ∷ Expect ∷ Never ∷ See ∷ []) (all-parts (value-at given cores) Cores (Limit ∷ Words ∷ By ∷ Runs ∷ Threads ∷ Expect ∷ Never ∷ See ∷ []) h).1).1).0
-    third verbs.Small h = (all-parts (value-at given cores) Words (By ∷ Run ∷ Turns ∷ Expect ∷ Never ∷ []) (all-parts (value-at given cores) Limit (Words ∷ By ∷ Run ∷ Turns ∷ Expect ∷ Never ∷ []) (all-parts (value-at given cores) Cores (Limit ∷ Words ∷ By ∷ Run ∷ Turns ∷ Expect ∷ Never ∷ []) h).1).1).0
-    third verbs.Words h = (all-parts (value-at given cores) Words (By ∷ Run ∷ Turns ∷ []) (all-parts (value-at given cores) Limit (Words ∷ By ∷ Run ∷ Turns ∷ []) (all-parts (value-at given cores) Cores (Limit ∷ Words ∷ By ∷ Run ∷ Turns ∷ []) h).1).1).0
-    third verbs.Record h = (all-parts (value-at given cores) Words (By ∷ Run ∷ Turns ∷ []) (all-parts (value-at given cores) Limit (Words ∷ By ∷ Run ∷ Turns ∷ []) (all-parts (value-at given cores) Cores (Limit ∷ Words ∷ By ∷ Run ∷ Turns ∷ []) h).1).1).0
-
-pub cores-named : (verb : Verb) (given : List Given) (cores : ℕ) → suits verb given cores ≡ true → has Cores given ≡ true
+pub cores-named : (verb : Verb) (given : List Given) (cores : ℕ) → suits verb given cores ≡ true
+    → has Cores given ≡ true
     → number_or (codes "--cores") 1 CORES_MAX cores_default given ≡ Some cores
 cores-named verb given cores h there =
-    cores-given given cores (most_words given) (text_of Cores given) there (cores-of verb given cores h)
+    cores-given given cores (most_words given) (text_of Cores given) there
+    (value-of verb given cores h Cores (machine-options verb).0)
 
-pub words-named : (verb : Verb) (given : List Given) (cores : ℕ) → suits verb given cores ≡ true → has Words given ≡ true
+pub words-named : (verb : Verb) (given : List Given) (cores : ℕ) → suits verb given cores ≡ true
+    → has Words given ≡ true
     → words_or given ≡ Some (most_words given)
 words-named verb given cores h there =
-    words-given cores (most_words given) (text_of Words given) there (words-of verb given cores h)
+    words-given cores (most_words given) (text_of Words given) there
+    (value-of verb given cores h Words (machine-options verb).2)

@@ -1,25 +1,22 @@
 -- Options that make a hunt are open.
-use Rattle.std.proofs.Common.{◌≡◌, ℕ, ◌*◌, ◌+◌, ◌<◌, ◌≤◌, ◌^◌, Bool, true, false, cond, not, ◌&&◌, ◌||◌, List, [], ◌∷◌, ◌++◌}
-use Rattle.std.proofs.Common.{Option, Some, None, arith, refl, sym, ◌∙◌, ap, is_some, nat_le, eqb}
-use Rattle.std.specs.Prelude.{◌-◌, codes, unwrap_or, find}
-use Rattle.std.specs.List.{list_all, list_any, range_with_len}
+use Rattle.std.proofs.Common.{◌≡◌, ℕ, ◌*◌, ◌≤◌, ◌^◌, Bool, true, false, cond, not, ◌&&◌, ◌||◌, List}
+use Rattle.std.proofs.Common.{Option, Some, None, arith, refl, sym, ◌∙◌, ap, is_some, nat_le}
+use Rattle.std.specs.Prelude.{◌-◌, codes}
 use Rattle.std.specs.Option.{option_map}
-use Rattle.std.proofs.lemmas.Bool.{and_from, and_parts, eq-eqb}
+use Rattle.std.proofs.lemmas.Bool.{and_from, eq-eqb}
 use Rattle.rtr_types.specs.declared.TheConstants.{CORES_MAX}
 use Rattle.rtr_types.specs.declared.params.Params.{Params}
-use Rattle.rtr_types.specs.declared.params.TheConstants.{INSTRUCTIONS_MAX, LIMIT_MAX, WORDS_MAX}
+use Rattle.rtr_types.specs.declared.params.TheConstants.{INSTRUCTIONS_MAX, LIMIT_MAX}
 use Rattle.tool_words.specs.Numerals.{number_between}
 use Rattle.tool_words.specs.Options.{cores_default, limit_default, whole_blocks, words_default}
 use Rattle.tool_words.proofs.Chains.{if-none, if-some}
 use Rattle.turn_policies.specs.declared.named.Named.{Named}
 use Rattle.turn_policies.specs.declared.named.Named.TheVariants as by_names
-use Rattle.end_claims.specs.declared.claim.Atom.{Atom}
 use Rattle.end_claims.specs.declared.claim.Demand.{Demand}
 use Rattle.end_claims.specs.declared.claim.Demand.TheVariants as demands
 use Rattle.end_claims.specs.declared.claim.Place.{Place}
-use Rattle.end_claims.specs.Demands.{demand_places, is_demanded_within}
-use Rattle.end_claims.specs.Named.{are_named_within, are_within}
-use Rattle.end_claims.specs.Numbers.{◌>>=◌}
+use Rattle.end_claims.specs.Demands.{is_demanded_within}
+use Rattle.end_claims.specs.Named.{are_within}
 use Rattle.end_claims.specs.Reading.{claim_of, places_of}
 use Rattle.hunt_words.specs.declared.hunt.Hunt.{Hunt}
 use Rattle.hunt_words.specs.declared.hunt.RunName.{RunName}
@@ -27,19 +24,17 @@ use Rattle.hunt_words.specs.declared.hunt.Runs.{Runs as RunsAsked}
 use Rattle.hunt_words.specs.declared.hunt.Setup.{Setup}
 use Rattle.hunt_words.specs.declared.names.Name.{Name}
 use Rattle.hunt_words.specs.declared.names.Name.TheVariants.{Cores, Limit, Words, By, Runs, Threads, Run, Turns, Expect}
-use Rattle.hunt_words.specs.declared.names.Name.TheVariants.{Never, Same, See, Elf, Tso, Plain}
+use Rattle.hunt_words.specs.declared.names.Name.TheVariants.{Never, Same, See, Elf, Tso}
 use Rattle.hunt_words.specs.declared.options.TheConstants.{HUNT_THREADS_MAX}
 use Rattle.hunt_words.specs.declared.verbs.Verb.{Verb}
 use Rattle.hunt_words.specs.declared.verbs.Verb.TheVariants as verbs
-use Rattle.hunt_words.specs.Given.{Given, has_option, text_at}
+use Rattle.hunt_words.specs.Given.{Given}
 use Rattle.hunt_words.specs.Meaning.{asked_by, first_of, hunt_of, small_of, table_of}
-use Rattle.hunt_words.specs.Open.{are_both, has, has_machine, is_open, is_value, is_value_or, most_words, odd_pair, passes}
-use Rattle.hunt_words.specs.Open.{suits, text_of, valued_of}
-use Rattle.hunt_words.specs.Options.{demand_by, demand_of, numbered, params_of, passing, places_by, run_name_by, run_name_of}
-use Rattle.hunt_words.specs.Options.{runs_of, setup_of, table_demand, table_places, threads_of}
+use Rattle.hunt_words.specs.Open.{has, is_open, is_value, is_value_or, most_words, odd_pair, passes, suits, text_of}
+use Rattle.hunt_words.specs.Options.{demand_by, demand_of, numbered, params_of, passing, places_by, run_name_by}
+use Rattle.hunt_words.specs.Options.{run_name_of, runs_of, setup_of, table_demand, table_places, threads_of}
 use Rattle.hunt_words.specs.TurnTexts.{turns_named}
 use Rattle.hunt_words.specs.Values.{number_or, policy_named, policy_or, range_named, range_or, words_or}
-use Rattle.hunt_words.proofs.Memories.{whole_fits}
 use Rattle.hunt_words.proofs.OptionLists.{bind-some, mapped-some, passes-range, some-inj}
 use Rattle.hunt_words.proofs.SuitedMachines.{is-words, value-lifts, words-by}
 use Rattle.hunt_words.proofs.TurnsRead.{number-is}
@@ -128,7 +123,8 @@ suits-all given setup m = record {
     cores-value (Some text) h = rw h (eq-eqb c c refl)
 
     limit-value : (o : Option (List ℕ))
-        → elim o as (λ _. Option ℕ) [ Some text ↦ number_between 1 LIMIT_MAX text | None ↦ Some limit_default ] ≡ Some m.limit
+        → elim o as (λ _. Option ℕ) [ Some text ↦ number_between 1 LIMIT_MAX text | None ↦ Some limit_default ]
+        ≡ Some m.limit
         → is_value_or c (most_words given) Limit o ≡ true
     limit-value None h = refl
     limit-value (Some text) h = rw h m.few
@@ -167,9 +163,10 @@ runs-value cores words None h = refl
 runs-value cores words (Some text) h = h
 
 threads-value : (cores words : ℕ) (o : Option (List ℕ)) (t : Option ℕ)
-    → elim o as (λ _. Option (Option ℕ)) [ Some text ↦ option_map (λ n. Some n) (number_between 1 HUNT_THREADS_MAX text) | None ↦ Some None ]
-    ≡ Some t
-    → is_value_or cores words Threads o ≡ true
+    → elim o as (λ _. Option (Option ℕ)) [
+      | Some text ↦ option_map (λ n. Some n) (number_between 1 HUNT_THREADS_MAX text)
+      | None ↦ Some None
+    ] ≡ Some t → is_value_or cores words Threads o ≡ true
 threads-value cores words None t h = refl
 threads-value cores words (Some text) t h = by (number_between 1 HUNT_THREADS_MAX text) h
   where
@@ -182,7 +179,8 @@ pub record RunsAre (given : List Given) (cores words : ℕ) : Type 0 where
   pub range : is_value_or cores words Runs (text_of Runs given) ≡ true
   pub threads : is_value_or cores words Threads (text_of Threads given) ≡ true
 
-runs-are : (cores words : ℕ) (default : Named) (given : List Given) (runs : RunsAsked) → runs_of default given ≡ Some runs
+runs-are : (cores words : ℕ) (default : Named) (given : List Given) (runs : RunsAsked)
+    → runs_of default given ≡ Some runs
     → RunsAre given cores words
 unfolding runs_of threads_of
 runs-are cores words default given runs h =
@@ -247,51 +245,39 @@ pub record DemandIs (cores words : ℕ) (expect never same : Option (List ℕ)) 
   pub expect_same : (is_some expect && is_some same) ≡ false
   pub never_same : (is_some never && is_some same) ≡ false
 
+-- what a passing value comes of passes
+passes-by : {A B : Type 0} (test : B → Bool) (f : A → B) (b : B) (o : Option A) → passing test (option_map f o) ≡ Some b
+    → passes (λ a. test (f a)) o ≡ true
+passes-by test f b None h = absurd (cc)
+passes-by test f b (Some a) h = (if-some (test (f a)) _ b h).0
+
 pub demand-is : (cores words : ℕ) (expect never same : Option (List ℕ)) (demand : Demand)
     → passing (is_demanded_within cores words) (demand_by cores expect never same) ≡ Some demand
     → DemandIs cores words expect never same
 demand-is cores words (Some text) None None demand h = record {
-  expect_value = by (claim_of text) h;
+  expect_value = passes-by (is_demanded_within cores words) (λ claim. demands.Expect claim) demand (claim_of text) h;
   never_value = refl;
   same_value = refl;
   expect_never = refl;
   expect_same = refl;
   never_same = refl;
 }
-  where
-    by : (o : Option (List (List Atom)))
-        → passing (is_demanded_within cores words) (option_map (λ claim. demands.Expect claim) o) ≡ Some demand
-        → passes (are_named_within cores words) o ≡ true
-    by None k = absurd (cc)
-    by (Some claim) k = (if-some (are_named_within cores words claim) _ demand k).0
 demand-is cores words None (Some text) None demand h = record {
   expect_value = refl;
-  never_value = by (claim_of text) h;
+  never_value = passes-by (is_demanded_within cores words) (λ claim. demands.Never claim) demand (claim_of text) h;
   same_value = refl;
   expect_never = refl;
   expect_same = refl;
   never_same = refl;
 }
-  where
-    by : (o : Option (List (List Atom)))
-        → passing (is_demanded_within cores words) (option_map (λ claim. demands.Never claim) o) ≡ Some demand
-        → passes (are_named_within cores words) o ≡ true
-    by None k = absurd (cc)
-    by (Some claim) k = (if-some (are_named_within cores words claim) _ demand k).0
 demand-is cores words None None (Some text) demand h = record {
   expect_value = refl;
   never_value = refl;
-  same_value = by (places_of cores text) h;
+  same_value = passes-by (is_demanded_within cores words) (λ ps. demands.Same ps) demand (places_of cores text) h;
   expect_never = refl;
   expect_same = refl;
   never_same = refl;
 }
-  where
-    by : (o : Option (List Place))
-        → passing (is_demanded_within cores words) (option_map (λ places. demands.Same places) o) ≡ Some demand
-        → passes (are_within cores words) o ≡ true
-    by None k = absurd (cc)
-    by (Some places) k = (if-some (are_within cores words places) _ demand k).0
 demand-is cores words None None None demand h = absurd (cc)
 demand-is cores words None (Some b) (Some c) demand h = absurd (cc)
 demand-is cores words (Some a) None (Some c) demand h = absurd (cc)
@@ -329,7 +315,8 @@ open-from verb given cores low high apart suited =
     and_from _ _ (ap not apart)
     (passes-range (suits verb given) 1 CORES_MAX cores low (omega (arith, high)) suited)
 
-first-open : (given : List Given) (hunt : Hunt) → hunt_of verbs.First given ≡ Some hunt → is_open verbs.First given ≡ true
+first-open : (given : List Given) (hunt : Hunt) → hunt_of verbs.First given ≡ Some hunt
+    → is_open verbs.First given ≡ true
 unfolding hunt_of first_of demand_of
 first-open given hunt h =
     let s = bind-some (setup_of given) (λ setup. asked_by verbs.First setup given) hunt h in
@@ -387,7 +374,8 @@ table-is params given demand h = by (text_of Expect given) (text_of Never given)
         inner (Some d) is k = from e n s (demand-is c w e n s d is)
 
     by : (e n s : Option (List ℕ))
-        → cond (is_some e || is_some n) (option_map (λ d. Some d) (passing (is_demanded_within c w) (demand_by c e n s))) (Some None)
+        → cond (is_some e || is_some n)
+        (option_map (λ d. Some d) (passing (is_demanded_within c w) (demand_by c e n s))) (Some None)
         ≡ Some demand → TableIs c w e n s
     by None None s k = record {
       expect_value = refl;
@@ -416,7 +404,8 @@ see-is params given demand places h = by (text_of See given) h
         inner None k = absurd (cc)
         inner (Some ps) k = (if-some (are_within params.cores params.words ps) _ places k).0
 
-table-open : (given : List Given) (hunt : Hunt) → hunt_of verbs.Table given ≡ Some hunt → is_open verbs.Table given ≡ true
+table-open : (given : List Given) (hunt : Hunt) → hunt_of verbs.Table given ≡ Some hunt
+    → is_open verbs.Table given ≡ true
 unfolding hunt_of table_of
 table-open given hunt h =
     let s = bind-some (setup_of given) (λ setup. asked_by verbs.Table setup given) hunt h in
@@ -445,7 +434,8 @@ table-open given hunt h =
       lifted-named given c w all.fewer See refl see,
     ) refl)
 
-small-open : (given : List Given) (hunt : Hunt) → hunt_of verbs.Small given ≡ Some hunt → is_open verbs.Small given ≡ true
+small-open : (given : List Given) (hunt : Hunt) → hunt_of verbs.Small given ≡ Some hunt
+    → is_open verbs.Small given ≡ true
 unfolding hunt_of small_of run_name_of demand_of
 small-open given hunt h =
     let s = bind-some (setup_of given) (λ setup. asked_by verbs.Small setup given) hunt h in
@@ -483,17 +473,17 @@ some-name : {B : Type 0} (f : RunName → B) (o : Option RunName) (b : B) → op
 some-name f None b h = absurd (cc)
 some-name f (Some name) b h = (name, refl)
 
-words-open : (given : List Given) (hunt : Hunt) → hunt_of verbs.Words given ≡ Some hunt → is_open verbs.Words given ≡ true
-unfolding hunt_of run_name_of
-words-open given hunt h =
-    let s = bind-some (setup_of given) (λ setup. asked_by verbs.Words setup given) hunt h in
-    let m = machine-of given s.0 s.1 in
-    let all = suits-all given s.0 m in
-    let c : ℕ = s.0.params.cores in
-    let W : ℕ = most_words given in
-    let r = some-name _ (run_name_of given) hunt s.2 in
-    let run = run-is c W (text_of Run given) (text_of By given) (text_of Turns given) r.0 r.1 in
-    open-from verbs.Words given c all.low all.high (rw (m.apart, run.run_or_turns, run.by_or_turns) refl)
+-- options that name a machine and one run, of the verbs that ask for no more
+run-open : (given : List Given) (setup : Setup) (name : RunName) → setup_of given ≡ Some setup
+    → run_name_of given ≡ Some name → is_open verbs.Words given ≡ true
+unfolding run_name_of
+run-open given setup name s r =
+    let m = machine-of given setup s in
+    let all = suits-all given setup m in
+    let run = run-is setup.params.cores (most_words given) (text_of Run given) (text_of By given) (text_of Turns given)
+    name r in
+    open-from verbs.Words given setup.params.cores all.low all.high
+    (rw (m.apart, run.run_or_turns, run.by_or_turns) refl)
     (rw (
       all.cores_value,
       all.limit_value,
@@ -503,26 +493,21 @@ words-open given hunt h =
       run.turns_value,
     ) refl)
 
+words-open : (given : List Given) (hunt : Hunt) → hunt_of verbs.Words given ≡ Some hunt
+    → is_open verbs.Words given ≡ true
+unfolding hunt_of
+words-open given hunt h =
+    let s = bind-some (setup_of given) (λ setup. asked_by verbs.Words setup given) hunt h in
+    let r = some-name _ (run_name_of given) hunt s.2 in
+    run-open given s.0 r.0 s.1 r.1
+
 record-open : (given : List Given) (hunt : Hunt) → hunt_of verbs.Record given ≡ Some hunt
     → is_open verbs.Record given ≡ true
-unfolding hunt_of run_name_of
+unfolding hunt_of
 record-open given hunt h =
     let s = bind-some (setup_of given) (λ setup. asked_by verbs.Record setup given) hunt h in
-    let m = machine-of given s.0 s.1 in
-    let all = suits-all given s.0 m in
-    let c : ℕ = s.0.params.cores in
-    let W : ℕ = most_words given in
     let r = some-name _ (run_name_of given) hunt s.2 in
-    let run = run-is c W (text_of Run given) (text_of By given) (text_of Turns given) r.0 r.1 in
-    open-from verbs.Record given c all.low all.high (rw (m.apart, run.run_or_turns, run.by_or_turns) refl)
-    (rw (
-      all.cores_value,
-      all.limit_value,
-      all.words_value,
-      run.policy,
-      run.number,
-      run.turns_value,
-    ) refl)
+    run-open given s.0 r.0 s.1 r.1
 
 pub hunt-open : (verb : Verb) (given : List Given) (hunt : Hunt) → hunt_of verb given ≡ Some hunt
     → is_open verb given ≡ true

@@ -6,12 +6,14 @@ pub mod TurnsRead
 pub mod Memories
 pub mod PlacesWithin
 pub mod OptionLists
+pub mod OptionNames
 pub mod GivenTexts
 pub mod GivenCuts
 pub mod SuitedMachines
 pub mod HuntsOpen
 pub mod HuntsMade
 pub mod OpenGoesOn
-pub mod FaultLemmas
+pub mod StuckWords
+pub mod FaultPlaces
 pub mod NextOptions
 pub mod FaultReads

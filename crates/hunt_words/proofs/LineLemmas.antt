@@ -1,6 +1,6 @@
 -- What `rtr`'s reader makes of a line's words.
-use Rattle.std.proofs.Common.{◌≡◌, ℕ, ◌%◌, ◌^◌, ◌<◌, ◌≤◌, Bool, true, false, cond, eqb, List, [], ◌∷◌, ◌++◌, Option, Some, None}
-use Rattle.std.proofs.Common.{arith, refl, sym, ap, ◌∙◌}
+use Rattle.std.proofs.Common.{◌≡◌, ℕ, ◌%◌, ◌^◌, ◌<◌, ◌≤◌, Bool, true, false, cond, eqb, List, [], ◌∷◌, ◌++◌, Option}
+use Rattle.std.proofs.Common.{Some, None, arith, refl, sym, ap, ◌∙◌}
 use Rattle.std.specs.Prelude.{codes, decimal, slice_index, unwrap_or}
 use Rattle.std.specs.Option.{option_and_then, option_map}
 use Rattle.std.specs.Prelude.{◌*◌, ◌-◌, nat_le}
@@ -21,11 +21,10 @@ use Rattle.tool_words.specs.Commands.{command_of, run_of}
 use Rattle.tool_words.specs.Numerals.{number_between}
 use Rattle.tool_words.specs.Options.{are_together_few, no_settings, params_of, put, whole_blocks}
 use Rattle.tool_words.specs.Options.{cores_default, limit_default, words_default}
-use Rattle.tool_words.specs.Reading.{Set, alone, few_together, meaning, settings, settled_by, valued}
+use Rattle.tool_words.specs.Reading.{alone, few_together, settings, settled_by, valued}
 use Rattle.tool_words.specs.Settings.{Settings}
 use Rattle.tool_words.proofs.ReadingLemmas.{settled_by-alone, settled_by-pair}
-use Rattle.hunt_words.specs.Lines.{LineMeansTheRun, MayBeRecorded, choice_words, flag_words, line_words, number_words}
-use Rattle.hunt_words.specs.Lines.{option_words}
+use Rattle.hunt_words.specs.Lines.{LineMeansTheRun, choice_words, flag_words, number_words, option_words}
 use Rattle.hunt_words.proofs.HexLines.{are-choices, read-back}
 use Rattle.hunt_words.proofs.NumberLines.{between-decimal}
 
@@ -85,7 +84,8 @@ number-by false verb name option value rest after takes puts =
 -- a number that is in its option's range is put in
 puts-number : (least most value : ℕ) (after : ℕ → Settings) → least ≤ value → value ≤ most → value < 2 ^ 64
     → option_map after (number_between least most (decimal value)) ≡ Some (after value)
-puts-number least most value after low high small = ap (option_map after) (between-decimal least most value low high small)
+puts-number least most value after low high small =
+    ap (option_map after) (between-decimal least most value low high small)
 
 puts-words : (value : ℕ) (after : ℕ → Settings) → WORDS_MIN ≤ value → value ≤ WORDS_MAX → value % BLOCK_WORDS ≡ 0
     → option_map after (whole_blocks (decimal value)) ≡ Some (after value)
@@ -120,7 +120,8 @@ all-set run = at run.elf (set-at run.params.cores cores_default) (set-at run.par
 -- the flag alone, or nothing
 flag-by : (on : Bool) (verb : Verb) (rest : List (List ℕ))
     → (on ≡ true → alone verb (codes "--elf") ≡ Some (record { name = Elf; text = [] }))
-    → settled_by verb no_settings (flag_words (codes "--elf") on ++ rest) ≡ settled_by verb (at on None None None None None) rest
+    → settled_by verb no_settings (flag_words (codes "--elf") on ++ rest)
+    ≡ settled_by verb (at on None None None None None) rest
 flag-by true verb rest reads =
     settled_by-alone verb no_settings (codes "--elf") rest (record { name = Elf; text = [] }) (reads refl)
 flag-by false verb rest reads = refl
@@ -154,13 +155,14 @@ settled-all verb run reads fits small bytes elf-reads =
     (puts-words p.words (λ n. at run.elf cores limit (Some n) None None) fits.some_block fits.words fits.whole_blocks)
     ∙ number-by (eqb run.seed 0) verb (codes "--seed") Seed run.seed (choice_words run.choices)
     (λ o. at run.elf cores limit words o None) reads.seed
-    (puts-number 0 (2 ^ 64 - 1) run.seed (λ n. at run.elf cores limit words (Some n) None) (omega arith) (omega (arith, small))
-    small)
+    (puts-number 0 (2 ^ 64 - 1) run.seed (λ n. at run.elf cores limit words (Some n) None) (omega arith)
+    (omega (arith, small)) small)
     ∙ choices-read verb run.choices (λ o. at run.elf cores limit words seed o) reads bytes
     (λ text h. ap (λ (yes : Bool). cond yes (Some (at run.elf cores limit words seed (Some text))) None) h)
 
 -- an option that is set only where it isn't its default comes to its value
-comes-by : (same : Bool) (value default : ℕ) → eqb value default ≡ same → unwrap_or (cond same None (Some value)) default ≡ value
+comes-by : (same : Bool) (value default : ℕ) → eqb value default ≡ same
+    → unwrap_or (cond same None (Some value)) default ≡ value
 comes-by true value default e = sym (eqb-true value default e)
 comes-by false value default e = refl
 
@@ -199,7 +201,8 @@ few run fits =
     ∙ le-leb (run.params.cores * run.params.limit) INSTRUCTIONS_MAX fits.instructions
 
 -- the settings that are few together make the command
-made : (verb : Verb) (run : RunWords) → Fits run.params → settled_by verb no_settings (option_words run) ≡ Some (all-set run)
+made : (verb : Verb) (run : RunWords) → Fits run.params
+    → settled_by verb no_settings (option_words run) ≡ Some (all-set run)
     → option_and_then (command_of verb) (option_and_then few_together (settled_by verb no_settings (option_words run)))
     ≡ command_of verb (all-set run)
 made verb run fits settled =

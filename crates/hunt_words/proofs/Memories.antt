@@ -1,5 +1,5 @@
 -- A number of words that is read is one of whole blocks, in its range.
-use Rattle.std.proofs.Common.{◌≡◌, ℕ, Bool, true, false, cond, eqb, List, Some, None, ◌%◌, ◌^◌, ◌<◌, ◌≤◌, arith, refl, subst}
+use Rattle.std.proofs.Common.{◌≡◌, ℕ, cond, eqb, List, Some, None, ◌%◌, arith, subst}
 use Rattle.std.proofs.lemmas.Bool.{eqb-true}
 use Rattle.rtr_types.specs.declared.TheConstants.{BLOCK_WORDS}
 use Rattle.rtr_types.specs.declared.params.TheConstants.{WORDS_MAX, WORDS_MIN}
@@ -12,8 +12,8 @@ use Rattle.hunt_words.proofs.TurnsRead.{number-is}
 
 pub whole_fits : (text : List ℕ) (n : ℕ) → whole_blocks text ≡ Some n → IsMemory n
 whole_fits text n h =
-    let parts = and_then-some (λ m. cond (eqb (m % BLOCK_WORDS) 0) (Some m) None) (number_between WORDS_MIN WORDS_MAX text)
-    n h in
+    let parts = and_then-some (λ m. cond (eqb (m % BLOCK_WORDS) 0) (Some m) None)
+    (number_between WORDS_MIN WORDS_MAX text) n h in
     let number = number-is WORDS_MIN WORDS_MAX parts.0 text (omega arith) parts.1 in
     let whole = if-some (eqb (parts.0 % BLOCK_WORDS) 0) (Some parts.0) n parts.2 in
     let same : parts.0 ≡ n = cc in

@@ -1,24 +1,23 @@
 -- The option that words begin with, or why they begin with none.
-use Rattle.std.proofs.Common.{◌≡◌, ◌≢◌, ◌⊎◌, ◌≤◌, ◌<◌, ℕ, Bool, true, false, List, [], ◌∷◌, ◌++◌, Option, Some, None, refl}
-use Rattle.std.proofs.Common.{sym, ap, ◌∙◌, arith, length, take, not, nat_lt, cond, is_some, inl, inr, ◌||◌}
-use Rattle.std.specs.List.{after_first, before_first}
+use Rattle.std.proofs.Common.{◌≡◌, ◌⊎◌, ℕ, Bool, true, false, List, [], ◌∷◌, ◌++◌, Option, Some, None}
+use Rattle.std.proofs.Common.{refl, sym, ap, ◌∙◌, arith, length, not, cond, inl, inr, ◌||◌}
 use Rattle.std.proofs.lemmas.Bool.{lt-ltb}
-use Rattle.tool_words.specs.Reading.{is_equals}
 use Rattle.tool_words.specs.Stops.{joined_value}
 use Rattle.hunt_words.specs.declared.faults.Why.{Why}
-use Rattle.hunt_words.specs.declared.faults.Why.TheVariants.{NotAnOption, FlagWithValue, Twice, AtOdds, NoValue, OutOfRange}
-use Rattle.hunt_words.specs.declared.faults.Why.TheVariants.{NoNumber, NoSuchValue, TooMany, NoMachine, Lacks}
+use Rattle.hunt_words.specs.declared.faults.Why.TheVariants.{NotAnOption, FlagWithValue, Twice, AtOdds, NoValue}
+use Rattle.hunt_words.specs.declared.faults.Why.TheVariants.{OutOfRange, NoNumber, NoSuchValue}
+use Rattle.hunt_words.specs.declared.faults.Why.TheVariants.{TooMany, NoMachine, Lacks}
 use Rattle.hunt_words.specs.declared.names.Name.{Name}
 use Rattle.hunt_words.specs.declared.verbs.Verb.{Verb}
 use Rattle.hunt_words.specs.Faults.{Explains, name_part}
-use Rattle.hunt_words.specs.Given.{Given, alone, flag, given_in, prepend, valued}
+use Rattle.hunt_words.specs.Given.{Given, alone, given_in, prepend}
 use Rattle.hunt_words.specs.Names.{name_in, word_of}
 use Rattle.hunt_words.specs.Open.{has, odd_pair, one}
-use Rattle.hunt_words.specs.Stops.{Clashes, IsNamed, IsNext, IsTaken, IsUntaken, Stops, first_of}
+use Rattle.hunt_words.specs.Stops.{Clashes, IsNext, IsTaken, IsUntaken, Stops, first_of}
 use Rattle.hunt_words.specs.Stops.{is_at_end, is_of_name, value_of}
 use Rattle.hunt_words.specs.Verbs.{is_flag, takes_value}
 use Rattle.hunt_words.proofs.OptionLists.{some-inj}
-use Rattle.hunt_words.proofs.FaultLemmas.{alone-bare, alone-joined, bare, has-equals, name-word, no-flag, not-joined}
+use Rattle.hunt_words.proofs.OptionNames.{alone-bare, alone-joined, bare, has-equals, name-word, no-flag, not-joined}
 
 -- ---- an option
 
@@ -31,7 +30,8 @@ word-alone verb word name text same h =
     ap (λ (o : Option Given). prepend o (Some [])) h
     ∙ ap (λ (n : List ℕ). Some (record { name = n; text = text } ∷ [])) same
 
-joined-valued : (verb : Verb) (word text : List ℕ) → joined_value word ≡ Some text → takes_value verb (name_part word) ≡ true
+joined-valued : (verb : Verb) (word text : List ℕ) → joined_value word ≡ Some text
+    → takes_value verb (name_part word) ≡ true
     → alone verb word ≡ Some (record { name = name_part word; text = text })
 joined-valued verb word text is takes =
     alone-joined verb word text is
@@ -54,8 +54,8 @@ or-first : (a b : Bool) → (a || b) ≡ true → b ≡ false → a ≡ true
 or-first true b h k = refl
 or-first false b h k = absurd (cc)
 
-pub next-is : (verb : Verb) (given : List Given) (word : List ℕ) (following : List (List ℕ)) (name : Name) (text : List ℕ)
-    (used : ℕ) → IsTaken verb (name_part word) (joined_value word) name → has name given ≡ false
+pub next-is : (verb : Verb) (given : List Given) (word : List ℕ) (following : List (List ℕ)) (name : Name)
+    (text : List ℕ) (used : ℕ) → IsTaken verb (name_part word) (joined_value word) name → has name given ≡ false
     → odd_pair verb (given ++ one name [] ∷ []) ≡ None
     → value_of verb (name_part word) (joined_value word) following ≡ Some (text, used)
     → IsNext verb given (word ∷ following) name text used
@@ -82,8 +82,8 @@ next-is verb given word following name text used taken new apart h = by (joined_
         let pair : (t, 1) ≡ (text, used) = some-inj (t, 1) (text, used) k in
         let own : t ≡ text = ap (λ (p : List ℕ × ℕ). p.0) pair in
         let length-one : 1 ≡ used = ap (λ (p : List ℕ × ℕ). p.1) pair in
-        single (word-alone verb word name text same (joined-valued verb word text (is ∙ ap (λ (x : List ℕ). Some x) own) takes))
-        (sym length-one)
+        single (word-alone verb word name text same
+        (joined-valued verb word text (is ∙ ap (λ (x : List ℕ). Some x) own) takes)) (sym length-one)
     by None is bare-so k = flagged (is_flag verb (name_part word)) refl k
       where
         flagged : (b : Bool) → is_flag verb (name_part word) ≡ b
@@ -164,8 +164,9 @@ untaken-stops verb given word following TooMany h = absurd h
 untaken-stops verb given word following NoMachine h = absurd h
 untaken-stops verb given word following (Lacks missing) h = absurd h
 
-pub clash-stops : (verb : Verb) (given : List Given) (word : List ℕ) (following : List (List ℕ)) (name : Name) (why : Why)
-    → name_in (name_part word) ≡ Some name → Clashes verb given name why → Stops verb given (word ∷ following) 0 why
+pub clash-stops : (verb : Verb) (given : List Given) (word : List ℕ) (following : List (List ℕ)) (name : Name)
+    (why : Why) → name_in (name_part word) ≡ Some name → Clashes verb given name why
+    → Stops verb given (word ∷ following) 0 why
 clash-stops verb given word following name (Twice option) named_so (is, there) =
     at-first verb given word following (Twice option) refl refl
     (word, refl, rw is named_so, rw is there)

@@ -1,6 +1,6 @@
 -- A decimal number is read as itself.
-use Rattle.std.proofs.Common.{◌≡◌, ℕ, zero, suc, ◌^◌, ◌<◌, ◌≤◌, true, false, not, List, Some, length, arith, rules, sym, ap}
-use Rattle.std.proofs.Common.{get_or}
+use Rattle.std.proofs.Common.{◌≡◌, ℕ, zero, suc, ◌^◌, ◌<◌, ◌≤◌, true, false, not, Some, length, arith, rules, sym}
+use Rattle.std.proofs.Common.{ap, get_or}
 use Rattle.std.specs.Prelude.{decimal}
 use Rattle.std.specs.Char.{is_ascii_digit}
 use Rattle.std.specs.List.{list_all}
@@ -26,10 +26,12 @@ numeral n small =
     let some : 0 < length (decimal n) = decimal_nonempty n small in
     let digits : list_all is_ascii_digit (decimal n) ≡ true =
     own.from (decimal n) (decimal_is_IsNumeral n small).0.1 in
-    and_from _ _ (and_from _ _ (ap not (ne_eqb (length (decimal n)) 0 (λ e. omega (arith, some, e)))) (ap not (plain n small)))
+    and_from _ _
+    (and_from _ _ (ap not (ne_eqb (length (decimal n)) 0 (λ e. omega (arith, some, e)))) (ap not (plain n small)))
     digits
 
 -- a number in range, written, is read as itself
-pub between-decimal : (least most n : ℕ) → least ≤ n → n ≤ most → n < 2 ^ 64 → number_between least most (decimal n) ≡ Some n
+pub between-decimal : (least most n : ℕ) → least ≤ n → n ≤ most → n < 2 ^ 64
+    → number_between least most (decimal n) ≡ Some n
 between-decimal least most n low high small =
     number_between-some least most n (decimal n) (numeral n small) (sym (decimal_is_IsNumeral n small).1) low high

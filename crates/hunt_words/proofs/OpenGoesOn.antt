@@ -1,9 +1,8 @@
 -- Words whose options are open go on to a hunt.
-use Rattle.std.proofs.Common.{◌≡◌, ◌≢◌, ℕ, ◌*◌, ◌+◌, ◌<◌, ◌≤◌, ◌^◌, Bool, true, false, cond, not, ◌&&◌, ◌||◌, List, [], ◌∷◌, ◌++◌}
-use Rattle.std.proofs.Common.{Option, Some, None, arith, refl, sym, ◌∙◌, ap, is_some, nat_le, nat_lt, eqb, append_assoc}
-use Rattle.std.specs.Prelude.{codes, decimal, find, unwrap_or}
-use Rattle.std.specs.List.{list_all}
-use Rattle.std.specs.Option.{option_map, option_or}
+use Rattle.std.proofs.Common.{◌≡◌, ℕ, ◌*◌, ◌≤◌, Bool, true, false, cond, not, ◌&&◌, ◌||◌, List, [], ◌∷◌, ◌++◌, Option}
+use Rattle.std.proofs.Common.{Some, None, arith, refl, sym, ◌∙◌, ap, is_some, append_assoc}
+use Rattle.std.specs.Prelude.{codes, decimal, find}
+use Rattle.std.specs.Option.{option_or}
 use Rattle.std.specs.Str.{bytes_eq}
 use Rattle.std.proofs.lemmas.Bool.{and_from, and_parts, eq-eqb, le-leb, lt-ltb}
 use Rattle.std.proofs.lemmas.Slice.Eq.{bytes_eq-Decides}
@@ -11,7 +10,6 @@ use Rattle.std.proofs.lemmas.List.{append-nil}
 use Rattle.rtr_types.specs.declared.TheConstants.{CORES_MAX}
 use Rattle.rtr_types.specs.declared.params.TheConstants.{INSTRUCTIONS_MAX, WORDS_MAX}
 use Rattle.tool_words.specs.Numerals.{number_between}
-use Rattle.tool_words.specs.Options.{whole_blocks}
 use Rattle.end_claims.specs.Reading.{alternative_of, atom_of, claim_of, ending_of, places_of, sides_of}
 use Rattle.end_claims.specs.Reading.{ended_place, places_part, register_place, value_place, word_place}
 use Rattle.end_claims.specs.Named.{each_once}
@@ -24,53 +22,26 @@ use Rattle.hunt_words.specs.declared.names.Name.TheVariants.{Cores, Limit, Words
 use Rattle.hunt_words.specs.declared.names.Name.TheVariants.{Never, Same, See, Elf, Tso, Plain}
 use Rattle.hunt_words.specs.declared.verbs.Verb.{Verb}
 use Rattle.hunt_words.specs.declared.verbs.Verb.TheVariants as verbs
-use Rattle.hunt_words.specs.Given.{Given, alone, are_each_once, flag, given_in, has_option, prepend, text_at, valued}
+use Rattle.hunt_words.specs.Given.{Given, alone, are_each_once, flag, given_in, has_option, prepend, valued}
 use Rattle.tool_words.specs.Reading.{is_equals}
 use Rattle.tool_words.specs.Stops.{joined_value}
 use Rattle.std.specs.List.{before_first}
 use Rattle.std.proofs.Math.Bool.{or-true}
-use Rattle.hunt_words.specs.Meaning.{hunt_by, hunt_of}
-use Rattle.hunt_words.specs.Names.{name_in, names, word_of}
-use Rattle.hunt_words.specs.Open.{are_both, has, has_machine, is_open, is_value, is_value_or, lacks, lacks_run, most_words}
+use Rattle.hunt_words.specs.Meaning.{hunt_by}
+use Rattle.hunt_words.specs.Names.{word_of}
+use Rattle.hunt_words.specs.Open.{are_both, has, has_machine, is_value, is_value_or, lacks, lacks_run, most_words}
 use Rattle.hunt_words.specs.Open.{demanding_pairs, odd_pair, one, pairs, run_pairs, suits, text_of, valued_of}
 use Rattle.hunt_words.specs.Stops.{GoesOn, IsCut}
 use Rattle.hunt_words.specs.TurnTexts.{turns_named}
 use Rattle.hunt_words.specs.Values.{policy_named, range_named}
 use Rattle.hunt_words.specs.Verbs.{is_flag, takes_value}
 use Rattle.hunt_words.proofs.GivenCuts.{given-append, prepended}
-use Rattle.hunt_words.proofs.GivenLemmas.{given_pair}
 use Rattle.hunt_words.proofs.GivenTexts.{has-front, has-last, once-more, text_at-append}
 use Rattle.hunt_words.proofs.HuntsMade.{cores-named, hunt-made, no-first, run-named, words-named}
 use Rattle.hunt_words.proofs.NumberLines.{between-decimal}
 use Rattle.hunt_words.proofs.OptionLists.{all-mono, either, range-passes}
+use Rattle.hunt_words.proofs.OptionNames.{same-option}
 use Rattle.hunt_words.proofs.SuitedMachines.{words-by}
-
--- ---- names
-
-named-back : (name : Name) → name_in (word_of name) ≡ Some name
-named-back Cores = refl
-named-back Limit = refl
-named-back Words = refl
-named-back By = refl
-named-back Runs = refl
-named-back Threads = refl
-named-back Run = refl
-named-back Turns = refl
-named-back Expect = refl
-named-back Never = refl
-named-back Same = refl
-named-back See = refl
-named-back Elf = refl
-named-back Tso = refl
-named-back Plain = refl
-
-same-option : (a b : Name) → bytes_eq (word_of a) (word_of b) ≡ true → a ≡ b
-same-option a b h =
-    let words : word_of a ≡ word_of b = (bytes_eq-Decides (word_of a) (word_of b)).0 h in
-    some-same (sym (named-back a) ∙ ap name_in words ∙ named-back b)
-  where
-    some-same : Some a ≡ Some b → a ≡ b
-    some-same h = cc
 
 -- ---- a value for each option
 
@@ -215,7 +186,8 @@ apart-more given name text (pair ∷ rest) h =
     let a = and_parts
     (not (bytes_eq (word_of name) (word_of pair.0)) && not (bytes_eq (word_of name) (word_of pair.1)))
     (stands-apart name rest) h in
-    let b = and_parts (not (bytes_eq (word_of name) (word_of pair.0))) (not (bytes_eq (word_of name) (word_of pair.1))) a.0 in
+    let b = and_parts (not (bytes_eq (word_of name) (word_of pair.0)))
+    (not (bytes_eq (word_of name) (word_of pair.1))) a.0 in
     rw (
       has-other given name pair.0 text (off _ b.0),
       has-other given name pair.1 text (off _ b.1),
@@ -346,7 +318,8 @@ based verb words given cores w =
 -- ---- all that a verb needs
 
 ended : (verb : Verb) (words : List (List ℕ)) (given : List Given) (cores : ℕ) → Whole verb words given cores
-    → has Cores given ≡ true → has Words given ≡ true → lacks verb given ≡ None → (hunt : Hunt) × (hunt_by verb words ≡ Some hunt)
+    → has Cores given ≡ true → has Words given ≡ true → lacks verb given ≡ None
+    → (hunt : Hunt) × (hunt_by verb words ≡ Some hunt)
 unfolding hunt_by
 ended verb words given cores w c m whole =
     let hunt = hunt-made verb given cores w.low w.high (cores-named verb given cores w.suited c)
@@ -414,9 +387,10 @@ not-given verb name (word ∷ next ∷ rest) given t f h =
     by (λ g. not-given verb name rest g t f) (λ g. not-given verb name (next ∷ rest) g t f) (alone verb word) refl h
   where
     by : ((g : List Given) → given_in verb rest ≡ Some g → has_option name g ≡ false)
-        → ((g : List Given) → given_in verb (next ∷ rest) ≡ Some g → has_option name g ≡ false) → (o : Option Given) → alone verb word ≡ o
-        → cond (is_some o) (prepend o (given_in verb (next ∷ rest))) (prepend (valued verb word next) (given_in verb rest))
-        ≡ Some given → has_option name given ≡ false
+        → ((g : List Given) → given_in verb (next ∷ rest) ≡ Some g → has_option name g ≡ false) → (o : Option Given)
+        → alone verb word ≡ o
+        → cond (is_some o) (prepend o (given_in verb (next ∷ rest)))
+        (prepend (valued verb word next) (given_in verb rest)) ≡ Some given → has_option name given ≡ false
     by two one-more None is k =
         let p = prepended (valued verb word next) (given_in verb rest) given k in
         rw (← p.4) (not-here verb p.0 p.1 name t f (valued-taken verb word next p.0 p.2)
@@ -611,7 +585,8 @@ small-whole : (given : List Given) → lacks_run given ≡ None → (has Expect 
 small-whole given n e = by (lacks_run given) (has Expect given || has Never given) n e
   where
     by : (o : Option Missing) (b : Bool) → o ≡ None → b ≡ true
-        → elim o as (λ _. Option Missing) [ Some missing ↦ Some missing | None ↦ cond b None (Some lacking.Demand) ] ≡ None
+        → elim o as (λ _. Option Missing) [ Some missing ↦ Some missing | None ↦ cond b None (Some lacking.Demand) ]
+        ≡ None
     by (Some m) b n e = absurd (cc)
     by None true n e = refl
     by None false n e = absurd (cc)
@@ -637,10 +612,11 @@ small-filled words given cores w =
     }
     by r false is =
         let e = or-parts (has Expect r.longer) (has Never r.longer) is in
-        let same : has Same r.longer ≡ false = not-given verbs.Small (codes "--same") (words ++ r.more) r.longer refl refl
-        r.whole.gives in
+        let same : has Same r.longer ≡ false =
+        not-given verbs.Small (codes "--same") (words ++ r.more) r.longer refl refl r.whole.gives in
         let parts = none-parts (are_both r.longer) demanding run_pairs r.whole.apart in
-        let g = grown verbs.Small (words ++ r.more) r.longer cores Expect r.whole (record { alone_none = refl; takes = refl })
+        let g = grown verbs.Small (words ++ r.more) r.longer cores Expect r.whole
+        (record { alone_none = refl; takes = refl })
         (λ _. none-append (are_both (r.longer ++ one Expect (filler cores Expect) ∷ [])) demanding run_pairs
         (expect-apart r.longer (filler cores Expect) parts.0 e.1 same)
         (ap is_some (apart-more r.longer Expect (filler cores Expect) run_pairs refl) ∙ parts.1)) in
@@ -652,11 +628,13 @@ small-filled words given cores w =
           keeps = λ other k. g.keeps other (r.keeps other k);
         }
       where
-        still-named : (a b : List Given) → ((other : Name) → has other a ≡ true → has other b ≡ true) → lacks_run a ≡ None
+        still-named : (a b : List Given) → ((other : Name) → has other a ≡ true → has other b ≡ true)
+            → lacks_run a ≡ None
             → lacks_run b ≡ None
         still-named a b keeps h = from (has Run a) (has Turns a) refl refl (run-named a h)
           where
-            from : (x y : Bool) → has Run a ≡ x → has Turns a ≡ y → (has Run a || has Turns a) ≡ true → lacks_run b ≡ None
+            from : (x y : Bool) → has Run a ≡ x → has Turns a ≡ y → (has Run a || has Turns a) ≡ true
+                → lacks_run b ≡ None
             from true y r t k = rw (keeps Run r) refl
             from false true r t k = rw (keeps Turns t, or-true (has Run b)) refl
             from false false r t k = absurd (no (rw (r, t) at k))
@@ -703,7 +681,8 @@ whole-from verb words given c =
     off true h = absurd (cc)
     off false h = refl
 
-pub cut-goes-on : (verb : Verb) (words : List (List ℕ)) (given : List Given) → IsCut verb words given → GoesOn verb words
+pub cut-goes-on : (verb : Verb) (words : List (List ℕ)) (given : List Given) → IsCut verb words given
+    → GoesOn verb words
 cut-goes-on verb words given c =
     let w = whole-from verb words given c in
     whole-goes-on verb words given w.0 w.1
@@ -716,7 +695,12 @@ pub name-goes-on : (verb : Verb) (words : List (List ℕ)) (given : List Given) 
 name-goes-on verb words given word name c is alone_none takes new apart =
     let w = whole-from verb words given c in
     let text : List ℕ = filler w.0 name in
-    let longer = added verb words given w.0 name w.1 (record { alone_none = rw (← is) alone_none; takes = rw (← is) takes }) new
+    let pair : Pairs verb name = record { alone_none = rw (← is) alone_none; takes = rw (← is) takes } in
+    let longer = added verb words given w.0 name w.1 pair new
     (ap is_some (pair-text verb given name text []) ∙ apart) in
-    let on = whole-goes-on verb (words ++ word_of name ∷ text ∷ []) (given ++ one name text ∷ []) w.0 longer in
-    (text ∷ on.0, on.1, rw (is, append_assoc words (word_of name ∷ []) (text ∷ on.0)) (rw (append_assoc words (word_of name ∷ text ∷ []) on.0) at on.2))
+    let on = whole-goes-on verb (words ++ word_of name ∷ text ∷ []) (given ++ one name text ∷ []) w.0 longer in (
+      text ∷ on.0,
+      on.1,
+      rw (is, append_assoc words (word_of name ∷ []) (text ∷ on.0))
+          (rw (append_assoc words (word_of name ∷ text ∷ []) on.0) at on.2),
+    )

@@ -1,7 +1,6 @@
 -- Values that may be missing, and tests of lists.
-use Rattle.std.proofs.Common.{◌≡◌, ℕ, zero, suc, ◌+◌, ◌-◌, ◌<◌, ◌≤◌, Bool, true, false, cond, not, ◌&&◌, ◌||◌, List, [], ◌∷◌}
-use Rattle.std.proofs.Common.{Option, Some, None, eqb}
-use Rattle.std.proofs.Common.{arith, refl, sym, ◌∙◌, ap, is_some}
+use Rattle.std.proofs.Common.{◌≡◌, ℕ, zero, suc, ◌+◌, ◌-◌, ◌<◌, ◌≤◌, Bool, true, false, cond, ◌||◌, List, []}
+use Rattle.std.proofs.Common.{◌∷◌, Option, Some, None, eqb, arith, refl, ap, is_some}
 use Rattle.std.specs.Prelude.{find}
 use Rattle.std.specs.Option.{option_map}
 use Rattle.std.specs.List.{list_all, list_any, range_with_len}
@@ -25,9 +24,6 @@ some-is-false (Some b) a h k = cc
 pub mapped-some : {A B : Type 0} (f : A → B) (b : B) (o : Option A) → option_map f o ≡ Some b → is_some o ≡ true
 mapped-some f b None h = absurd (cc)
 mapped-some f b (Some a) h = refl
-
-pub some-not-none : {A : Type 0} (o : Option A) (a : A) → o ≡ Some a → o ≡ None → ⊥
-some-not-none o a h k = cc
 
 pub either : (b : Bool) → (b ≡ true → ⊥) → b ≡ false
 either true h = absurd (h refl)

@@ -1,8 +1,8 @@
 -- A machine that suits options suits fewer of them, and with the most words too.
-use Rattle.std.proofs.Common.{◌≡◌, ℕ, ◌<◌, ◌≤◌, Bool, true, false, cond, not, ◌&&◌, List, [], ◌∷◌, ◌++◌, Option, Some, None}
-use Rattle.std.proofs.Common.{arith, refl, sym, ◌∙◌, ap, is_some, nat_lt, nat_le, eqb}
-use Rattle.std.specs.Prelude.{unwrap_or, find}
-use Rattle.std.specs.List.{list_all, list_any, range_with_len}
+use Rattle.std.proofs.Common.{◌≡◌, ℕ, ◌≤◌, Bool, true, false, List, ◌++◌, Option, Some}
+use Rattle.std.proofs.Common.{None, arith, refl, sym, ◌∙◌, ap, is_some}
+use Rattle.std.specs.Prelude.{unwrap_or}
+use Rattle.std.specs.List.{list_all, range_with_len}
 use Rattle.std.specs.Option.{option_or}
 use Rattle.std.proofs.lemmas.Bool.{and_from, and_parts}
 use Rattle.std.proofs.lemmas.Bool.Decides.{nat_tests}
@@ -21,10 +21,10 @@ use Rattle.hunt_words.specs.declared.names.Name.{Name}
 use Rattle.hunt_words.specs.declared.names.Name.TheVariants.{Cores, Limit, Words, By, Runs, Threads, Run, Turns, Expect}
 use Rattle.hunt_words.specs.declared.names.Name.TheVariants.{Never, Same, See, Elf, Tso, Plain}
 use Rattle.hunt_words.specs.declared.verbs.Verb.{Verb}
-use Rattle.hunt_words.specs.Given.{Given, text_at}
+use Rattle.hunt_words.specs.Given.{Given}
 use Rattle.hunt_words.specs.Names.{word_of}
-use Rattle.hunt_words.specs.Open.{are_both, has, has_machine, is_open, is_value, is_value_or, most_words, odd_pair, pairs, passes}
-use Rattle.hunt_words.specs.Open.{suits, text_of, valued_of}
+use Rattle.hunt_words.specs.Open.{are_both, has, has_machine, is_value, is_value_or, most_words, odd_pair}
+use Rattle.hunt_words.specs.Open.{pairs, passes, suits, text_of, valued_of}
 use Rattle.hunt_words.proofs.GivenTexts.{has-front, text_at-append}
 use Rattle.hunt_words.proofs.Memories.{whole_fits}
 use Rattle.hunt_words.proofs.OptionLists.{all-mono, any-mono, find-none}
@@ -50,7 +50,8 @@ atom-lifts cores words more fewer (Compares left by right) h =
 atom-lifts cores words more fewer (Ends core stop) h = h
 atom-lifts cores words more fewer (AllEnd stop) h = refl
 
-claim-lifts : (cores words more : ℕ) → words ≤ more → (claim : List (List Atom)) → are_named_within cores words claim ≡ true
+claim-lifts : (cores words more : ℕ) → words ≤ more → (claim : List (List Atom))
+    → are_named_within cores words claim ≡ true
     → are_named_within cores more claim ≡ true
 claim-lifts cores words more fewer claim h =
     all-mono (list_all (within cores words)) (list_all (within cores more))
@@ -80,9 +81,11 @@ value-lifts cores words more fewer Never other text h =
     passes-lift (are_named_within cores words) (are_named_within cores more) (claim-lifts cores words more fewer)
     (claim_of text) h
 value-lifts cores words more fewer Same text-is text h =
-    passes-lift (are_within cores words) (are_within cores more) (places-lift cores words more fewer) (places_of cores text) h
+    passes-lift (are_within cores words) (are_within cores more) (places-lift cores words more fewer)
+    (places_of cores text) h
 value-lifts cores words more fewer See text-is text h =
-    passes-lift (are_within cores words) (are_within cores more) (places-lift cores words more fewer) (places_of cores text) h
+    passes-lift (are_within cores words) (are_within cores more) (places-lift cores words more fewer)
+    (places_of cores text) h
 value-lifts cores words more fewer Words other text h = absurd (cc)
 value-lifts cores words more fewer Cores other text h = h
 value-lifts cores words more fewer Limit other text h = h
@@ -150,7 +153,8 @@ front-suits verb given more cores h =
     each name k =
         front-value cores name (text_of name given) (text_of name more) (text_of Words given) (text_of Words more)
         (λ is. words-same name given is)
-        (ap (λ (o : Option (List ℕ)). is_value_or cores (words-by (option_or (text_of Words given) (text_of Words more))) name o)
+        (ap (λ (o : Option (List ℕ)).
+        is_value_or cores (words-by (option_or (text_of Words given) (text_of Words more))) name o)
         (sym (text_at-append (word_of name) given more))
         ∙ ap (λ (w : ℕ). is_value_or cores w name (text_of name (given ++ more)))
         (sym (ap words-by (text_at-append (word_of Words) given more))) ∙ k)
@@ -168,15 +172,5 @@ front-apart verb given more h =
 pub front-machine : (verb : Verb) (given more : List Given) → has_machine verb (given ++ more) ≡ true
     → has_machine verb given ≡ true
 front-machine verb given more h =
-    any-mono (suits verb (given ++ more)) (suits verb given) (front-suits verb given more) (range_with_len 1 CORES_MAX) h
-
-pub front-open : (verb : Verb) (given more : List Given) → is_open verb (given ++ more) ≡ true
-    → is_open verb given ≡ true
-front-open verb given more h =
-    let both = and_parts (not (is_some (odd_pair verb (given ++ more)))) (has_machine verb (given ++ more)) h in
-    and_from _ _ (ap not (front-apart verb given more (off (is_some (odd_pair verb (given ++ more))) both.0)))
-    (front-machine verb given more both.1)
-  where
-    off : (b : Bool) → not b ≡ true → b ≡ false
-    off true h = absurd (cc)
-    off false h = refl
+    any-mono (suits verb (given ++ more)) (suits verb given) (front-suits verb given more)
+    (range_with_len 1 CORES_MAX) h

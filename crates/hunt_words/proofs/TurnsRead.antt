@@ -1,7 +1,7 @@
 -- A text is read as turns exactly where it is the text of these turns.
-use Rattle.std.proofs.Common.{◌≡◌, ◌≢◌, ◌∙◌, refl, sym, ap, subst, ℕ, zero, suc, ◌+◌, ◌<◌, ◌≤◌, ◌^◌, List, [], ◌∷◌, ◌++◌}
-use Rattle.std.proofs.Common.{arith, Bool, true, false, cond, eqb, length, get_or, map, MatchOption, Option, Some, None}
-use Rattle.std.proofs.Common.{decimal, IfOk, IfSome, Result, Ok, Err}
+use Rattle.std.proofs.Common.{◌≡◌, ◌≢◌, ◌∙◌, refl, sym, ap, subst, ℕ, zero, suc, ◌+◌, ◌<◌, ◌≤◌, ◌^◌, List, [], ◌∷◌}
+use Rattle.std.proofs.Common.{◌++◌, arith, Bool, true, false, cond, eqb, length, get_or, map, MatchOption, Option, Some}
+use Rattle.std.proofs.Common.{None, decimal, IfOk, IfSome, Result, Ok, Err}
 use Rattle.std.specs.Prelude.{◌-◌, codes, not, nat_le, nat_lt, drop, take, ◌&&◌}
 use Rattle.std.specs.Char.{is_ascii_digit}
 use Rattle.std.specs.List.{All, after_first, before_first, join_with_byte, list_all, position_or_len, slice_split}
@@ -13,7 +13,8 @@ use Rattle.std.proofs.lemmas.Bool.Decides.{nat_tests}
 use Rattle.std.proofs.lemmas.Fmt.{decimal-digits_value}
 use Rattle.std.proofs.lemmas.List.{append-nil, length-append}
 use Rattle.std.proofs.Math.Seq.{drop-append-add, take-append_seam}
-use Rattle.std.proofs.lemmas.List.Splits.{join_with_byte-slice_split, length-slice_split, slice_split_at, slice_split_none}
+use Rattle.std.proofs.lemmas.List.Splits.{join_with_byte-slice_split, length-slice_split, slice_split_at}
+use Rattle.std.proofs.lemmas.List.Splits.{slice_split_none}
 use Rattle.std.proofs.lemmas.List.Sums.{passes_at_first, split_at_first}
 use Rattle.std.proofs.lemmas.Slice.Eq.{bytes_eq-Decides}
 use Rattle.rtr_types.specs.declared.TheConstants.{CORES_MAX}
@@ -28,7 +29,7 @@ use Rattle.turn_lists.specs.Texts.{are_turns, is_turn, spelled_actor, spelled_mo
 use Rattle.turn_lists.proofs.NumeralLemmas.{own}
 use Rattle.turn_lists.proofs.ReadingPlaces.{and_left, and_right}
 use Rattle.turn_lists.proofs.SpelledOnce.{spelled_once}
-use Rattle.turn_lists.proofs.TextLemmas.{actor_lacks, decimal_lacks, is_turn_core, lacks, lacks_at, turn_lacks}
+use Rattle.turn_lists.proofs.TextLemmas.{actor_lacks, decimal_lacks, is_turn_core, lacks, turn_lacks}
 use Rattle.end_claims.specs.Numbers.{◌>>=◌, behind, parted}
 use Rattle.end_claims.specs.Reading.{core_of, each}
 use Rattle.hunt_words.specs.TurnTexts.{actor_named, buffer_named, turn_named, turns_named}
@@ -295,7 +296,8 @@ split-spelled t (u ∷ us) fits fit =
     ∙ ap (λ (more : List (List ℕ)). spelled_turn t ∷ more)
     (split-spelled u us (and_left (is_turn u) (are_turns us) fit) (and_right (is_turn u) (are_turns us) fit))
 
-join-spelled : (t : Turn) (ts : List Turn) → join_with_byte 44 (map spelled_turn (t ∷ ts)) ≡ spelled_turn t ++ spelled_more ts
+join-spelled : (t : Turn) (ts : List Turn)
+    → join_with_byte 44 (map spelled_turn (t ∷ ts)) ≡ spelled_turn t ++ spelled_more ts
 join-spelled t [] = sym (append-nil (spelled_turn t))
 join-spelled t (u ∷ us) = ap (λ (more : List ℕ). spelled_turn t ++ 44 ∷ more) (join-spelled u us)
 

@@ -2,8 +2,8 @@
 -- What is wrong with words that ask for nothing. A front of a list of words is viable where some list that asks for
 -- something begins with it. The word at fault is the first whose front isn't viable; where the whole list is viable and
 -- still asks for nothing, the fault is at its end.
-use Rattle.std.specs.Prelude.{◌≡◌, ◌≢◌, ℕ, ◌+◌, ◌-◌, ◌^◌, ◌*◌, ◌<◌, ◌≤◌, nat_lt, nat_le, Bool, true, false, List, [], ◌∷◌, ◌++◌}
-use Rattle.std.specs.Prelude.{length, take, Option, Some, None, is_some, if◌then◌else◌}
+use Rattle.std.specs.Prelude.{◌≡◌, ◌≢◌, ℕ, ◌+◌, ◌-◌, ◌^◌, ◌*◌, ◌<◌, ◌≤◌, nat_le, Bool, true, false, List, []}
+use Rattle.std.specs.Prelude.{◌∷◌, ◌++◌, length, take, Option, Some, None, is_some, if◌then◌else◌}
 use Rattle.std.specs.List.{before_first}
 use Rattle.rtr_types.specs.declared.TheConstants.{CORES_MAX}
 use Rattle.rtr_types.specs.declared.params.TheConstants.{INSTRUCTIONS_MAX, LIMIT_MAX, WORDS_MAX, WORDS_MIN}
@@ -17,8 +17,9 @@ use Rattle.hunt_words.specs.declared.faults.Fault.TheVariants.{NoVerb, NotAVerb,
 use Rattle.hunt_words.specs.declared.faults.Missing.{Missing}
 use Rattle.hunt_words.specs.declared.faults.Missing.TheVariants as lacking
 use Rattle.hunt_words.specs.declared.faults.Why.{Why}
-use Rattle.hunt_words.specs.declared.faults.Why.TheVariants.{NotAnOption, FlagWithValue, Twice, AtOdds, NoValue, OutOfRange}
-use Rattle.hunt_words.specs.declared.faults.Why.TheVariants.{NoNumber, NoSuchValue, TooMany, NoMachine, Lacks}
+use Rattle.hunt_words.specs.declared.faults.Why.TheVariants.{NotAnOption, FlagWithValue, Twice, AtOdds, NoValue}
+use Rattle.hunt_words.specs.declared.faults.Why.TheVariants.{OutOfRange, NoNumber, NoSuchValue}
+use Rattle.hunt_words.specs.declared.faults.Why.TheVariants.{TooMany, NoMachine, Lacks}
 use Rattle.hunt_words.specs.declared.names.Name.{Name}
 use Rattle.hunt_words.specs.declared.names.Name.TheVariants.{Cores, Limit, Words, By, Runs, Threads, Run, Turns, Expect}
 use Rattle.hunt_words.specs.declared.names.Name.TheVariants.{Never, Same, See}
@@ -26,7 +27,7 @@ use Rattle.hunt_words.specs.declared.options.TheConstants.{HUNT_THREADS_MAX}
 use Rattle.hunt_words.specs.declared.verbs.Verb.{Verb}
 use Rattle.hunt_words.specs.Given.{Given, given_in}
 use Rattle.hunt_words.specs.Meaning.{hunt_of, meaning}
-use Rattle.hunt_words.specs.Names.{name_in, word_of}
+use Rattle.hunt_words.specs.Names.{name_in}
 use Rattle.hunt_words.specs.Open.{has, has_machine, lacks, odd_pair, one, suits, text_of}
 use Rattle.hunt_words.specs.TurnTexts.{turns_named}
 use Rattle.hunt_words.specs.Values.{policy_named, range_named}
@@ -92,7 +93,8 @@ refusal name text = elim (range name) [
 -- the number of cores and the limit are given, and are too many instructions together
 abbrev pub AreTooMany : List Given → Type 0
 AreTooMany given =
-    (cores limit : List ℕ) × (n l : ℕ) × (text_of Cores given ≡ Some cores) × (number_between 1 CORES_MAX cores ≡ Some n)
+    (cores limit : List ℕ) × (n l : ℕ)
+    × (text_of Cores given ≡ Some cores) × (number_between 1 CORES_MAX cores ≡ Some n)
     × (text_of Limit given ≡ Some limit) × (number_between 1 LIMIT_MAX limit ≡ Some l)
     × (nat_le (n * l) INSTRUCTIONS_MAX ≡ false)
 
@@ -103,7 +105,8 @@ Refuses given name text TooMany = (is_readable name text ≡ true) × AreTooMany
 Refuses given name text NoMachine = is_readable name text ≡ true
 Refuses given name text why = (is_readable name text ≡ false) × (why ≡ refusal name text)
 
--- something is missing: what a verb must have, or cores or words of memory that are named and that there aren't by default
+-- something is missing: what a verb must have, or cores or words of memory that are named and that there aren't by
+-- default
 abbrev pub IsMissing : Verb → List Given → Missing → Type 0
 IsMissing verb given lacking.Cores =
     (lacks verb given ≡ None) × (has Cores given ≡ false) × (suits verb given cores_default ≡ false)
@@ -111,8 +114,8 @@ IsMissing verb given lacking.Words =
     (lacks verb given ≡ None) × (has Words given ≡ false) × (hunt_of verb given ≡ None)
 IsMissing verb given missing = lacks verb given ≡ Some missing
 
--- why words can't go on, or can't end, where those before are a verb and these options, and the piece is what follows up
--- to the word at fault: nothing, one word, or the name of an option and its value
+-- why words can't go on, or can't end, where those before are a verb and these options, and the piece is what follows
+-- up to the word at fault: nothing, one word, or the name of an option and its value
 abbrev pub Explains : Verb → List Given → (piece : List (List ℕ)) → Why → Type 0
 Explains verb given piece NotAnOption =
     (word : List ℕ) × (piece ≡ word ∷ []) × (takes_value verb (name_part word) ≡ false)
@@ -147,4 +150,5 @@ abbrev pub Tells : List (List ℕ) → Fault → Type 0
 Tells words NoVerb = words ≡ []
 Tells words NotAVerb = (first : List ℕ) × (rest : List (List ℕ)) × (words ≡ first ∷ rest) × (verb_named first ≡ None)
 Tells words (InOptions verb place why) =
-    (given : List Given) × (piece : List (List ℕ)) × StopsAt words place verb given piece × Explains verb given piece why
+    (given : List Given) × (piece : List (List ℕ)) × StopsAt words place verb given piece
+    × Explains verb given piece why

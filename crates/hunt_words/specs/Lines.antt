@@ -1,6 +1,6 @@
 -- The line by which `rtr` records a run: its words, and how they are written.
-use Rattle.std.specs.Prelude.{◌≡◌, ℕ, ◌^◌, ◌==◌, ◌<◌, Bool, true, false, List, [], ◌∷◌, ◌++◌, Some, codes, decimal, slice_index}
-use Rattle.std.specs.Prelude.{if◌then◌else◌}
+use Rattle.std.specs.Prelude.{◌≡◌, ℕ, ◌^◌, ◌==◌, ◌<◌, Bool, true, false, List, [], ◌∷◌, ◌++◌, Some, codes, decimal}
+use Rattle.std.specs.Prelude.{slice_index, if◌then◌else◌}
 use Rattle.std.specs.List.{flat_map}
 use Rattle.hex.specs.Hex.{encode_lower}
 use Rattle.rtr_types.specs.Parameters.{Fits}
@@ -61,4 +61,5 @@ recorded tso run = if tso then TsoRecord run else Record run
 
 -- `rtr`'s own reader takes the line's words for the command that records exactly this run
 abbrev pub LineMeansTheRun : Type 0
-LineMeansTheRun = (tso : Bool) (run : RunWords) → MayBeRecorded tso run → meaning (line_words tso run) ≡ Some (recorded tso run)
+LineMeansTheRun =
+    (tso : Bool) (run : RunWords) → MayBeRecorded tso run → meaning (line_words tso run) ≡ Some (recorded tso run)

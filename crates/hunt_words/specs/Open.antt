@@ -1,7 +1,7 @@
 -- Rule: options of which a hunt may still come: is_open
 -- Options of which a hunt may still come, whatever follows them, and what is missing where none has come yet.
-use Rattle.std.specs.Prelude.{ℕ, ◌*◌, ◌-◌, ◌^◌, ◌==◌, nat_le, ◌&&◌, ◌||◌, not, Bool, true, false, List, [], ◌∷◌, ◌++◌, Option}
-use Rattle.std.specs.Prelude.{Some, None, find, is_some, unwrap_or, if◌then◌else◌}
+use Rattle.std.specs.Prelude.{ℕ, ◌*◌, ◌-◌, ◌^◌, ◌==◌, nat_le, ◌&&◌, ◌||◌, not, Bool, true, false, List, [], ◌∷◌, ◌++◌}
+use Rattle.std.specs.Prelude.{Option, Some, None, find, is_some, unwrap_or, if◌then◌else◌}
 use Rattle.std.specs.List.{list_all, list_any, range_with_len}
 use Rattle.rtr_types.specs.declared.TheConstants.{CORES_MAX}
 use Rattle.rtr_types.specs.declared.params.TheConstants.{INSTRUCTIONS_MAX, LIMIT_MAX, WORDS_MAX}
@@ -120,6 +120,9 @@ abbrev pub lacks : Verb → List Given → Option Missing
 lacks verbs.First given = if has Expect given || has Never given || has Same given then None else Some Demand
 lacks verbs.Table given = if has Expect given || has Never given || has See given then None else Some Demand
 lacks verbs.Small given =
-    elim (lacks_run given) [ Some missing ↦ Some missing | None ↦ if has Expect given || has Never given then None else Some Demand ]
+    elim (lacks_run given) [
+      | Some missing ↦ Some missing
+      | None ↦ if has Expect given || has Never given then None else Some Demand
+    ]
 lacks verbs.Words given = lacks_run given
 lacks verbs.Record given = lacks_run given

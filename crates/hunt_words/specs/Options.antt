@@ -1,5 +1,6 @@
 -- What the options of a verb come to.
-use Rattle.std.specs.Prelude.{ℕ, ◌*◌, ◌-◌, ◌^◌, nat_le, ◌&&◌, ◌||◌, Bool, List, Option, Some, None, codes, if◌then◌else◌}
+use Rattle.std.specs.Prelude.{ℕ, ◌*◌, ◌-◌, ◌^◌, nat_le, ◌&&◌, ◌||◌, Bool, List, Option, Some, None, codes}
+use Rattle.std.specs.Prelude.{if◌then◌else◌}
 use Rattle.std.specs.Option.{option_map}
 use Rattle.rtr_types.specs.declared.TheConstants.{CORES_MAX}
 use Rattle.rtr_types.specs.declared.params.Params.{Params}
@@ -35,7 +36,8 @@ params_of given = do
   cores ← number_or (codes "--cores") 1 CORES_MAX cores_default given
   limit ← number_or (codes "--limit") 1 LIMIT_MAX limit_default given
   words ← words_or given
-  if nat_le (cores * limit) INSTRUCTIONS_MAX then Some (record { cores = cores; limit = limit; words = words }) else None
+  if nat_le (cores * limit) INSTRUCTIONS_MAX
+      then Some (record { cores = cores; limit = limit; words = words }) else None
 
 -- cores with store buffers run an image as it stands, and no ELF file
 unfoldable pub setup_of : List Given → Option Setup

@@ -1,6 +1,6 @@
 -- What the texts of options mean.
-use Rattle.std.specs.Prelude.{ℕ, nat_le, Bool, List, [], ◌∷◌, Option, Some, None, codes, if◌then◌else◌}
-use Rattle.std.specs.Option.{option_map, option_or}
+use Rattle.std.specs.Prelude.{ℕ, nat_le, List, [], ◌∷◌, Option, Some, None, codes, if◌then◌else◌}
+use Rattle.std.specs.Option.{option_or}
 use Rattle.turn_policies.specs.declared.named.Named.{Named}
 use Rattle.turn_policies.specs.declared.named.Named.TheVariants.{All, Few, Mixed, Ranked, Seed, Walk}
 use Rattle.tool_words.specs.Names.{named_by}

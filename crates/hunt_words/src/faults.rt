@@ -12,8 +12,9 @@ pub enum Fault {
     NoVerb,
     /// The first word is no verb.
     NotAVerb,
-    /// The words are this verb and options, up to the word at `place`, counted from 0 with the verb: it can't stand there.
-    /// Where `place` is the number of words, each may stand where it stands, and something is missing behind them.
+    /// The words are this verb and options, up to the word at `place`, counted from 0 with the verb: it can't stand
+    /// there. Where `place` is the number of words, each may stand where it stands, and something is missing behind
+    /// them.
     InOptions { verb: Verb, place: usize, why: Why },
 }
 

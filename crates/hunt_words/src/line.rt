@@ -23,7 +23,8 @@ pub fn put_line(
 
 /// Puts `rtr` and its command.
 fn put_command(text: &mut String, tso: bool) -> Result<(), AllocError>
-    ensures { OnOk result (string_bytes text.new ≡ string_bytes text.old ++ (codes "rtr" ++ spaced (command_word tso))) }
+    ensures { OnOk result (string_bytes text.new ≡ string_bytes text.old
+        ++ (codes "rtr" ++ spaced (command_word tso))) }
 {
     text.push_str(if tso { "rtr tsorecord" } else { "rtr record" })
 }

@@ -16,8 +16,8 @@ use turn_policies::Named;
 /// with. Names are exact, and numbers have no leading zero. The cores times the limit are at most `INSTRUCTIONS_MAX`,
 /// `--elf` and `--tso` don't go together, and the machine has each core and word that a claim or a place names. `first`
 /// has one of `--expect`, `--never` and `--same`; `small` has one of the first two, and `table` at most one, and else
-/// `--see`. `small`, `words` and `record` have either `--run`, with `--by` or without, or `--turns`. Every other list of
-/// words, among them the empty one, means nothing. The only refusal is want of memory.
+/// `--see`. `small`, `words` and `record` have either `--run`, with `--by` or without, or `--turns`. Every other list
+/// of words, among them the empty one, means nothing. The only refusal is want of memory.
 #[tactic(auto, unfolding(crate::specs::Meaning::hunt_by))]
 pub fn meaning(alloc: Global, words: &[String]) -> Result<Option<Hunt>, AllocError>
     ensures value { IfOk result (λ hunt. hunt ≡ meaning (map string_bytes words.now)) }

@@ -18,7 +18,8 @@ use rtr_types::{CORES_MAX, INSTRUCTIONS_MAX, LIMIT_MAX, WORDS_MAX, WORDS_MIN};
 use std::alloc::{AllocError, Global};
 use tool_words::{number_between, whole_blocks};
 
-/// Why no machine suits the options with the last one, whose name and text these are. The only refusal is want of memory.
+/// Why no machine suits the options with the last one, whose name and text these are. The only refusal is want of
+/// memory.
 pub(crate) fn refusal_of(
     alloc: Global,
     given: &[Given<'_>],

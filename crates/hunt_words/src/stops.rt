@@ -1,6 +1,6 @@
 //! Where words that ask for nothing stop leading to a hunt.
-ghost use Rattle.std.specs.Prelude.{◌≡◌, ◌≢◌, ◌<◌, ℕ, List, ◌∷◌, [], ◌++◌, IfErr, IfNone, IfOk, IfSome, None, false, length, map};
-ghost use Rattle.std.specs.Prelude.{string_bytes};
+ghost use Rattle.std.specs.Prelude.{◌≡◌, ◌≢◌, ◌<◌, ℕ, List, ◌∷◌, [], ◌++◌, IfErr, IfNone, IfOk, IfSome, None, false};
+ghost use Rattle.std.specs.Prelude.{length, map, string_bytes};
 ghost use Rattle.std.specs.Option.{option_map};
 ghost use Rattle.hunt_words.specs.Faults.{IsFaultAt, IsMissing, Tells, place_of};
 ghost use Rattle.hunt_words.specs.Meaning.{hunt_by, hunt_of, meaning};
@@ -18,9 +18,9 @@ use crate::verbs::Verb;
 use std::alloc::{AllocError, Global};
 use tool_words::CORES_DEFAULT;
 
-/// What is wrong with words that ask for nothing: the first word that no list of words which asks for something has there,
-/// or the end, where each word may stand where it stands; and why. `None` where the words ask for something. The only
-/// refusal is want of memory.
+/// What is wrong with words that ask for nothing: the first word that no list of words which asks for something has
+/// there, or the end, where each word may stand where it stands; and why. `None` where the words ask for something. The
+/// only refusal is want of memory.
 pub fn fault(alloc: Global, words: &[String]) -> Result<Option<Fault>, AllocError>
     ensures first { IfOk result (λ found. IfSome found (λ f. IsFaultAt (map string_bytes words.now) (place_of f))) }
     ensures why { IfOk result (λ found. IfSome found (λ f. Tells (map string_bytes words.now) f)) }
@@ -93,7 +93,8 @@ fn stop_in(alloc: Global, verb: Verb, words: &[String]) -> Result<Option<Stop>, 
 /// The option that the words begin with, which goes together with those that are given; or where they stop.
 fn next_option<'a>(verb: Verb, given: &[Given<'_>], words: &'a [String]) -> Result<Next<'a>, Stop>
     requires { 0 < length words.now }
-    ensures ok { IfOk result (λ n. IsNext verb (all_seen given.now) (map string_bytes words.now) n.name n.text.now n.used) }
+    ensures ok { IfOk result (λ n. IsNext verb (all_seen given.now) (map string_bytes words.now) n.name n.text.now
+        n.used) }
     ensures err { IfErr result (λ stop. Stops verb (all_seen given.now) (map string_bytes words.now) stop.place
         stop.why) }
 {
@@ -115,7 +116,7 @@ fn next_option<'a>(verb: Verb, given: &[Given<'_>], words: &'a [String]) -> Resu
 }
 
 /// The option of this name, which the verb takes, with a value joined to it or without; or why there is none.
-#[tactic(auto, using(crate::proofs::FaultLemmas::taken_named))]
+#[tactic(auto, using(crate::proofs::OptionNames::taken_named))]
 fn taken(verb: Verb, option: &str, joined: Option<&str>) -> Result<Name, Why>
     ensures ok { IfOk result (λ name. IsTaken verb option.now (option_map (λ t. t.now) joined.entry) name) }
     ensures err { IfErr result (λ why. IsUntaken verb option.now (option_map (λ t. t.now) joined.entry) why) }
@@ -146,8 +147,8 @@ fn clash(verb: Verb, given: &[Given<'_>], name: Name) -> Option<Why>
     }
 }
 
-/// The text of an option's value, which is empty for a flag, and how many words the option and its value are: the value is
-/// joined to the name, or the first of the words that follow.
+/// The text of an option's value, which is empty for a flag, and how many words the option and its value are: the value
+/// is joined to the name, or the first of the words that follow.
 fn value_of<'a>(
     verb: Verb,
     option: &str,

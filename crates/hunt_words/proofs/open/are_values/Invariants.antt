@@ -9,4 +9,5 @@ abbrev pub invariant-loop-k : goal.invariant-loop-k
 invariant-loop-k l =
     list_all (λ name. is_value_or l.cores (most_words (all_seen l.given)) name (text_of name (all_seen l.given)))
     (drop l.k l.names)
-    ≡ list_all (λ name. is_value_or l.cores (most_words (all_seen l.given)) name (text_of name (all_seen l.given))) l.names
+    ≡ list_all (λ name. is_value_or l.cores (most_words (all_seen l.given)) name (text_of name (all_seen l.given)))
+    l.names

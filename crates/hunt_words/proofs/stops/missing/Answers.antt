@@ -1,10 +1,11 @@
 use Rattle.std.proofs.Common.{arith, inl, inr, sym}
 use Rattle.std.proofs.lemmas.Bool.Decides.{nat_tests}
 use Rattle.hunt_words.specs.Seen.{all_seen}
-use Rattle.hunt_words.proofs.FaultLemmas.{missing-words}
+use Rattle.hunt_words.proofs.FaultPlaces.{missing-words}
 use Rattle.hunt_words.proofs.FaultReads.{lacks-is}
 use Rattle.hunt_words.proofs.stops.missing.Goals as goal
-use Rattle.hunt_words.proofs.stops.missing.Goals.{else-not-has-via-then-not-has+in_ok-suits+else-not-branch, else-not-has-via-else-not-has}
+use Rattle.hunt_words.proofs.stops.missing.Goals.{else-not-has-via-then-not-has+in_ok-suits+else-not-branch}
+use Rattle.hunt_words.proofs.stops.missing.Goals.{else-not-has-via-else-not-has}
 
 pub returns-in-Some : goal.returns-in-Some
 returns-in-Some c = lacks-is c.args.verb (all_seen c.args.given.now) c.in-Some.missing (sym c.in-Some.ensures)

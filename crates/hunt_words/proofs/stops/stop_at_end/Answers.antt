@@ -1,6 +1,6 @@
 use Rattle.std.proofs.Common.{map, string_bytes}
 use Rattle.hunt_words.specs.Seen.{all_seen}
-use Rattle.hunt_words.proofs.FaultLemmas.{end-means}
+use Rattle.hunt_words.proofs.FaultPlaces.{end-means}
 use Rattle.hunt_words.proofs.FaultReads.{end-so, hunt-none, hunt-some}
 use Rattle.hunt_words.proofs.stops.stop_at_end.Goals as goal
 

@@ -1,9 +1,8 @@
-use Rattle.std.proofs.Common.{◌≡◌, ◌∙◌, ℕ, List, ◌∷◌, [], ◌++◌, ap, arith, false, map, string_bytes, sym, true}
+use Rattle.std.proofs.Common.{◌≡◌, ◌∙◌, ℕ, List, ap, arith, false, string_bytes, sym, true}
 use Rattle.std.proofs.lemmas.Bool.Decides.{nat_tests}
-use Rattle.hunt_words.specs.Given.{Given}
-use Rattle.hunt_words.specs.Open.{has_machine, one}
+use Rattle.hunt_words.specs.Open.{has_machine}
 use Rattle.hunt_words.specs.Seen.{all_seen}
-use Rattle.hunt_words.proofs.FaultLemmas.{none-cut}
+use Rattle.hunt_words.proofs.FaultPlaces.{none-cut}
 use Rattle.hunt_words.proofs.FaultReads.{cut-so, next-so, pushed-so, up-to-end, value-so}
 use Rattle.hunt_words.proofs.stops.stop_in.Goals as goal
 
