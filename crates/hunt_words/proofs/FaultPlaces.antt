@@ -6,7 +6,7 @@ use Rattle.std.proofs.Common.{is_some, inl, inr}
 use Rattle.std.proofs.Math.Seq.{take-add, take-length}
 use Rattle.std.proofs.Math.ListN.{drop_of_length-le}
 use Rattle.std.proofs.lemmas.List.{append-nil}
-use Rattle.std.proofs.lemmas.Bool.{and_from}
+use Rattle.std.proofs.lemmas.Bool.{and_from, false_from_ne_true, true≢false}
 use Rattle.std.proofs.lemmas.Bool.Decides.{nat_tests}
 use Rattle.rtr_types.specs.declared.TheConstants.{CORES_MAX}
 use Rattle.tool_words.specs.Numerals.{is_numeral, number_between}
@@ -31,11 +31,11 @@ use Rattle.hunt_words.specs.Stops.{GoesOn, IsCut, IsNamed, IsNext, Stops, StopsA
 use Rattle.hunt_words.specs.Verbs.{is_flag, takes_value, verb_named}
 use Rattle.hunt_words.proofs.GivenCuts.{given-append}
 use Rattle.hunt_words.proofs.GivenTexts.{once-more}
-use Rattle.hunt_words.proofs.OpenGoesOn.{cut-goes-on, name-goes-on, pair-text}
+use Rattle.hunt_words.proofs.OpenGoesOn.{cut-goes-on, name-goes-on, open-parts, pair-text}
 use Rattle.hunt_words.proofs.HuntsMade.{cores-named, hunt-made, words-named}
-use Rattle.hunt_words.proofs.OptionLists.{either, range-passes}
+use Rattle.hunt_words.proofs.OptionLists.{range-passes}
 use Rattle.hunt_words.proofs.OptionNames.{alone-bare, bare, bare-so, has-equals, joined-takes, name-word, no-flag}
-use Rattle.hunt_words.proofs.StuckWords.{open-parts, stuck-cut, stuck-machine, stuck-name, stuck-odd, stuck-twice}
+use Rattle.hunt_words.proofs.StuckWords.{stuck-cut, stuck-machine, stuck-name, stuck-odd, stuck-twice}
 
 -- ---- where words stop
 
@@ -124,10 +124,7 @@ no-alone : (verb : Verb) (word : List ℕ) → takes_value verb word ≡ true �
 no-alone verb word takes flagless = by (has-equals word) refl
   where
     by : (b : Bool) → has-equals word ≡ b → alone verb word ≡ None
-    by true is = absurd (clash (takes_value verb word) takes (joined-takes verb word is))
-      where
-        clash : (b : Bool) → b ≡ true → b ≡ false → ⊥
-        clash b h k = cc
+    by true is = absurd (true≢false (sym takes ∙ joined-takes verb word is))
     by false is =
         alone-bare verb word (bare-so word is)
         ∙ no-flag verb (name_part word) (ap (is_flag verb) (bare word is) ∙ flagless)
@@ -337,7 +334,8 @@ end-means verb words given cut some none = some (from (hunt_of verb given) refl)
 pub missing-words : (verb : Verb) (words : List (List ℕ)) (given : List Given) → IsCut verb words given
     → hunt_of verb given ≡ None → lacks verb given ≡ None
     → (has named.Cores given ≡ true) ⊎ (suits verb given cores_default ≡ true) → has named.Words given ≡ false
-missing-words verb words given cut none whole cores = either (has named.Words given) (λ there. by there cores)
+missing-words verb words given cut none whole cores =
+    false_from_ne_true (has named.Words given) (λ there. by there cores)
   where
     clash : (hunt : Hunt) → hunt_of verb given ≡ Some hunt → ⊥
     clash hunt h = cc

@@ -3,10 +3,9 @@ use Rattle.std.proofs.Common.{◌≡◌, ℕ, Bool, true, false, cond, not, ◌&
 use Rattle.std.proofs.Common.{refl, sym, ap, is_some}
 use Rattle.std.specs.Option.{option_or}
 use Rattle.std.specs.Str.{bytes_eq}
-use Rattle.std.proofs.lemmas.Bool.{and_from, and_parts}
+use Rattle.std.proofs.lemmas.Bool.{and_from, and_parts, false_from_ne_true}
 use Rattle.std.proofs.lemmas.Slice.Eq.{bytes_eq-Decides}
 use Rattle.hunt_words.specs.Given.{Given, are_each_once, has_option, text_at}
-use Rattle.hunt_words.proofs.OptionLists.{either}
 
 abbrev pub given-one : (name text : List ℕ) → Given
 given-one name text = record { name = name; text = text }
@@ -49,7 +48,7 @@ once-front [] more h = refl
 once-front (o ∷ given) more h =
     let both = and_parts (not (has_option o.name (given ++ more))) (are_each_once (given ++ more)) h in
     and_from (not (has_option o.name given)) (are_each_once given)
-    (ap not (either (has_option o.name given) (λ k.
+    (ap not (false_from_ne_true (has_option o.name given) (λ k.
     let later = has-front o.name given more k in absurd (clash later both.0))))
     (once-front given more both.1)
   where
@@ -91,7 +90,7 @@ once-more name text (o ∷ given) once new =
     other e k = rw (text_at-append o.name given (given-one name text ∷ []), away) (still (text_at o.name given) k)
       where
         away : bytes_eq name o.name ≡ false
-        away = either (bytes_eq name o.name) (λ k. let same = (bytes_eq-Decides name o.name).0 k in
+        away = false_from_ne_true (bytes_eq name o.name) (λ k. let same = (bytes_eq-Decides name o.name).0 k in
             absurd (let there = (bytes_eq-Decides o.name name).1 (sym same) in cc))
 
         still : (o : Option (List ℕ)) → not (is_some o) ≡ true → not (is_some (option_or o None)) ≡ true

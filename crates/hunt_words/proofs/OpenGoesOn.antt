@@ -4,7 +4,8 @@ use Rattle.std.proofs.Common.{Some, None, arith, refl, sym, ◌∙◌, ap, is_so
 use Rattle.std.specs.Prelude.{codes, decimal, find}
 use Rattle.std.specs.Option.{option_or}
 use Rattle.std.specs.Str.{bytes_eq}
-use Rattle.std.proofs.lemmas.Bool.{and_from, and_parts, eq-eqb, le-leb, lt-ltb}
+use Rattle.std.proofs.lemmas.Bool.{and_from, and_parts, eq-eqb, false_from_ne_true, le-leb, lt-ltb}
+use Rattle.std.proofs.lemmas.Bool.{not-true, true≢false}
 use Rattle.std.proofs.lemmas.Slice.Eq.{bytes_eq-Decides}
 use Rattle.std.proofs.lemmas.List.{append-nil}
 use Rattle.rtr_types.specs.declared.TheConstants.{CORES_MAX}
@@ -29,8 +30,8 @@ use Rattle.std.specs.List.{before_first}
 use Rattle.std.proofs.Math.Bool.{or-true}
 use Rattle.hunt_words.specs.Meaning.{hunt_by}
 use Rattle.hunt_words.specs.Names.{word_of}
-use Rattle.hunt_words.specs.Open.{are_both, has, has_machine, is_value, is_value_or, lacks, lacks_run, most_words}
-use Rattle.hunt_words.specs.Open.{demanding_pairs, odd_pair, one, pairs, run_pairs, suits, text_of, valued_of}
+use Rattle.hunt_words.specs.Open.{are_both, demanding_pairs, has, has_machine, is_open, is_value, is_value_or, lacks}
+use Rattle.hunt_words.specs.Open.{lacks_run, most_words, odd_pair, one, pairs, run_pairs, suits, text_of, valued_of}
 use Rattle.hunt_words.specs.Stops.{GoesOn, IsCut}
 use Rattle.hunt_words.specs.TurnTexts.{turns_named}
 use Rattle.hunt_words.specs.Values.{policy_named, range_named}
@@ -39,7 +40,7 @@ use Rattle.hunt_words.proofs.GivenCuts.{given-append, prepended}
 use Rattle.hunt_words.proofs.GivenTexts.{has-front, has-last, once-more, text_at-append}
 use Rattle.hunt_words.proofs.HuntsMade.{cores-named, hunt-made, no-first, run-named, words-named}
 use Rattle.hunt_words.proofs.NumberLines.{between-decimal}
-use Rattle.hunt_words.proofs.OptionLists.{all-mono, either, range-passes}
+use Rattle.hunt_words.proofs.OptionLists.{all-mono, range-passes}
 use Rattle.hunt_words.proofs.OptionNames.{same-option}
 use Rattle.hunt_words.proofs.SuitedMachines.{words-by}
 
@@ -189,14 +190,10 @@ apart-more given name text (pair ∷ rest) h =
     let b = and_parts (not (bytes_eq (word_of name) (word_of pair.0)))
     (not (bytes_eq (word_of name) (word_of pair.1))) a.0 in
     rw (
-      has-other given name pair.0 text (off _ b.0),
-      has-other given name pair.1 text (off _ b.1),
+      has-other given name pair.0 text (not-true _ b.0),
+      has-other given name pair.1 text (not-true _ b.1),
       apart-more given name text rest a.1,
     ) refl
-  where
-    off : (b : Bool) → not b ≡ true → b ≡ false
-    off true h = absurd (cc)
-    off false h = refl
 
 -- ---- words that are options, on a machine that suits
 
@@ -259,33 +256,18 @@ grown verb words given cores name w p apart = by (has name given) refl
       keeps = λ other h. has-front (word_of other) given (one name (filler cores name) ∷ []) h;
     }
 
-cores-pair : (verb : Verb) → Pairs verb Cores
-cores-pair verbs.First = record { alone_none = refl; takes = refl }
-cores-pair verbs.Table = record { alone_none = refl; takes = refl }
-cores-pair verbs.Small = record { alone_none = refl; takes = refl }
-cores-pair verbs.Words = record { alone_none = refl; takes = refl }
-cores-pair verbs.Record = record { alone_none = refl; takes = refl }
+pair : {verb : Verb} {name : Name} → alone verb (word_of name) ≡ None → takes_value verb (word_of name) ≡ true
+    → Pairs verb name
+pair none takes = record { alone_none = none; takes = takes }
 
-words-pair : (verb : Verb) → Pairs verb Words
-words-pair verbs.First = record { alone_none = refl; takes = refl }
-words-pair verbs.Table = record { alone_none = refl; takes = refl }
-words-pair verbs.Small = record { alone_none = refl; takes = refl }
-words-pair verbs.Words = record { alone_none = refl; takes = refl }
-words-pair verbs.Record = record { alone_none = refl; takes = refl }
-
-cores-apart : (verb : Verb) → stands-apart Cores (pairs verb) ≡ true
-cores-apart verbs.First = refl
-cores-apart verbs.Table = refl
-cores-apart verbs.Small = refl
-cores-apart verbs.Words = refl
-cores-apart verbs.Record = refl
-
-words-apart : (verb : Verb) → stands-apart Words (pairs verb) ≡ true
-words-apart verbs.First = refl
-words-apart verbs.Table = refl
-words-apart verbs.Small = refl
-words-apart verbs.Words = refl
-words-apart verbs.Record = refl
+-- the cores and the words of the machine have values and are at odds with nothing
+machine-pairs : (verb : Verb) → Pairs verb Cores × Pairs verb Words × (stands-apart Cores (pairs verb) ≡ true)
+    × (stands-apart Words (pairs verb) ≡ true)
+machine-pairs verbs.First = (pair refl refl, pair refl refl, refl, refl)
+machine-pairs verbs.Table = (pair refl refl, pair refl refl, refl, refl)
+machine-pairs verbs.Small = (pair refl refl, pair refl refl, refl, refl)
+machine-pairs verbs.Words = (pair refl refl, pair refl refl, refl, refl)
+machine-pairs verbs.Record = (pair refl refl, pair refl refl, refl, refl)
 
 -- an option in no pair
 free : (verb : Verb) (given : List Given) (name : Name) (text : List ℕ) → stands-apart name (pairs verb) ≡ true
@@ -303,10 +285,11 @@ record Based (verb : Verb) (words : List (List ℕ)) (given : List Given) (cores
 based : (verb : Verb) (words : List (List ℕ)) (given : List Given) (cores : ℕ) → Whole verb words given cores
     → Based verb words given cores
 based verb words given cores w =
-    let c = grown verb words given cores Cores w (cores-pair verb)
-    (λ _. free verb given Cores (filler cores Cores) (cores-apart verb) w.apart) in
-    let m = grown verb (words ++ c.more) c.longer cores Words c.whole (words-pair verb)
-    (λ _. free verb c.longer Words (filler cores Words) (words-apart verb) c.whole.apart) in
+    let p = machine-pairs verb in
+    let c = grown verb words given cores Cores w p.0
+    (λ _. free verb given Cores (filler cores Cores) p.2 w.apart) in
+    let m = grown verb (words ++ c.more) c.longer cores Words c.whole p.1
+    (λ _. free verb c.longer Words (filler cores Words) p.3 c.whole.apart) in
     record {
       more = c.more ++ m.more;
       longer = m.longer;
@@ -330,16 +313,14 @@ ended verb words given cores w c m whole =
 
 either-way : (verb : Verb) (one : Given) (name : List ℕ) → takes_value verb name ≡ false → is_flag verb name ≡ false
     → (takes_value verb one.name || is_flag verb one.name) ≡ true → bytes_eq one.name name ≡ false
-either-way verb one name t f h = either (bytes_eq one.name name) (λ same.
-    let is : one.name ≡ name = (bytes_eq-Decides one.name name).0 same in clash one.name name is h t f)
+either-way verb one name t f h = false_from_ne_true (bytes_eq one.name name) (λ same.
+    clash one.name name ((bytes_eq-Decides one.name name).0 same) h t f)
   where
     clash : (a b : List ℕ) → a ≡ b → (takes_value verb a || is_flag verb a) ≡ true → takes_value verb b ≡ false
         → is_flag verb b ≡ false → ⊥
-    clash a b same h t f = let no : (takes_value verb b || is_flag verb b) ≡ false = rw (t, f) refl in
-        absurd (true-false (sym (rw (← same) h) ∙ no))
-      where
-        true-false : true ≡ false → ⊥
-        true-false h = cc
+    clash a b same h t f =
+        let no : (takes_value verb b || is_flag verb b) ≡ false = rw (t, f) refl in
+        true≢false (sym (rw (← same) h) ∙ no)
 
 valued-taken : (verb : Verb) (name text : List ℕ) (one : Given) → valued verb name text ≡ Some one
     → (takes_value verb one.name || is_flag verb one.name) ≡ true
@@ -499,14 +480,14 @@ first-filled words given cores w = by (has Expect given || has Never given || ha
     by false is =
         let e = or-parts (has Expect given || has Never given) (has Same given) is in
         let n = or-parts (has Expect given) (has Never given) e.0 in
-        let g = grown verbs.First words given cores Expect w (record { alone_none = refl; takes = refl })
+        let g = grown verbs.First words given cores Expect w (pair refl refl)
         (λ _. expect-apart given (filler cores Expect) w.apart n.1 e.1) in
         filled-by verbs.First words given cores Expect g (rw g.has_it refl)
 
 table-filled : (words : List (List ℕ)) (given : List Given) (cores : ℕ) → Whole verbs.Table words given cores
     → Filled verbs.Table words given cores
 table-filled words given cores w =
-    let g = grown verbs.Table words given cores See w (record { alone_none = refl; takes = refl })
+    let g = grown verbs.Table words given cores See w (pair refl refl)
     (λ _. free verbs.Table given See (filler cores See) refl w.apart) in
     filled-by verbs.Table words given cores See g
     (rw (seen (has Expect g.longer) (has Never g.longer) (has See g.longer) g.has_it) refl)
@@ -570,14 +551,14 @@ words-filled : (words : List (List ℕ)) (given : List Given) (cores : ℕ) → 
     → Filled verbs.Words words given cores
 words-filled words given cores w =
     run-filled verbs.Words words given cores
-    (run-given verbs.Words words given cores w (record { alone_none = refl; takes = refl })
+    (run-given verbs.Words words given cores w (pair refl refl)
     (λ turns. words-run given (filler cores Run) w.apart turns)) (λ g h. h)
 
 record-filled : (words : List (List ℕ)) (given : List Given) (cores : ℕ) → Whole verbs.Record words given cores
     → Filled verbs.Record words given cores
 record-filled words given cores w =
     run-filled verbs.Record words given cores
-    (run-given verbs.Record words given cores w (record { alone_none = refl; takes = refl })
+    (run-given verbs.Record words given cores w (pair refl refl)
     (λ turns. words-run given (filler cores Run) w.apart turns)) (λ g h. h)
 
 small-whole : (given : List Given) → lacks_run given ≡ None → (has Expect given || has Never given) ≡ true
@@ -594,7 +575,7 @@ small-whole given n e = by (lacks_run given) (has Expect given || has Never give
 small-filled : (words : List (List ℕ)) (given : List Given) (cores : ℕ) → Whole verbs.Small words given cores
     → Filled verbs.Small words given cores
 small-filled words given cores w =
-    let r = run-given verbs.Small words given cores w (record { alone_none = refl; takes = refl })
+    let r = run-given verbs.Small words given cores w (pair refl refl)
     (λ turns. let parts = none-parts (are_both given) demanding run_pairs w.apart in
     none-append (are_both (given ++ one Run (filler cores Run) ∷ [])) demanding run_pairs
     (ap is_some (apart-more given Run (filler cores Run) demanding refl) ∙ parts.0)
@@ -616,7 +597,7 @@ small-filled words given cores w =
         not-given verbs.Small (codes "--same") (words ++ r.more) r.longer refl refl r.whole.gives in
         let parts = none-parts (are_both r.longer) demanding run_pairs r.whole.apart in
         let g = grown verbs.Small (words ++ r.more) r.longer cores Expect r.whole
-        (record { alone_none = refl; takes = refl })
+        (pair refl refl)
         (λ _. none-append (are_both (r.longer ++ one Expect (filler cores Expect) ∷ [])) demanding run_pairs
         (expect-apart r.longer (filler cores Expect) parts.0 e.1 same)
         (ap is_some (apart-more r.longer Expect (filler cores Expect) run_pairs refl) ∙ parts.1)) in
@@ -661,25 +642,27 @@ whole-goes-on verb words given cores w =
 
 -- ---- what goes on
 
+pub open-parts : (verb : Verb) (given : List Given) → is_open verb given ≡ true
+    → (is_some (odd_pair verb given) ≡ false) × (has_machine verb given ≡ true)
+open-parts verb given h =
+    let both = and_parts (not (is_some (odd_pair verb given))) (has_machine verb given) h in
+    (not-true (is_some (odd_pair verb given)) both.0, both.1)
+
 whole-from : (verb : Verb) (words : List (List ℕ)) (given : List Given) → IsCut verb words given
     → (cores : ℕ) × Whole verb words given cores
 whole-from verb words given c =
-    let both = and_parts (not (is_some (odd_pair verb given))) (has_machine verb given) c.may_go_on in
+    let both = open-parts verb given c.may_go_on in
     let m = range-passes (suits verb given) 1 CORES_MAX both.1 in (
       m.0,
       record {
         gives = c.gives;
         once = c.once;
-        apart = off (is_some (odd_pair verb given)) both.0;
+        apart = both.0;
         suited = m.3;
         low = m.1;
         high = omega (arith, m.2);
       },
     )
-  where
-    off : (b : Bool) → not b ≡ true → b ≡ false
-    off true h = absurd (cc)
-    off false h = refl
 
 pub cut-goes-on : (verb : Verb) (words : List (List ℕ)) (given : List Given) → IsCut verb words given
     → GoesOn verb words
@@ -695,8 +678,7 @@ pub name-goes-on : (verb : Verb) (words : List (List ℕ)) (given : List Given) 
 name-goes-on verb words given word name c is alone_none takes new apart =
     let w = whole-from verb words given c in
     let text : List ℕ = filler w.0 name in
-    let pair : Pairs verb name = record { alone_none = rw (← is) alone_none; takes = rw (← is) takes } in
-    let longer = added verb words given w.0 name w.1 pair new
+    let longer = added verb words given w.0 name w.1 (pair (rw (← is) alone_none) (rw (← is) takes)) new
     (ap is_some (pair-text verb given name text []) ∙ apart) in
     let on = whole-goes-on verb (words ++ word_of name ∷ text ∷ []) (given ++ one name text ∷ []) w.0 longer in (
       text ∷ on.0,

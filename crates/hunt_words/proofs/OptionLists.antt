@@ -25,10 +25,6 @@ pub mapped-some : {A B : Type 0} (f : A → B) (b : B) (o : Option A) → option
 mapped-some f b None h = absurd (cc)
 mapped-some f b (Some a) h = refl
 
-pub either : (b : Bool) → (b ≡ true → ⊥) → b ≡ false
-either true h = absurd (h refl)
-either false h = refl
-
 pub all-mono : {A : Type 0} (p q : A → Bool) → ((a : A) → p a ≡ true → q a ≡ true) → (xs : List A)
     → list_all p xs ≡ true → list_all q xs ≡ true
 all-mono p q each [] h = refl

@@ -4,7 +4,7 @@ use Rattle.std.proofs.Common.{length, not, nat_lt, cond, is_some, ◌||◌}
 use Rattle.std.specs.List.{after_first, list_all, list_any, position_or_len}
 use Rattle.std.specs.Str.{bytes_eq}
 use Rattle.std.proofs.Math.Seq.{take-length}
-use Rattle.std.proofs.lemmas.Bool.{and_parts}
+use Rattle.std.proofs.lemmas.Bool.{and_parts, false_from_ne_true, false≢true, true≢false}
 use Rattle.std.proofs.lemmas.Bool.Decides.{nat_tests}
 use Rattle.std.proofs.lemmas.List.Sums.{prefix_len-le-length}
 use Rattle.std.proofs.lemmas.Slice.Eq.{bytes_eq-Decides}
@@ -19,7 +19,6 @@ use Rattle.hunt_words.specs.Faults.{name_part}
 use Rattle.hunt_words.specs.Given.{Given, alone, flag, valued}
 use Rattle.hunt_words.specs.Names.{name_in, names, word_of}
 use Rattle.hunt_words.specs.Verbs.{flags, is_flag, own_options, shared_options, takes_value}
-use Rattle.hunt_words.proofs.OptionLists.{either}
 
 -- ---- names
 
@@ -136,20 +135,14 @@ has-equals word = nat_lt (position_or_len is_equals word) (length word)
 
 -- a word with `=` names no option
 pub joined-takes : (verb : Verb) (word : List ℕ) → has-equals word ≡ true → takes_value verb word ≡ false
-joined-takes verb word h = either (takes_value verb word) (λ takes. by (name_in word) refl
+joined-takes verb word h = false_from_ne_true (takes_value verb word) (λ takes. by (name_in word) refl
     (taken_named verb word (rw takes refl)))
   where
     by : (o : Option Name) → name_in word ≡ o → is_some (name_in word) ≡ true → ⊥
-    by None is k = clash (rw (is) at k)
-      where
-        clash : false ≡ true → ⊥
-        clash h = cc
+    by None is k = false≢true (rw (is) at k)
     by (Some name) is k =
         let same = name-word word name is in
-        clash (has-equals word) h (ap has-equals same ∙ plain-name name)
-      where
-        clash : (b : Bool) → b ≡ true → b ≡ false → ⊥
-        clash b h k = cc
+        true≢false (sym h ∙ ap has-equals same ∙ plain-name name)
 
 -- a word without `=` is a name, all of it
 pub bare : (word : List ℕ) → has-equals word ≡ false → name_part word ≡ word

@@ -1,8 +1,7 @@
 -- Words that no hunt comes of, whatever follows them.
 use Rattle.std.proofs.Common.{◌≡◌, ℕ, Bool, true, false, List, [], ◌∷◌, ◌++◌, Option, Some, None, refl, sym, ap, ◌∙◌}
-use Rattle.std.proofs.Common.{append_assoc, not, cond, is_some}
+use Rattle.std.proofs.Common.{append_assoc, cond, is_some}
 use Rattle.std.specs.List.{after_first}
-use Rattle.std.proofs.lemmas.Bool.{and_parts}
 use Rattle.tool_words.specs.Reading.{is_equals}
 use Rattle.tool_words.specs.Stops.{joined_value}
 use Rattle.hunt_words.specs.declared.hunt.Hunt.{Hunt}
@@ -20,7 +19,7 @@ use Rattle.hunt_words.proofs.GivenCuts.{after-all, given-append, prepended}
 use Rattle.hunt_words.proofs.GivenLemmas.{given_alone, given_pair}
 use Rattle.hunt_words.proofs.GivenTexts.{once-before}
 use Rattle.hunt_words.proofs.HuntsOpen.{hunt-open}
-use Rattle.hunt_words.proofs.OpenGoesOn.{pair-text}
+use Rattle.hunt_words.proofs.OpenGoesOn.{open-parts, pair-text}
 use Rattle.hunt_words.proofs.OptionLists.{bind-some, some-is-false}
 use Rattle.hunt_words.proofs.SuitedMachines.{front-apart, front-machine}
 use Rattle.hunt_words.proofs.OptionNames.{alone-bare, alone-joined, bare, bare-so, has-equals, joined-so, joined-takes}
@@ -205,16 +204,6 @@ stuck-twice verb before word more given name gives named_so there =
   where
     clash : has name given ≡ false → ⊥
     clash h = cc
-
-pub open-parts : (verb : Verb) (given : List Given) → is_open verb given ≡ true
-    → (is_some (odd_pair verb given) ≡ false) × (has_machine verb given ≡ true)
-open-parts verb given h =
-    let both = and_parts (not (is_some (odd_pair verb given))) (has_machine verb given) h in
-    (off (is_some (odd_pair verb given)) both.0, both.1)
-  where
-    off : (b : Bool) → not b ≡ true → b ≡ false
-    off true h = absurd (cc)
-    off false h = refl
 
 -- what is open with others is open with the first of them
 first-other : (verb : Verb) (given rest : List Given) (o : Given) → is_open verb (given ++ o ∷ rest) ≡ true
