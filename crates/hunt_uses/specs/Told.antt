@@ -7,8 +7,9 @@ use Rattle.hunt_words.specs.declared.faults.Fault.TheVariants.{NoVerb, NotAVerb,
 use Rattle.hunt_words.specs.declared.faults.Missing.{Missing}
 use Rattle.hunt_words.specs.declared.faults.Missing.TheVariants as lacking
 use Rattle.hunt_words.specs.declared.faults.Why.{Why}
-use Rattle.hunt_words.specs.declared.faults.Why.TheVariants.{NotAnOption, FlagWithValue, Twice, AtOdds, NoValue, OutOfRange}
-use Rattle.hunt_words.specs.declared.faults.Why.TheVariants.{NoNumber, NoSuchValue, TooMany, NoMachine, Lacks}
+use Rattle.hunt_words.specs.declared.faults.Why.TheVariants.{NotAnOption, FlagWithValue, Twice, AtOdds, NoValue}
+use Rattle.hunt_words.specs.declared.faults.Why.TheVariants.{OutOfRange, NoNumber, NoSuchValue}
+use Rattle.hunt_words.specs.declared.faults.Why.TheVariants.{TooMany, NoMachine, Lacks}
 use Rattle.hunt_words.specs.declared.names.Name.{Name}
 use Rattle.hunt_words.specs.declared.names.Name.TheVariants as options
 use Rattle.hunt_words.specs.declared.verbs.Verb.{Verb}

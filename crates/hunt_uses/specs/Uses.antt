@@ -40,4 +40,5 @@ abbrev pub all_verbs : List Verb
 all_verbs = First ∷ Table ∷ Small ∷ Words ∷ Record ∷ []
 
 abbrev pub table : List ℕ
-table = flat_map verb_line all_verbs ++ line (codes "rtr_hunt --help") ++ line (codes "rtr_hunt --version") ++ shared_line
+table =
+    flat_map verb_line all_verbs ++ line (codes "rtr_hunt --help") ++ line (codes "rtr_hunt --version") ++ shared_line

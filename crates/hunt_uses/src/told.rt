@@ -10,8 +10,8 @@ use hunt_words::{Fault, Missing, Name, Verb, Why, fault};
 use rtr_types::INSTRUCTIONS_MAX;
 use std::alloc::{AllocError, Global};
 
-/// What a person is told of words that ask for nothing: in a line which word is at fault and why, and then how the verb is
-/// used, or where none was meant how each is. `None` where the words ask for something. The only refusal is want of
+/// What a person is told of words that ask for nothing: in a line which word is at fault and why, and then how the verb
+/// is used, or where none was meant how each is. `None` where the words ask for something. The only refusal is want of
 /// memory.
 pub fn usage_told(alloc: Global, words: &[String]) -> Result<Option<String>, AllocError>
     ensures told { IfOk result (λ told. IfSome told (λ text. IsTold (map string_bytes words.now) (string_bytes text))) }
