@@ -16,6 +16,7 @@ pub mod MarkLaws
 pub mod TrailSteps
 pub mod TallyAndTrail
 pub mod LowAudit
+pub mod AloneAudit
 pub mod LowestAlone
 pub mod RefusedLogs
 pub mod ValuelessJudgement

@@ -1,35 +1,31 @@
 -- An audit along the low order.
-use Rattle.std.proofs.Common.{inl, ◌≡◌, ◌∙◌, ℕ, ◌+◌, ◌<◌, true, List, [], ◌∷◌, ◌++◌, length, refl, sym, ap, subst}
-use Rattle.std.proofs.Common.{arith, append-nil}
-use Rattle.std.specs.Prelude.{slice_index, slice_set, Bool, IsTrue, Option, Some, None, IfSome}
+use Rattle.std.proofs.Common.{◌≡◌, ◌∙◌, ℕ, ◌<◌, List, [], length, refl, sym, ap, subst}
+use Rattle.std.proofs.Common.{arith}
+use Rattle.std.specs.Prelude.{slice_index, Bool, IsTrue, Option, Some, None}
 use Rattle.rtr_types.specs.declared.cut.Cut.{Cut}
-use Rattle.rtr_types.specs.declared.instr.Instr.{Instr}
 use Rattle.rtr_types.specs.declared.access.Access.{Access}
 use Rattle.rtr_types.specs.declared.pairs.Which.{Which}
-use Rattle.conflict_edge.specs.Conflicts.{CountsRise, StandsIn}
 use Rattle.rv_core.specs.declared.outcome.Outcome.{Outcome}
 use Rattle.race_log.specs.declared.recording.Recording.{Recording}
 use Rattle.race_log.specs.Sources.{log_edges}
 use Rattle.race_log.specs.Validity.{Valid}
 use Rattle.replay_core.specs.Plans.{Plan, plan_of}
-use Rattle.replay_core.specs.Play.{no_values, instr, touched, start, played, accesses_of, core_at}
-use Rattle.replay_core.specs.Orders.{counts, nought, counts_in, Full, is_ready, lowest_ready}
-use Rattle.replay_core.specs.Answers.{UnderWay, Stays, Retires, told, Replays, EndsAt, cut_of}
-use Rattle.replay_core.proofs.Lists.{accesses_on, short_law}
-use Rattle.replay_core.proofs.Fronts.{Going, Chosen, going_start, tally, going_on, front_ordered}
-use Rattle.replay_core.proofs.LowRuns.{choice, ended, whole_at, stuck_at, ready_with_room, short_at}
+use Rattle.replay_core.specs.Play.{no_values, start, accesses_of}
+use Rattle.replay_core.specs.Orders.{counts, nought, counts_in, Full, lowest_ready}
+use Rattle.replay_core.specs.Answers.{UnderWay, Replays, EndsAt, cut_of}
+use Rattle.replay_core.proofs.Lists.{short_law}
+use Rattle.replay_core.proofs.Fronts.{Going, going_start, tally}
+use Rattle.replay_core.proofs.LowRuns.{ended, whole_at, stuck_at}
 use Rattle.replay_audit.specs.declared.unordered.Unordered.{Unordered}
-use Rattle.replay_core.specs.Sources.{AreSources}
 use Rattle.replay_audit.specs.Clocks.{Kept}
 use Rattle.clock_entries.specs.Laws.{IsAcyclic}
 use Rattle.replay_audit.specs.Determinate.{IsDeterminate, low_order_of, low_accesses, low_outcome}
 use Rattle.replay_core.specs.Tallies.{Tallied, count_of}
-use Rattle.replay_audit.specs.Trails.{Trailed, Trails, IsFinding}
-use Rattle.replay_audit.specs.Audits.{AreClocksOf, EveryOrderAgrees, HasFollowed, LeavesOpen, low_short}
+use Rattle.replay_audit.specs.Trails.{Trailed, IsFinding}
+use Rattle.replay_audit.specs.Audits.{AreClocksOf, EveryOrderAgrees, HasFollowed, LeavesOpen}
 use Rattle.replay_audit.proofs.Logs.{acyclic_law}
-use Rattle.replay_audit.proofs.Rise.{accesses_rise}
-use Rattle.replay_audit.proofs.OrdersAgree.{low_ordered, touched_at, every_order_law}
-use Rattle.replay_audit.proofs.TallyAndTrail.{Followed, IsFresh, followed_start, followed_on}
+use Rattle.replay_audit.proofs.OrdersAgree.{low_ordered, every_order_law}
+use Rattle.replay_audit.proofs.TallyAndTrail.{Followed, IsFresh, followed_start}
 
 -- the tally, the replay and the trail have come along a front of the low order
 pub record Along (which : Which) (r : Recording) (order : List ℕ) (t : Tallied) (u : UnderWay) (s : Trailed) : Type 0
@@ -58,73 +54,6 @@ module _ {which : Which} {r : Recording} (valid : Valid r) {order : List ℕ} {t
   lowest_same = ap (λ (q : Plan). lowest_ready q (counts_in u.state))
       (along.plan_is ∙ sym along.followed.counted.plan_is)
       ∙ ap (λ (f : ℕ → ℕ). lowest_ready t.plan f) (sym same_counts)
-
-  -- a core is ready, and room was made
-  module _ {c : ℕ} (some : lowest_ready t.plan (count_of t.counts) ≡ Some c) (v : UnderWay)
-      (same_plan : v.plan ≡ u.plan) (same_state : v.state ≡ u.state) where
-    some_here : lowest_ready u.plan (counts_in u.state) ≡ Some c
-    some_here = lowest_same ∙ some
-
-    chosen : Chosen (plan_of which r) order u.state c
-    chosen = choice no_values (plan_of which r) u along.plan_is order along.going c some_here
-
-    pub ready_here : is_ready v.plan (counts_in v.state) c ≡ true
-    ready_here = ready_with_room no_values (plan_of which r) u along.plan_is order along.going c some_here v same_plan
-        same_state
-
-    pub in_plan : (w : UnderWay) → w.plan ≡ v.plan → c < length w.plan.totals
-    in_plan w kept = subst (λ (q : Plan). c < length q.totals) (sym (kept ∙ same_plan ∙ along.plan_is))
-        chosen.next.inside
-
-    pub short_here : {count : ℕ} {x : Outcome} → Stays v.plan v.state c x → count ≡ counts_in x c →
-        low_short which r ≡ Some (c, count)
-    short_here {count} {x} stays is =
-        short_at no_values (plan_of which r) u along.plan_is order along.going c some_here v same_plan same_state count
-        x stays is
-
-    -- the core retired its instruction
-    module _ (w : UnderWay) (kept : w.plan ≡ v.plan) {access : Option Access}
-        (retires : Retires v.plan v.state c access w.state) where
-      here : Retires (plan_of which r) u.state c access w.state
-      here = subst (λ (x : Outcome). Retires (plan_of which r) x c access w.state) same_state
-          (subst (λ (q : Plan). Retires q v.state c access w.state) (same_plan ∙ along.plan_is) retires)
-
-      going_more : Going (plan_of which r) (order ++ c ∷ []) w.state
-      going_more = going_on no_values (plan_of which r) order u.state w.state c along.going chosen here.going here.state
-
-      told_is : told access ≡ touched (plan_of which r) (played (plan_of which r) order) c
-      told_is = here.access_is ∙ ap (λ (x : Outcome). touched (plan_of which r) x c) along.going.state
-
-      pub told_at : {at : Instr} → at ≡ instr c (count_of t.counts c + 1) → (a : Access) → StandsIn (told access) a →
-          a.at ≡ at
-      told_at {at} at_is a q =
-          let there : a.at ≡ instr c ((core_at u.state c).count + 1) =
-          touched_at (plan_of which r) u.state c a (subst (λ (l : List Access). StandsIn l a) here.access_is q) in
-          there ∙ ap (λ (f : ℕ → ℕ). instr c (f c + 1)) (sym same_counts) ∙ sym at_is
-
-      list_is : accesses_of (plan_of which r) (order ++ c ∷ []) ≡ accesses_of (plan_of which r) order ++ told access
-      list_is = accesses_on (plan_of which r) (start (plan_of which r)) order (c ∷ [])
-          ∙ ap (λ (l : List Access). accesses_of (plan_of which r) order ++ l)
-          (append-nil (touched (plan_of which r) (played (plan_of which r) order) c) ∙ sym told_is)
-
-      rise_more : CountsRise (accesses_of (plan_of which r) order ++ told access)
-      rise_more = subst CountsRise list_is
-          (accesses_rise which r (order ++ c ∷ [])
-          (front_ordered (plan_of which r) nought (order ++ c ∷ []) going_more.low))
-
-      -- and was counted and noted
-      pub along_on : {at : Instr} (at_is : at ≡ instr c (count_of t.counts c + 1)) (t' : Tallied) (sources : List ℕ)
-          (cores : ℕ) (s' : Trailed) →
-          t'.plan ≡ t.plan → t'.counts ≡ slice_set t.counts c (count_of t.counts c + 1) →
-          AreSources t.plan.edges (instr c (count_of t.counts c + 1)) sources → cores ≡ length t'.plan.totals →
-          Trails s at sources cores access s' → Along which r (order ++ c ∷ []) t' w s'
-      along_on at_is t' sources cores s' plan' counts' are cores_is trails = record {
-        followed = subst (λ (l : List Access). Followed which r (order ++ c ∷ []) l t' s') (sym list_is)
-            (followed_on valid along.followed some at_is access (told_at at_is) rise_more t' sources cores s' plan'
-            counts' are cores_is trails);
-        plan_is = kept ∙ same_plan ∙ along.plan_is;
-        going = going_more;
-      }
 
   -- no core is ready any more
   module _ (none : lowest_ready t.plan (count_of t.counts) ≡ None) where
@@ -202,12 +131,6 @@ module _ {which : Which} {r : Recording} (valid : Valid r) {order : List ℕ} {t
               (let lt = h.core in let e = valid.each_core in omega arith) h.some
               (let e = total at.core h.core in let le = h.most in omega arith)
 
--- what is said of each access that is told is said of the one, if there is one
-pub all_told : {at : Instr} (access : Option Access) → ((a : Access) → StandsIn (told access) a → a.at ≡ at) →
-    IfSome access (λ a. a.at ≡ at)
-all_told None h = tt
-all_told (Some a) h = h a (inl refl)
-
 -- where accesses are listed at the end as at the start
 pub followed_by : {listed old : Bool} {which : Which} {r : Recording} {outcome : Outcome} {list : List Access}
     {kept : Kept} → listed ≡ old → HasFollowed listed which r outcome list kept →
@@ -220,7 +143,8 @@ pub followed_same : {listed : Bool} {which : Which} {r : Recording} {outcome out
     {list list' : List Access} {kept kept' : Kept} →
     outcome ≡ outcome' → list ≡ list' → kept ≡ kept' → HasFollowed listed which r outcome' list' kept' →
     HasFollowed listed which r outcome list kept
-followed_same {listed} {which} {r} {outcome} {outcome'} {list} {list'} {kept} {kept'} outcome_is list_is kept_is passed =
+followed_same {listed} {which} {r} {outcome} {outcome'} {list} {list'} {kept} {kept'} outcome_is list_is kept_is
+    passed =
     subst (λ (x : Outcome). HasFollowed listed which r x list kept) (sym outcome_is)
     (subst (λ (l : List Access). HasFollowed listed which r outcome' l kept) (sym list_is)
     (subst (λ (k : Kept). HasFollowed listed which r outcome' list' k) (sym kept_is) passed))

@@ -1,20 +1,15 @@
 -- The lowest core that is ready goes on alone.
-use Rattle.std.proofs.Common.{inl, inr, ◌≡◌, ◌≢◌, ◌⊎◌, ℕ, zero, suc, ◌+◌, ◌-◌, ◌<◌, ◌≤◌, List, [], ◌∷◌, length, refl}
+use Rattle.std.proofs.Common.{◌≡◌, ℕ, zero, suc, ◌+◌, ◌<◌, ◌≤◌, List, [], ◌∷◌, length}
 use Rattle.std.proofs.Common.{sym, ap, ◌∙◌, subst, arith, length-set, get_or-set_same, get_or-set_other}
 use Rattle.std.specs.Prelude.{slice_index, slice_set, Some}
 use Rattle.std.proofs.lemmas.List.{set-get_or, set-set}
 use native.Mathlib.Decide.{ℕ_discrete}
-use Rattle.rtr_types.specs.declared.pairs.Which.{Which}
-use Rattle.race_log.specs.declared.recording.Recording.{Recording}
-use Rattle.replay_core.specs.Plans.{Plan, plan_of}
-use Rattle.replay_core.specs.Answers.{UnderWay}
+use Rattle.replay_core.specs.Plans.{Plan}
 use Rattle.replay_core.specs.Orders.{lowest_ready}
 use Rattle.replay_core.specs.Tallies.{Tallied, IsGoneOn, IsRun, count_of}
 use Rattle.replay_core.proofs.Low.{left}
 use Rattle.replay_core.proofs.LowestGoesOn.{gone_to}
-use Rattle.replay_core.proofs.LowCounts.{inside_plan}
-use Rattle.replay_audit.specs.Trails.{Trailed}
-use Rattle.replay_audit.proofs.LowAudit.{Along}
+use Rattle.replay_core.proofs.LowCounts.{Counted, inside_plan}
 
 -- where a core hasn't gone on the tally is as it was
 pub gone_same : (t : Tallied) (c k : ℕ) → k ≡ count_of t.counts c → t ≡ gone_to t c k
@@ -74,12 +69,10 @@ run_smaller t u c n inside run g =
 
 -- ---- the core's count, where it has gone on
 
-pub gone_here : {which : Which} {r : Recording} {order : List ℕ} (t : Tallied) (c k : ℕ) {u : UnderWay} {s : Trailed} →
-    Along which r order (gone_to t c k) u s → lowest_ready t.plan (count_of (gone_to t c k).counts) ≡ Some c →
-    count_of (gone_to t c k).counts c ≡ k
-gone_here {which} {r} {order} t c k {u} {s} along some =
-    let counted = along.followed.counted in
-    let inside = inside_plan (plan_of which r) order (gone_to t c k) counted c some in
+pub gone_here : {p : Plan} {order : List ℕ} (t : Tallied) (c k : ℕ) → Counted p order (gone_to t c k) →
+    lowest_ready t.plan (count_of (gone_to t c k).counts) ≡ Some c → count_of (gone_to t c k).counts c ≡ k
+gone_here {p} {order} t c k counted some =
+    let inside = inside_plan p order (gone_to t c k) counted c some in
     let all = counted.all in
     let same = length-set t.counts c k in
     let plan = ap (λ (q : Plan). length q.totals) counted.plan_is in

@@ -1,7 +1,7 @@
 -- A trail goes on by one instruction.
-use Rattle.std.proofs.Common.{inl, inr, ◌≡◌, ◌≢◌, ◌⊎◌, ℕ, ◌+◌, ◌<◌, ◌≤◌, true, false, Bool, not, ◌&&◌, List, [], ◌∷◌}
+use Rattle.std.proofs.Common.{inl, inr, ◌≡◌, ◌≢◌, ◌⊎◌, ℕ, ◌<◌, ◌≤◌, true, false, Bool, not, ◌&&◌, List, [], ◌∷◌}
 use Rattle.std.proofs.Common.{◌++◌, replicate, reverse, refl, sym, ap}
-use Rattle.std.proofs.Common.{◌∙◌, subst, arith, append-nil}
+use Rattle.std.proofs.Common.{◌∙◌, subst, arith}
 use Rattle.std.specs.Prelude.{slice_index, nat_le, IsTrue, Option, Some, None}
 use Rattle.std.proofs.lemmas.Bool.Decides.{nat_tests}
 use Rattle.std.proofs.lemmas.Bool.{not-true, and_parts}
@@ -9,7 +9,6 @@ use Rattle.rtr_types.specs.declared.TheConstants.{CORES_MAX}
 use Rattle.rtr_types.specs.declared.instr.Instr.{Instr}
 use Rattle.rtr_types.specs.declared.instr.Edge.{Edge}
 use Rattle.rtr_types.specs.declared.access.Access.{Access}
-use Rattle.rtr_types.specs.declared.pairs.Which.{Which}
 use Rattle.clock_core.specs.Order.{Before, IsOrLeads, Among}
 use Rattle.clock_core.specs.Reach.{IsClock}
 use Rattle.clock_core.proofs.Reach.{clock_same}
@@ -21,23 +20,16 @@ use Rattle.conflict_edge.proofs.History.{do_conflict-true, do_conflict-yes}
 use Rattle.conflict_edge.proofs.Online.{candidate_source}
 use Rattle.conflict_edge.proofs.NewestFirst.{stands_back, reverse-next}
 use Rattle.conflict_edge.proofs.AccessPlaces.{positive}
-use Rattle.race_log.specs.declared.recording.Recording.{Recording}
-use Rattle.race_log.specs.Sources.{log_edges}
-use Rattle.race_log.specs.Validity.{Valid}
-use Rattle.replay_core.specs.Plans.{plan_of}
-use Rattle.replay_core.specs.Play.{instr}
-use Rattle.replay_core.specs.Orders.{bump, nought, Ready}
-use Rattle.replay_core.specs.Answers.{told}
+use Rattle.replay_core.specs.Orders.{nought}
 use Rattle.clock_entries.specs.Laws.{IsAcyclic}
 use Rattle.replay_audit.specs.declared.unordered.Unordered.{Unordered}
-use Rattle.replay_core.specs.Sources.{AreSources}
 use Rattle.replay_audit.specs.Clocks.{Kept, clock_at, Clocked}
 use Rattle.replay_audit.specs.Marks.{AreMarksCovered, AreMarked, Marked}
 use Rattle.replay_audit.specs.Unordered.{IsLatestBefore, IsUnordered, is_open, AreCovered, IsLatestAt}
-use Rattle.replay_audit.specs.Trails.{Trailed, FoundNext, Watches, WatchesAny, with_kept, Trails, IsFinding}
+use Rattle.replay_audit.specs.Trails.{Trailed, FoundNext, Watches, IsFinding}
 use Rattle.replay_audit.specs.Trails.{IsTrailOf}
 use Rattle.replay_audit.proofs.Pairs.{Apart, both_left, both_right, across, pairs_which}
-use Rattle.replay_audit.proofs.ClockSteps.{clocked_on, clock_found, clocked_start}
+use Rattle.replay_audit.proofs.ClockSteps.{clocked_start}
 use Rattle.replay_audit.proofs.Scan.{split_more}
 use Rattle.replay_audit.proofs.MarkLaws.{AreCandidatesCovered, covered_marks, marked_next, marked_start}
 
@@ -225,66 +217,6 @@ trail_along edges cores f t clocked accesses found = record {
 pub trail_start : (edges : List Edge) (cores : ℕ) (t : Trailed) → t.kept.clocks ≡ replicate cores [] →
     (IsTrue t.listed → t.accesses ≡ []) → t.found ≡ None → IsTrailOf edges cores nought [] t
 trail_start edges cores t clocks = trail_along edges cores nought t (clocked_start edges cores t.kept clocks)
-
-module _ (which : Which) (r : Recording) (valid : Valid r) (f : ℕ → ℕ) (c : ℕ) (ready : Ready (plan_of which r) f c)
-    (list : List Access) (s : Trailed)
-    (trail : IsTrailOf (log_edges which r) r.params.cores f list s) (sources : List ℕ)
-    (are : AreSources (log_edges which r) (instr c (f c + 1)) sources) where
-  -- with the next instruction of a ready core, and its access
-  pub trail_on : (access : Option Access) (t : Trailed) → Trails s (instr c (f c + 1)) sources r.params.cores access t →
-      ((a : Access) → StandsIn (told access) a → a.at ≡ instr c (f c + 1)) →
-      CountsRise list → CountsRise (list ++ told access) → c < CORES_MAX →
-      IsTrailOf (log_edges which r) r.params.cores (bump f c) (list ++ told access) t
-  trail_on None t h at rise now few =
-      subst (λ (x : Trailed). IsTrailOf (log_edges which r) r.params.cores (bump f c) (list ++ []) x) (sym h.watched)
-      (subst (λ (l : List Access). IsTrailOf (log_edges which r) r.params.cores (bump f c) l (with_kept s h.kept))
-      (sym (append-nil list)) (record {
-        clocked = clocked_on which r valid f s.kept trail.clocked c sources h.kept ready are h.noted;
-        accesses_is = trail.accesses_is;
-        marked = trail.marked;
-        finding = trail.finding;
-      }))
-  trail_on (Some a) t h at rise now few = record {
-    clocked = subst (λ (k : Kept). Clocked (log_edges which r) r.params.cores (bump f c) k) (sym h.watched.kept)
-        (clocked_on which r valid f s.kept trail.clocked c sources h.kept ready are h.noted);
-    accesses_is = λ listed. let was : IsTrue s.listed = subst IsTrue h.watched.listed listed in
-        h.watched.accesses was ∙ ap (λ (l : List Access). l ++ a ∷ []) (trail.accesses_is was);
-    marked = λ acyclic. subst (λ (l : List Access). AreMarked (log_edges which r) l t.marks)
-        (sym (reverse-next list a))
-        (marked_next (log_edges which r) (reverse list) s.marks t.marks a h.watched.clock core
-        (let e = ap (λ (x : Instr). x.count) here in omega arith) (clock_of acyclic) h.watched.marks
-        (trail.marked acyclic));
-    finding = λ acyclic. subst (λ (b : Bool). IsFinding b (log_edges which r) (list ++ a ∷ []) t.found)
-        (sym h.watched.listed)
-        (finding_next (log_edges which r) s.marks list a h.watched.clock s.listed s.found t.found
-        (clock_of acyclic) now
-        (record { rise = rise; marked = trail.marked acyclic }) (trail.finding acyclic)
-        (found_of s.listed s.found s.marks s.accesses list a h.watched.clock t.found trail.accesses_is
-        h.watched.found));
-  }
-    where
-      here : a.at ≡ instr c (f c + 1)
-      here = at a (inl refl)
-
-      core : a.at.core < CORES_MAX
-      core = subst (λ (x : Instr). x.core < CORES_MAX) (sym here) few
-
-      clock_of : IsAcyclic (log_edges which r) → IsClockOf (log_edges which r) a h.watched.clock
-      clock_of acyclic = subst (λ (x : Instr). IsClock (Among (log_edges which r)) x
-          (λ i. slice_index h.watched.clock i)) (sym here)
-          (clock_same (Among (log_edges which r)) (instr c (f c + 1)) (clock_at h.kept (instr c (f c + 1)))
-          (λ i. slice_index h.watched.clock i)
-          (λ i. sym (h.watched.clock_is i ∙ ap (λ (x : Instr). clock_at h.kept x i) here))
-          (clock_found which r valid f s.kept trail.clocked c sources h.kept ready are h.noted acyclic))
-
--- whether accesses are listed stays
-pub trails_listed : {s t : Trailed} {y : Instr} {sources : List ℕ} {cores : ℕ} {access : Option Access} →
-    Trails s y sources cores access t → t.listed ≡ s.listed
-trails_listed {s} {t} {y} {sources} {cores} {access} h = by access h.watched
-  where
-    by : (access : Option Access) → WatchesAny (with_kept s h.kept) access t → t.listed ≡ s.listed
-    by None w = ap (λ (x : Trailed). x.listed) w
-    by (Some a) w = w.listed
 
 -- an access of an instruction that was noted before
 pub trail_watched : (edges : List Edge) (cores : ℕ) (f : ℕ → ℕ) (list : List Access) (s t : Trailed) (a : Access) →

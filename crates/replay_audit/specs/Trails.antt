@@ -1,6 +1,7 @@
 -- What is kept of the accesses so far.
-use Rattle.std.specs.Prelude.{◌≡◌, ℕ, ◌⊎◌, Bool, IsTrue, List, [], ◌∷◌, ◌++◌, reverse, slice_index, Option, Some}
-use Rattle.std.specs.Prelude.{None}
+use Rattle.std.proofs.Common.{inl, inr, subst, sym}
+use Rattle.std.specs.Prelude.{◌≡◌, ℕ, ◌⊎◌, ◌<◌, length, Bool, IsTrue, List, [], ◌∷◌, ◌++◌, reverse, slice_index}
+use Rattle.std.specs.Prelude.{Option, Some, None}
 use Rattle.rtr_types.specs.declared.instr.Instr.{Instr}
 use Rattle.rtr_types.specs.declared.instr.Edge.{Edge}
 use Rattle.rtr_types.specs.declared.access.Access.{Access}
@@ -8,7 +9,10 @@ use Rattle.clock_core.specs.Order.{Among}
 use Rattle.conflict_edge.specs.Least.{Suffices}
 use Rattle.clock_entries.specs.Laws.{IsAcyclic}
 use Rattle.replay_audit.specs.declared.unordered.Unordered.{Unordered}
-use Rattle.replay_audit.specs.Clocks.{Kept, clock_at, IsNoted, Clocked}
+use Rattle.conflict_edge.specs.Conflicts.{StandsIn}
+use Rattle.conflict_edge.proofs.AccessPlaces.{stands_which}
+use Rattle.rtr_types.specs.declared.TheConstants.{CORES_MAX}
+use Rattle.replay_audit.specs.Clocks.{Kept, clock_at, clocks_of, number_of, IsNoted, Clocked}
 use Rattle.replay_audit.specs.Marks.{Marked, IsMarked, AreMarksCovered, AreMarked}
 use Rattle.replay_audit.specs.Unordered.{AreCovered, IsLatestAt, IsUnordered}
 
@@ -44,10 +48,6 @@ pub record Watches (s : Trailed) (a : Access) (t : Trailed) : Type 0 where
   pub marks : IsMarked s.marks a clock t.marks
   pub found : FoundNext s.listed s.found s.marks s.accesses a clock t.found
 
-abbrev pub WatchesAny : Trailed → Option Access → Trailed → Type 0
-WatchesAny s None t = t ≡ s
-WatchesAny s (Some a) t = Watches s a t
-
 abbrev pub with_kept : Trailed → Kept → Trailed
 with_kept s kept = record {
   listed = s.listed;
@@ -57,12 +57,16 @@ with_kept s kept = record {
   found = s.found;
 }
 
--- an instruction with its sources is noted, and its access if it makes one
-pub record Trails (s : Trailed) (y : Instr) (sources : List ℕ) (cores : ℕ) (access : Option Access) (t : Trailed)
-    : Type 0 where
-  pub kept : Kept
-  pub noted : IsNoted s.kept y sources cores kept
-  pub watched : WatchesAny (with_kept s kept) access t
+-- an instruction with its sources is noted
+pub record NotesNext (s : Trailed) (y : Instr) (sources : List ℕ) (cores : ℕ) (t : Trailed) : Type 0 where
+  pub noted : IsNoted s.kept y sources cores t.kept
+  pub same : t ≡ with_kept s t.kept
+
+-- an access of the instruction can be looked at: no clock is kept of a later one of its core
+pub record CanWatch (s : Trailed) (at : Instr) : Type 0 where
+  pub core : at.core < CORES_MAX
+  pub last : number_of s.kept at.core at.count ≡ length (clocks_of s.kept at.core)
+  pub each : IsTrue s.listed → (b : Access) → StandsIn s.accesses b → b.at.core < CORES_MAX
 
 -- ---- what a trail stands for
 
@@ -78,3 +82,21 @@ pub record IsTrailOf (edges : List Edge) (cores : ℕ) (f : ℕ → ℕ) (list :
   pub accesses_is : IsTrue t.listed → t.accesses ≡ list
   pub marked : IsAcyclic edges → AreMarked edges (reverse list) t.marks
   pub finding : IsAcyclic edges → IsFinding t.listed edges list t.found
+
+-- ---- of later instructions, accesses can still be looked at
+
+pub watch_keeps_accepting : (s : Trailed) (a : Access) (t : Trailed) (later : Instr) → Watches s a t →
+    later.core ≡ a.at.core → a.at.count < later.count → CanWatch s later → CanWatch t later
+watch_keeps_accepting s a t later w same below can = record {
+  core = can.core;
+  last = subst (λ (k : Kept). number_of k later.core later.count ≡ length (clocks_of k later.core)) (sym w.kept)
+      can.last;
+  each = λ listed b q. let was : IsTrue s.listed = subst IsTrue w.listed listed in
+      by was b (stands_which s.accesses (a ∷ []) b (subst (λ (l : List Access). StandsIn l b) (w.accesses was) q));
+}
+  where
+    by : IsTrue s.listed → (b : Access) → StandsIn s.accesses b ⊎ StandsIn (a ∷ []) b → b.at.core < CORES_MAX
+    by was b (inl q) = can.each was b q
+    by was b (inr (inl e)) = subst (λ (x : Access). x.at.core < CORES_MAX) e
+        (subst (λ (c : ℕ). c < CORES_MAX) same can.core)
+    by was b (inr (inr q)) = absurd q

@@ -11,8 +11,9 @@ use crate::audit_fault::AuditFault;
 use crate::log_clocks::LogClocks;
 use crate::trail::Trail;
 use clock_core::Clock;
+use core_runs::Ran;
 use race_log::Recording;
-use replay_core::{Advanced, LowOrder, Replay, Sourced};
+use replay_core::{LowOrder, Replay};
 use rtr_types::{Access, Instr, Items, Which};
 use rv_core::Outcome;
 use std::alloc::Global;
@@ -244,30 +245,15 @@ fn follow(
     while let Some(core) = tally.lowest() {
         // The core goes on alone to a count, and an edge may lead to its next instruction only.
         let until = tally.run(core);
-        let next = tally.next(core);
-        let mut sources = *next.sources;
-        let mut retired = next.at.count - 1;
-        while retired < until {
-            replay.make_room()?;
-            match replay.advance(core) {
-                Advanced::Short => {
-                    let count = replay.count(core);
-                    return Err(AuditFault::Short { core, count });
-                }
-                Advanced::Retired { access } => {
-                    retired += 1;
-                    let at = Instr {
-                        core,
-                        count: retired,
-                    };
-                    let noted = Sourced {
-                        at,
-                        sources: &sources,
-                    };
-                    trail.note(&noted, cores, access)?;
-                    sources = None;
-                }
+        trail.note(&tally.next(core), cores)?;
+        let ran = replay.go_on(core, until, trail);
+        match ran {
+            Ran::Whole => {}
+            Ran::Done => {
+                let count = replay.count(core);
+                return Err(AuditFault::Short { core, count });
             }
+            Ran::Refused => return Err(AuditFault::OutOfMemory),
         }
         tally.go_on(core, until);
     }

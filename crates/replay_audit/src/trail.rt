@@ -1,18 +1,19 @@
 //! What is kept of the accesses along an order: the clocks by the log, the last accesses of each word, and
 //! the first two accesses that the log leaves unordered.
-ghost use Rattle.std.specs.Prelude.{◌≡◌, ◌<◌, ◌≤◌, IfOk, IsTrue, OnOk, IfSome, [], replicate, None as NoneFound};
+ghost use Rattle.std.specs.Prelude.{◌≡◌, ◌<◌, ◌≤◌, IfOk, IsTrue, OnOk, [], replicate, None as NoneFound};
 ghost use Rattle.rtr_types.specs.declared.TheConstants.{CORES_MAX};
 ghost use Rattle.rtr_types.specs.declared.access.Access.{Access as SomeAccess};
 ghost use Rattle.conflict_edge.specs.Conflicts.{StandsIn};
 ghost use Rattle.replay_core.specs.Sources.{sources_in};
 ghost use Rattle.replay_audit.specs.Clocks.{CanNote, number_of};
-ghost use Rattle.replay_audit.specs.Trails.{FoundNext, IsFirstOpen, Watches, Trails};
+ghost use Rattle.replay_audit.specs.Trails.{CanWatch, FoundNext, IsFirstOpen, NotesNext, Watches};
+ghost use Rattle.replay_audit.specs.Trails.{watch_keeps_accepting};
 
 use crate::clock_of::ClockOf;
 use crate::log_clocks::LogClocks;
 use crate::marks::Marks;
 use crate::unordered::{Unordered, latest_open};
-use replay_core::Sourced;
+use replay_core::{Sourced, Watch};
 use rtr_types::{Access, CORES_MAX, Items};
 use std::alloc::{AllocError, Global};
 use std::marker::Model;
@@ -102,29 +103,14 @@ impl Trail {
         })
     }
 
-    /// Notes the next instruction of its core, of so many cores, with its access.
+    /// Notes the next instruction of its core, of so many cores.
     #[inline(always)]
-    pub fn note(
-        &mut self,
-        next: &Sourced,
-        cores: u8,
-        access: Option<Access>,
-    ) -> Result<(), AllocError>
+    pub fn note(&mut self, next: &Sourced, cores: u8) -> Result<(), AllocError>
         requires next { CanNote self.old.kept next.now.at }
         requires few { cores ≤ CORES_MAX }
-        requires access { IfSome access (λ a. a.at ≡ next.now.at) }
-        requires each { IsTrue self.old.listed → (b : SomeAccess) → StandsIn self.old.accesses b →
-            b.at.core < CORES_MAX }
-        ensures { OnOk result (Trails self.old next.now.at (sources_in next.now.sources.now) cores access self.new) }
+        ensures { OnOk result (NotesNext self.old next.now.at (sources_in next.now.sources.now) cores self.new) }
     {
-        self.clocks.note(next, cores)?;
-        match access {
-            Some(access) => {
-                let number = self.clocks.all(access.at.core);
-                self.watch_by(access, number)
-            }
-            None => Ok(()),
-        }
+        self.clocks.note(next, cores)
     }
 
     /// The first two accesses that the log leaves unordered, if there are some.
@@ -187,6 +173,21 @@ impl Trail {
         }
         Ok(())
     }
+}
+
+/// Accesses of the instruction that was noted last on its core, and of later ones, are looked at and kept.
+impl Watch for Trail {
+    ghost accepts = { CanWatch };
+
+    ghost touched = { Watches };
+
+    #[inline(always)]
+    fn touch(&mut self, access: Access) -> Result<(), AllocError> {
+        let number = self.clocks.all(access.at.core);
+        self.watch_by(access, number)
+    }
+
+    ghost keeps_accepting = { watch_keeps_accepting };
 }
 
 /// The first two accesses that are unordered, with one access more: the first that were found stay.

@@ -15,3 +15,4 @@ pub mod LowCounts
 pub mod LowestReady
 pub mod LowestGoesOn
 pub mod LowRuns
+pub mod AloneRuns

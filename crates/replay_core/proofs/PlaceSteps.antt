@@ -44,10 +44,10 @@ pub record Called (p : Plan) (s : Outcome) (c : ℕ) (given : Option ℕ) (new_c
   pub loads_is : AreNoted s.loads c used count old loads
   pub access_is : told access ≡ accesses_by mine (instr c count) old value
 
-abbrev made : List Core → List ℕ → List (List LoadNote) → Outcome
+abbrev pub made : List Core → List ℕ → List (List LoadNote) → Outcome
 made cores words loads = record { cores = cores; words = words; loads = loads }
 
-made-same : (a b : List Core) (u v : List ℕ) (x y : List (List LoadNote)) → a ≡ b → u ≡ v → x ≡ y →
+pub made-same : (a b : List Core) (u v : List ℕ) (x y : List (List LoadNote)) → a ≡ b → u ≡ v → x ≡ y →
     made a u x ≡ made b v y
 made-same a b u v x y cores words loads =
     ap (λ (z : List Core). made z u x) cores ∙ ap (λ (z : List ℕ). made b z x) words

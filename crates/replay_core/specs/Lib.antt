@@ -3,6 +3,7 @@ pub mod Play
 pub mod Orders
 pub mod Answers
 pub mod Laws
+pub mod Runs
 pub mod Sources
 pub mod Tallies
 pub mod Coming

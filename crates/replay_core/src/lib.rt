@@ -8,9 +8,10 @@
 //!
 //! Proved: `run` is the play of the low order, with `Stuck` and `Short` exactly where that order ends early or falls
 //! short. `Stuck` has its cut, and `Short` its core and count. `Replay::ready` holds for a core exactly where its place
-//! can be added to the replay order that was played, and `advance` is one place of the play. A play goes by image,
-//! limit and totals alone (`plays_go_by_the_image`). `run_given` is the same with given values. `core`, `word`,
-//! `next_need` and `next_use` tell what a replay under way has come to, and what comes next.
+//! can be added to the replay order that was played, and `advance` is one place of the play. `go_on` is many places of
+//! one core, and a `Watch` is told of the access of each (`GoesTo`). A play goes by image, limit and totals alone
+//! (`plays_go_by_the_image`). `run_given` is the same with given values. `core`, `word`, `next_need` and `next_use`
+//! tell what a replay under way has come to, and what comes next.
 #![tactic(auto)]
 
 mod answers;
@@ -18,10 +19,12 @@ mod coming;
 pub mod laws;
 mod low_order;
 mod next_edge;
+mod noted_memory;
 mod one_place;
 mod replay;
 mod sourced;
 mod tally;
+mod watch;
 
 pub use answers::{Advanced, ReplayFault};
 pub use coming::Coming;
@@ -29,3 +32,4 @@ pub use low_order::LowOrder;
 pub use replay::Replay;
 pub use sourced::Sourced;
 pub use tally::Tally;
+pub use watch::Watch;

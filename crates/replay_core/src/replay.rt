@@ -1,21 +1,25 @@
 //! A replay under way.
-ghost use Rattle.std.specs.Prelude.{◌≡◌, ◌≢◌, ◌<◌, ◌≤◌, ◌↔◌, length, map, slice_index, true};
+ghost use Rattle.std.specs.Prelude.{◌≡◌, ◌≢◌, ◌<◌, ◌≤◌, ◌↔◌, ℕ, length, map, slice_index, true};
 ghost use Rattle.std.specs.Prelude.{IfOk, OnOk, IsTrue, MatchResult};
 ghost use Rattle.std.specs.List.{range_with_len};
 ghost use Rattle.rtr_types.specs.declared.TheConstants.{CORES_MAX};
 ghost use Rattle.rv_core.specs.States.{starting};
 ghost use Rattle.race_log.specs.Validity.{Valid};
 ghost use Rattle.replay_core.specs.Plans.{plan_of};
-ghost use Rattle.replay_core.specs.Play.{AreRising, EachRising, core_at, given_by, given_next, need_at, start};
+ghost use Rattle.replay_core.specs.Play.{AreRising, EachRising, core_at, given_by, given_next, instr, need_at, start};
 ghost use Rattle.replay_core.specs.Play.{use_of, value_at};
 ghost use Rattle.replay_core.specs.Orders.{counts_in, Full, is_ready, is_sourced};
 ghost use Rattle.replay_core.specs.Answers.{TellsOrders, Advances, AdvancesGiven, Replays, ReplaysValued, Refuses};
+ghost use Rattle.replay_core.specs.Runs.{GoesTo};
 ghost use Rattle.replay_core.specs.Answers.{IsMet, RefusesValued, UsesWithin, cut_of};
 
 use crate::answers::{Advanced, ReplayFault};
 use crate::coming::PLACES;
 use crate::low_order::LowOrder;
+use crate::noted_memory::NotedMemory;
 use crate::one_place::{access, found, heeded, leave, note, shared};
+use crate::watch::Watch;
+use core_runs::{Ran, run};
 use image_mem::{Image, Memory};
 use load_lists::LoadLists;
 use race_log::Recording;
@@ -31,8 +35,7 @@ pub struct Replay<'a> {
     which: Which,
     program: Program,
     cores: Vec<Core>,
-    memory: Memory,
-    loads: LoadLists,
+    noted: NotedMemory,
 }
 
 impl Drop for Replay<'_> {
@@ -42,8 +45,7 @@ impl Drop for Replay<'_> {
             which: _which,
             program: _program,
             cores: _cores,
-            memory: _memory,
-            loads: _loads,
+            noted: _noted,
         } = self;
     }
 }
@@ -54,9 +56,9 @@ impl<'a> Model for Replay<'a> {
 
     ghost Value = { UnderWay };
 
-    ghost view = { λ a. under_way (plan_of a.which a.recording.now) a.cores.items a.memory a.loads };
+    ghost view = { λ a. under_way (plan_of a.which a.recording.now) a.cores.items a.noted.memory a.noted.loads };
 
-    ghost invariant = { λ a. HoldsTogether a.recording.now a.program a.cores.items a.memory a.loads.lists };
+    ghost invariant = { λ a. HoldsTogether a.recording.now a.program a.cores.items a.noted.memory a.noted.loads.lists };
 }
 
 impl<'a> Replay<'a> {
@@ -80,8 +82,7 @@ impl<'a> Replay<'a> {
             which,
             program,
             cores,
-            memory,
-            loads,
+            noted: NotedMemory { memory, loads },
         })
     }
 
@@ -103,7 +104,7 @@ impl<'a> Replay<'a> {
         ensures state { self.new.state ≡ self.old.state }
         ensures room { OnOk result (IsTrue self.new.roomy) }
     {
-        self.loads.make_room()
+        self.noted.loads.make_room()
     }
 
     /// One place of the play: the core, which is ready, retires its next instruction, unless its program
@@ -136,15 +137,39 @@ impl<'a> Replay<'a> {
         let used = need.access();
         let given = heeded(given, used);
         let mine = shared(given, used);
-        let old = found(given, &self.memory, used);
+        let old = found(given, &self.noted.memory, used);
         let value = self.cores[core as usize].finish_op(image, op, old);
         let count = self.cores[core as usize].count();
-        note(&mut self.loads, core, used, count, old);
-        leave(&mut self.memory, mine, value);
+        note(&mut self.noted.loads, core, used, count, old);
+        leave(&mut self.noted.memory, mine, value);
         let at = Instr { core, count };
         Advanced::Retired {
             access: access(mine, at, old, value),
         }
+    }
+
+    /// The core retires one instruction after the other, until it has retired so many, or its program is done before.
+    /// The watch is told of each access before anything changes. If there is no memory for one, its instruction doesn't
+    /// retire.
+    #[inline(always)]
+    pub fn go_on<W: Watch>(&mut self, core: u8, until: u32, watch: &mut W) -> Ran
+        requires inside { core < length self.old.plan.totals }
+        requires number { (core_at self.old.state core).id ≡ core }
+        requires up { counts_in self.old.state core ≤ until }
+        requires limit { until ≤ (core_at self.old.state core).limit }
+        requires accepts { (n : ℕ) → counts_in self.old.state core < n → n ≤ until →
+            W.accepts watch.old (instr core n) }
+        ensures plan { self.new.plan ≡ self.old.plan }
+        ensures run { GoesTo W.touched self.old.plan core until self.old.state watch.old result self.new.state
+            watch.new }
+    {
+        run(
+            &mut self.cores[core as usize],
+            &self.program,
+            until,
+            &mut self.noted,
+            watch,
+        )
     }
 
     /// How many cores there are.
@@ -186,7 +211,7 @@ impl<'a> Replay<'a> {
         requires { word < self.now.plan.image.words }
         ensures { result ≡ slice_index self.now.state.words word }
     {
-        self.memory.get(word)
+        self.noted.memory.get(word)
     }
 
     /// What the core's next instruction needs. The core may be ready or not: what it waits for changes what
@@ -237,7 +262,7 @@ impl<'a> Replay<'a> {
     pub fn has_room(&self) -> bool
         ensures { result ≡ self.now.roomy }
     {
-        self.loads.has_room()
+        self.noted.loads.has_room()
     }
 
     /// What the play has come to. The words of the memory are handed on as they are.
@@ -249,9 +274,9 @@ impl<'a> Replay<'a> {
             which: _which,
             program: _program,
             cores,
-            memory,
-            loads,
+            noted,
         } = self;
+        let (memory, loads) = noted.into_parts();
         Ok(Outcome {
             cores: Items::from_vec(cores),
             words: Items::from_vec(memory.into_words()),

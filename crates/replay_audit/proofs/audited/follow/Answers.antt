@@ -1,18 +1,15 @@
 -- Run by run: the trail so far is that of the low order's front, and the lowest core that is ready goes on; where none
 -- is, the front is all that there is.
-use Rattle.std.proofs.Common.{◌≡◌, ◌+◌, ◌-◌, ◌++◌, ◌∷◌, [], ◌∙◌, ℕ, ap, arith, length, refl, subst, sym}
-use Rattle.std.specs.Prelude.{IsTrue}
-use Rattle.rtr_types.specs.declared.instr.Instr.{Instr}
+use Rattle.std.proofs.Common.{◌∙◌, [], ℕ, ap, arith, length, refl, subst, sym}
+use Rattle.std.specs.Prelude.{IsTrue, Some}
+use Rattle.core_runs.specs.declared.running.Ran.{Ran}
 use Rattle.replay_core.specs.Plans.{Plan}
-use Rattle.replay_core.specs.Play.{instr}
-use Rattle.replay_core.specs.Sources.{AreSources, sources_in}
-use Rattle.replay_core.specs.Tallies.{Tallied, count_of}
-use Rattle.replay_core.proofs.LowestGoesOn.{gone_to}
+use Rattle.replay_core.specs.Runs.{GoesTo, IsDoneRun, IsWholeRun}
 use Rattle.replay_core.proofs.LowCounts.{below_plan, inside_plan}
-use Rattle.replay_audit.proofs.LowAudit.{Along, all_told, along_on, along_start, followed_by, leaves_open, passes}
-use Rattle.replay_audit.proofs.LowAudit.{ready_here, short_here, stuck, told_at}
-use Rattle.replay_audit.proofs.LowestAlone.{gone_here, gone_is, gone_more, gone_same, run_smaller}
-use Rattle.replay_audit.proofs.TrailSteps.{trails_listed}
+use Rattle.replay_audit.specs.Trails.{Watches}
+use Rattle.replay_audit.proofs.AloneAudit.{accepted, along_alone, limit_over, noted_next, number_is, short_alone, up_to}
+use Rattle.replay_audit.proofs.LowAudit.{along_start, followed_by, leaves_open, passes, stuck}
+use Rattle.replay_audit.proofs.LowestAlone.{gone_is, run_smaller}
 use Rattle.replay_audit.proofs.audited.follow.Goals as goal
 
 pub loop-core-init : goal.loop-core-init
@@ -40,85 +37,44 @@ pub run-until-requires-clause-below : goal.run-until-requires-clause-below
 run-until-requires-clause-below c =
     below_plan _ _ _ c.loop-core.invariant.1.followed.counted _ (sym c.lowest.ensures ∙ c.in-Some.is)
 
-pub loop-retired-init : goal.loop-retired-init
-loop-retired-init c =
-    let i = c.loop-core.invariant in
-    let t = c.loop-core.tally in
-    let core = c.in-Some.core in
-    let next = c.next-next.ensures in
-    let count = ap (λ (x : Instr). x.count) next.at in
-    let before : c.next-next.result.at.count - 1 ≡ count_of t.counts core = omega arith in
-    let more = c.run-until.ensures.more in
-    record {
-      along = (
-        i.0,
-        subst (λ (x : Tallied). Along c.args.which c.args.recording.now i.0 x c.loop-core.replay c.loop-core.trail)
-            (gone_same t core (c.next-next.result.at.count - 1) before) i.1,
-        i.2,
-      );
-      from = omega arith;
-      to = omega arith;
-      sources = λ lt. subst (λ (n : ℕ). AreSources t.plan.edges (instr core (n + 1))
-          (sources_in c.next-next.result.sources.now)) (sym before) next.sources;
-    }
+-- what holds once its next instruction is noted
+pub note-requires-clause-next : goal.note-requires-clause-next
+note-requires-clause-next c =
+    noted_next c.requires.valid c.loop-core.invariant.1 (sym c.lowest.ensures ∙ c.in-Some.is) c.next.ensures.at
 
--- ---- a place more
+pub go_on-ran-requires-clause-number : goal.go_on-ran-requires-clause-number
+go_on-ran-requires-clause-number c =
+    number_is c.requires.valid c.loop-core.invariant.1 (sym c.lowest.ensures ∙ c.in-Some.is) c.next.ensures.at
 
-pub advance-requires-clause-ready : goal.advance-requires-clause-ready
-advance-requires-clause-ready c =
-    let i = c.loop-retired.invariant in
-    let some = c.run-until.ensures.lowest c.loop-retired.retired i.from c.loop-retired-test.true in
-    ready_here c.requires.valid i.along.1 some c.make_room.new.self c.make_room.ensures.plan c.make_room.ensures.state
+pub go_on-ran-requires-clause-up : goal.go_on-ran-requires-clause-up
+go_on-ran-requires-clause-up c =
+    up_to c.requires.valid c.loop-core.invariant.1 (sym c.lowest.ensures ∙ c.in-Some.is) c.next.ensures.at
+    c.run-until.ensures
 
-pub returns-in-Short : goal.returns-in-Short
-returns-in-Short c =
-    let i = c.loop-retired.invariant in
-    let some = c.run-until.ensures.lowest c.loop-retired.retired i.from c.loop-retired-test.true in
-    short_here c.requires.valid i.along.1 some c.make_room.new.self c.make_room.ensures.plan
-    c.make_room.ensures.state c.in-Short.ensures.place c.count-count.ensures
+pub go_on-ran-requires-clause-limit : goal.go_on-ran-requires-clause-limit
+go_on-ran-requires-clause-limit c =
+    limit_over c.requires.valid c.loop-core.invariant.1 (sym c.lowest.ensures ∙ c.in-Some.is) c.next.ensures.at
+    c.run-until.ensures
 
-pub note-requires-clause-access : goal.note-requires-clause-access
-note-requires-clause-access c =
-    let i = c.loop-retired.invariant in
-    let core = c.in-Some.core in
-    let some = c.run-until.ensures.lowest c.loop-retired.retired i.from c.loop-retired-test.true in
-    let at_is : instr core (c.loop-retired.retired + 1)
-    ≡ instr core (count_of (gone_to c.loop-core.tally core c.loop-retired.retired).counts core + 1) =
-    ap (λ (n : ℕ). instr core (n + 1)) (sym (gone_here c.loop-core.tally core c.loop-retired.retired i.along.1 some)) in
-    let told = told_at c.requires.valid i.along.1 some c.make_room.new.self c.make_room.ensures.plan
-    c.make_room.ensures.state c.advance.new.self c.advance.ensures.plan c.in-Retired.ensures.place at_is in
-    all_told c.in-Retired.access told
+pub go_on-ran-requires-clause-accepts : goal.go_on-ran-requires-clause-accepts
+go_on-ran-requires-clause-accepts c =
+    accepted c.requires.valid c.loop-core.invariant.1 (sym c.lowest.ensures ∙ c.in-Some.is) c.next.ensures.at
+    c.run-until.ensures c.in_ok-note.ensures c.next.ensures.sources (c.cores-cores.ensures.all
+    ∙ ap (λ (q : Plan). length q.totals) c.requires.begins.tally_plan)
 
-pub loop-retired-preserved : goal.loop-retired-preserved
-loop-retired-preserved c =
-    let i = c.loop-retired.invariant in
-    let t = c.loop-core.tally in
-    let core = c.in-Some.core in
-    let k = c.loop-retired.retired in
-    let before = c.loop-retired-test.true in
-    let from = i.from in
-    let some = c.run-until.ensures.lowest k from before in
-    let here = gone_here t core k i.along.1 some in
-    let trails = c.in_ok-note-in-Retired.ensures in
-    let cores = c.cores-cores.ensures.all
-    ∙ ap (λ (q : Plan). length q.totals) (c.requires.begins.tally_plan ∙ sym i.along.1.followed.counted.plan_is) in
-    record {
-      along = (
-        i.along.0 ++ core ∷ [],
-        along_on c.requires.valid i.along.1 some c.make_room.new.self c.make_room.ensures.plan
-            c.make_room.ensures.state c.advance.new.self c.advance.ensures.plan c.in-Retired.ensures.place
-            (ap (λ (n : ℕ). instr core (n + 1)) (sym here)) (gone_to t core (k + 1))
-            (sources_in c.loop-retired.sources) c.cores-cores.result c.note.new.self refl
-            (gone_more t core k (k + 1) (ap (λ (n : ℕ). n + 1) (sym here)))
-            (subst (λ (n : ℕ). AreSources t.plan.edges (instr core (n + 1)) (sources_in c.loop-retired.sources))
-            (sym here) (i.sources before))
-            cores trails,
-        trails_listed trails ∙ i.along.2,
-      );
-      from = omega arith;
-      to = omega arith;
-      sources = λ lt. c.run-until.ensures.free ((k + 1) + 1) (omega arith) (omega arith);
-    }
+pub returns-in-Done : goal.returns-in-Done
+returns-in-Done c =
+    let ran : IsDoneRun Watches c.loop-core.replay.plan c.in-Some.core c.run-until.result c.loop-core.replay.state
+    c.note.new.self c.go_on-ran.new.self.state c.go_on-ran.new.watch =
+    subst (λ (answer : Ran). GoesTo Watches c.loop-core.replay.plan c.in-Some.core c.run-until.result
+    c.loop-core.replay.state c.note.new.self answer c.go_on-ran.new.self.state c.go_on-ran.new.watch) c.in-Done.is
+    c.go_on-ran.ensures.run in
+    short_alone c.requires.valid c.loop-core.invariant.1 (sym c.lowest.ensures ∙ c.in-Some.is) c.next.ensures.at
+    c.run-until.ensures c.in_ok-note.ensures c.next.ensures.sources (c.cores-cores.ensures.all
+    ∙ ap (λ (q : Plan). length q.totals) c.requires.begins.tally_plan)
+    ran.number c.go_on-ran.new.self.state c.go_on-ran.new.watch ran.goes ran.counted
+    (let lt = ran.below in omega arith) ran.below ran.done
+    ∙ ap (λ (n : ℕ). Some (c.in-Some.core, n)) (sym c.count-count.ensures)
 
 -- ---- the core has gone on
 
@@ -130,14 +86,20 @@ loop-core-smaller c =
 
 pub loop-core-preserved : goal.loop-core-preserved
 loop-core-preserved c =
-    let i = c.loop-retired.invariant in
-    let to = i.to in
-    let past = c.loop-retired-test.false in
-    let all : c.loop-retired.retired ≡ c.run-until.result = omega arith in (
-      i.along.0,
-      subst (λ (x : Tallied). Along c.args.which c.args.recording.now i.along.0 x c.loop-retired.replay
-          c.loop-retired.trail) (gone_is c.go_on.ensures all) i.along.1,
-      i.along.2,
+    let ran : IsWholeRun Watches c.loop-core.replay.plan c.in-Some.core c.run-until.result c.loop-core.replay.state
+    c.note.new.self c.go_on-ran.new.self.state c.go_on-ran.new.watch =
+    subst (λ (answer : Ran). GoesTo Watches c.loop-core.replay.plan c.in-Some.core c.run-until.result
+    c.loop-core.replay.state c.note.new.self answer c.go_on-ran.new.self.state c.go_on-ran.new.watch) c.in-Whole.is
+    c.go_on-ran.ensures.run in
+    let come = along_alone c.requires.valid c.loop-core.invariant.1 (sym c.lowest.ensures ∙ c.in-Some.is)
+    c.next.ensures.at c.run-until.ensures c.in_ok-note.ensures c.next.ensures.sources (c.cores-cores.ensures.all
+    ∙ ap (λ (q : Plan). length q.totals) c.requires.begins.tally_plan)
+    ran.number c.go_on-ran.new.self.state c.go_on-ran.new.watch ran.goes ran.counted
+    (let e = ran.all in omega arith) ran.all c.go_on-ran.new.self c.go_on-ran.ensures.plan refl
+    c.go_on.new.self (gone_is c.go_on.ensures refl) in (
+      come.0,
+      come.1,
+      come.2 ∙ c.loop-core.invariant.2,
     )
 
 -- ---- the end

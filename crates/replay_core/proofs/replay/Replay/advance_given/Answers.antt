@@ -24,8 +24,8 @@ found-old-requires c =
 
 pub leave-requires : goal.leave-requires
 leave-requires c =
-    subst (λ (u : Use). UsesWithin u (length c.self.inside.memory)) (sym c.shared-mine.ensures)
-    (shared_within c.heeded-given.result c.access-used.result (length c.self.inside.memory)
+    subst (λ (u : Use). UsesWithin u (length c.self.inside.noted.memory)) (sym c.shared-mine.ensures)
+    (shared_within c.heeded-given.result c.access-used.result (length c.self.inside.noted.memory)
     (used_within c.image-image.result.now c.index-2.result.now c.access-used.result _
     (c.access-used.ensures ∙ ap access_of c.need_by_op-need.ensures)
     (c.self.invariant.all_words
@@ -42,9 +42,9 @@ returns-clause-place c =
     let below : c.args.core < length c.self.inside.cores.items = omega (arith, all.all_cores, all.valid.each_core) in
     let s : Outcome = record {
       cores = c.self.inside.cores.items;
-      words = c.self.inside.memory;
+      words = c.self.inside.noted.memory;
       loads =
-          c.self.inside.loads.lists;
+          c.self.inside.noted.loads.lists;
     } in
     let left : Outcome =
     record {
