@@ -468,7 +468,7 @@ def by_try(calls):
     return report(wrong)
 
 
-AGAIN = {"tso_machine_examples": "", "tso_record_examples": "recorded_tests::", "replay_examples": "tso_replays::"}
+AGAIN = {"machine_examples": "tso_", "recorder_examples": "recorded_tests::", "replay_examples": "tso_replays::"}
 
 
 def made_again(calls):

@@ -1,9 +1,10 @@
 //! What a person is told of words that mean nothing.
-ghost use Rattle.std.specs.Prelude.{◌≡◌, ◌≢◌, ◌++◌, IfNone, IfOk, IfSome, None, map, slice_get, string_bytes};
+ghost use Rattle.std.specs.Prelude.{◌≡◌, ◌≢◌, ◌++◌, IfNone, IfOk, IfSome, None, OnOk, map, slice_get, string_bytes};
 ghost use Rattle.std.specs.Option.{option_map};
 ghost use Rattle.command_line.specs.Told.{IsTold, fault_line, fault_told, placed, range_begins, values_told, why_told};
 ghost use Rattle.command_line.specs.Uses.{option_word};
 ghost use Rattle.tool_words.specs.Reading.{meaning};
+ghost use Rattle.tool_words.specs.declared.faults.Why.TheVariants.{NoSuchValue, OutOfRange, TooMany};
 
 use crate::uses::{table, use_line};
 use rtr_types::INSTRUCTIONS_MAX;
@@ -76,38 +77,68 @@ fn why_told(alloc: Global, why: Why) -> Result<String, AllocError>
     ensures { IfOk result (λ text. string_bytes text ≡ why_told why) }
 {
     let mut text = String::new(alloc);
+    put_why(&mut text, why)?;
+    Ok(text)
+}
+
+/// Puts the reason down behind the text.
+fn put_why(text: &mut String, why: Why) -> Result<(), AllocError>
+    ensures { OnOk result (string_bytes text.new ≡ string_bytes text.old ++ why_told why) }
+{
     match why {
-        Why::NotAnOption => write!(text, "the command has no such option")?,
-        Why::Twice(name) => write!(text, "{} is set twice", option_word(name))?,
-        Why::FlagWithValue(name) => write!(text, "{} takes no value", option_word(name))?,
+        Why::NotAnOption => text.push_str("the command has no such option"),
+        Why::Twice(name) => put_named(text, name, " is set twice"),
+        Why::FlagWithValue(name) => put_named(text, name, " takes no value"),
         Why::OutOfRange {
             option,
             least,
             most,
-        } => {
-            write!(
-                text,
-                "{}{}{least} to {most}",
-                option_word(option),
-                range_begins(option)
-            )?
-        }
-        Why::NoNumber(name) => write!(text, "{} takes a number", option_word(name))?,
-        Why::NoSuchValue(name) => write!(
-            text,
-            "{} takes {}",
-            option_word(name),
-            values_told(name)
-        )?,
-        Why::TooMany => write!(
-            text,
-            "the cores times the limit are more than {INSTRUCTIONS_MAX}"
-        )?,
-        Why::NoImage => write!(text, "the shape has no image of the number")?,
-        Why::NoValue(name) => write!(text, "{} lacks its value", option_word(name))?,
-        Why::Lacks(name) => write!(text, "{} is missing", option_word(name))?,
+        } => put_range(text, option, least, most),
+        Why::NoNumber(name) => put_named(text, name, " takes a number"),
+        Why::NoSuchValue(name) => put_values(text, name),
+        Why::TooMany => put_most(text),
+        Why::NoImage => text.push_str("the shape has no image of the number"),
+        Why::NoValue(name) => put_named(text, name, " lacks its value"),
+        Why::Lacks(name) => put_named(text, name, " is missing"),
     }
-    Ok(text)
+}
+
+/// Puts an option down, and what is wrong with it.
+fn put_named(text: &mut String, name: Name, wrong: &str) -> Result<(), AllocError>
+    ensures { OnOk result (string_bytes text.new ≡ string_bytes text.old ++ (option_word name ++ wrong.now)) }
+{
+    text.push_str(option_word(name))?;
+    text.push_str(wrong)
+}
+
+/// Puts an option down, and from where to where its numbers go.
+fn put_range(text: &mut String, option: Name, least: u64, most: u64) -> Result<(), AllocError>
+    ensures { OnOk result (string_bytes text.new ≡ string_bytes text.old
+        ++ why_told (OutOfRange option least most)) }
+{
+    write!(
+        text,
+        "{}{}{least} to {most}",
+        option_word(option),
+        range_begins(option)
+    )
+}
+
+/// Puts an option down, and its values.
+fn put_values(text: &mut String, name: Name) -> Result<(), AllocError>
+    ensures { OnOk result (string_bytes text.new ≡ string_bytes text.old ++ why_told (NoSuchValue name)) }
+{
+    write!(text, "{} takes {}", option_word(name), values_told(name))
+}
+
+/// Puts the most instructions down that all cores may be given.
+fn put_most(text: &mut String) -> Result<(), AllocError>
+    ensures { OnOk result (string_bytes text.new ≡ string_bytes text.old ++ why_told TooMany) }
+{
+    write!(
+        text,
+        "the cores times the limit are more than {INSTRUCTIONS_MAX}"
+    )
 }
 
 /// The word that names an option.

@@ -118,8 +118,8 @@ next_told a core count image k next image_is here is cut outcome at count_is =
     let there = here cut outcome at count_is in
     record {
       pc = ap (λ (n : Next). n.pc) is ∙ ap (λ (x : Core). x.pc) there;
-      need = ap (λ (n : Next). n.need) is ∙ ap (λ (i : Contents). need i k) image_is
-          ∙ ap (λ (x : Core). need (recorded_image a.recording) x) there;
+      used = ap (λ (n : Next). n.used) is ∙ ap (λ (i : Contents). use_of (need i k)) image_is
+          ∙ ap (λ (x : Core). use_of (need (recorded_image a.recording) x)) there;
     }
 
 -- as it was noted

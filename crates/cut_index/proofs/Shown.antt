@@ -8,7 +8,7 @@ use Rattle.rv_core.specs.declared.outcome.Outcome.{Outcome}
 use Rattle.replay_core.specs.Answers.{UnderWay, cut_of}
 use Rattle.replay_core.specs.Orders.{counts_in, is_ready}
 use Rattle.replay_core.specs.Plans.{plan_of}
-use Rattle.replay_core.specs.Play.{core_at, need_at, place}
+use Rattle.replay_core.specs.Play.{core_at, need_at, place, use_of}
 use Rattle.replay_audit.specs.Audits.{Findings}
 use Rattle.cut_replay.specs.ClosedCuts.{count_in, IsClosed}
 use Rattle.race_queries.specs.Queries.{IsAudited}
@@ -66,9 +66,9 @@ module _ (f : Findings) (h : IsAudited f) (cut : Cut) (closed : IsClosed f.which
     shown_pc next at = (at cut s (reached_at f.which f.recording h.valid h.passed.determinate cut closed) there).pc
         ∙ ap (λ (v : UnderWay). (core_at v.state core).pc) is
 
-    pub shown_need : (next : Next) → IsNextAt f core count next → next.need ≡ need_at u.plan u.state core
-    shown_need next at = (at cut s (reached_at f.which f.recording h.valid h.passed.determinate cut closed) there).need
-        ∙ ap (λ (v : UnderWay). need_at v.plan v.state core) is
+    pub shown_used : (next : Next) → IsNextAt f core count next → next.used ≡ use_of (need_at u.plan u.state core)
+    shown_used next at = (at cut s (reached_at f.which f.recording h.valid h.passed.determinate cut closed) there).used
+        ∙ ap (λ (v : UnderWay). use_of (need_at v.plan v.state core)) is
 
   pub shown_words : (word : ℕ) → word < u.plan.image.words → word < f.recording.params.words
   shown_words word lt = subst (λ (v : UnderWay). word < v.plan.image.words) (sym is) lt

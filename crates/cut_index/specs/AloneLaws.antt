@@ -16,6 +16,8 @@ use Rattle.cut_replay.specs.ClosedCuts.{count_in}
 use Rattle.cut_replay.specs.CutStates.{IsStateAt}
 use Rattle.cut_index.specs.Alone.{alone_after, alone_first}
 use Rattle.cut_index.specs.declared.alone.Alone.{Alone}
+use Rattle.cut_index.specs.declared.alone.Next.{Next}
+use Rattle.cut_index.specs.Runs.{next_of}
 
 -- what the core's loads read, in every replay order that is whole
 abbrev pub own_loads : Which → Recording → (core : ℕ) → List LoadNote
@@ -25,6 +27,10 @@ own_loads which r core = loads_at (low_outcome which r) core
 abbrev pub alone_at : Which → Recording → (core count : ℕ) → Alone
 alone_at which r core count =
     alone_after (recorded_image r) (own_loads which r core) (alone_first core r.params.limit) count
+
+-- and what comes next there
+abbrev pub next_at : Which → Recording → (core count : ℕ) → Next
+next_at which r core count = next_of (recorded_image r) (alone_at which r core count).core
 
 -- ---- laws
 

@@ -7,12 +7,12 @@ use Rattle.rv_core.specs.declared.core_state.Core.{Core}
 use Rattle.rv_core.specs.declared.outcome.Outcome.{Outcome}
 use Rattle.race_queries.specs.Queries.{IsAudited}
 use Rattle.replay_core.specs.Plans.{plan_of, recorded_image}
-use Rattle.replay_core.specs.Play.{core_at, need_at}
+use Rattle.replay_core.specs.Play.{core_at, need_at, use_of}
 use Rattle.replay_audit.specs.Audits.{Findings}
 use Rattle.cut_replay.specs.ClosedCuts.{count_in}
 use Rattle.cut_replay.specs.CutStates.{IsStateAt}
 use Rattle.cut_index.specs.Alone.{alone_first}
-use Rattle.cut_index.specs.AloneLaws.{own_loads}
+use Rattle.cut_index.specs.AloneLaws.{next_at, own_loads}
 use Rattle.cut_index.specs.Runs.{IsRun}
 use Rattle.cut_index.specs.Writes.{AreWrites}
 use Rattle.cut_index.specs.declared.alone.Next.{Next}
@@ -26,14 +26,20 @@ abbrev pub IsCoreAt : Findings → (core count : ℕ) → Core → Type 0
 IsCoreAt a core count result = (cut : Cut) (outcome : Outcome) → IsStateAt a.which a.recording cut outcome →
     count_in cut core ≡ count → result ≡ core_at outcome core
 
--- and this is the address of its next instruction, and what that needs
+-- and this is the address of its next instruction, and the access that it makes
 pub record ComesNext (a : Findings) (core : ℕ) (outcome : Outcome) (next : Next) : Type 0 where
   pub pc : next.pc ≡ (core_at outcome core).pc
-  pub need : next.need ≡ need_at (plan_of a.which a.recording) outcome core
+  pub used : next.used ≡ use_of (need_at (plan_of a.which a.recording) outcome core)
 
 abbrev pub IsNextAt : Findings → (core count : ℕ) → Next → Type 0
 IsNextAt a core count next = (cut : Cut) (outcome : Outcome) → IsStateAt a.which a.recording cut outcome →
     count_in cut core ≡ count → ComesNext a core outcome next
+
+-- and so much of each of its instructions
+pub record AreNextsOf (a : Findings) (core : ℕ) (nexts : List Next) : Type 0 where
+  pub all : length nexts ≡ slice_index a.recording.totals core
+  pub each : (count : ℕ) → count < length nexts → (d : Next) →
+      slice_index_or nexts count d ≡ next_at a.which a.recording core count
 
 -- so the word stands at the cut
 abbrev pub IsWordAt : Findings → Cut → (word : ℕ) → (value : ℕ) → Type 0

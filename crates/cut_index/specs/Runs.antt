@@ -5,6 +5,7 @@ use Rattle.image_mem.specs.Contents.{Contents}
 use Rattle.rv_core.specs.declared.core_state.Core.{Core}
 use Rattle.rv_core.specs.declared.outcome.LoadNote.{LoadNote}
 use Rattle.rv_core.specs.Steps.{is_done, need}
+use Rattle.replay_core.specs.Play.{use_of}
 use Rattle.cut_index.specs.declared.alone.Alone.{Alone}
 use Rattle.cut_index.specs.declared.alone.Next.{Next}
 use Rattle.cut_index.specs.declared.runs.Run.{Run}
@@ -12,7 +13,7 @@ use Rattle.cut_index.specs.Alone.{alone_after}
 
 -- what comes next at a core
 abbrev pub next_of : Contents → Core → Next
-next_of image core = record { pc = core.pc; need = need image core }
+next_of image core = record { pc = core.pc; used = use_of (need image core) }
 
 -- a snapshot is taken behind so many instructions, if these are whole spans
 abbrev pub marked : List Alone → (count : ℕ) → Alone → List Alone

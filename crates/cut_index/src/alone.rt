@@ -5,7 +5,7 @@ ghost use Rattle.cut_index.specs.Alone.{alone_first, goes_on, own_value, reads};
 ghost use Rattle.cut_index.specs.Runs.{next_of};
 
 use rtr_types::Kind;
-use rv_core::{Core, LoadNote, Need, Program};
+use rv_core::{Core, LoadNote, Program};
 
 /// A core that runs on its own, and how many of its loads it has read.
 #[derive(Clone, Copy)]
@@ -14,11 +14,12 @@ pub struct Alone {
     pub read: u32,
 }
 
-/// What comes next at a core: the address of its next instruction, and what this needs of memory.
+/// What comes next at a core: the address of its next instruction, and the kind and the word of the access that this
+/// makes, if it makes one.
 #[derive(Clone, Copy, Debug, PartialEq, Eq)]
 pub struct Next {
     pub pc: u32,
-    pub need: Need,
+    pub used: Option<(Kind, u32)>,
 }
 
 impl Alone {
@@ -32,19 +33,22 @@ impl Alone {
         }
     }
 
-    /// One instruction more, which finds what the core's next load read, if it reads.
-    pub(crate) fn go_on(&mut self, program: &Program, loads: &[LoadNote])
+    /// One instruction more, which finds what the core's next load read, if it reads. It answers what came next.
+    pub(crate) fn go_on(&mut self, program: &Program, loads: &[LoadNote]) -> Next
         requires more { is_done (need program.now self.old.core) ≡ false }
         requires room { self.old.read + 1 < 2 ^ 32 }
-        ensures { self.new ≡ goes_on program.now loads.now self.old }
+        ensures next { result ≡ next_of program.now self.old.core }
+        ensures on { self.new ≡ goes_on program.now loads.now self.old }
     {
-        let op = program.op(self.core.pc());
+        let pc = self.core.pc();
+        let op = program.op(pc);
         let used = self.core.need_by_op(program.image(), op).access();
         let value = own_value(used, loads, self.read);
         self.core.finish_op(program.image(), op, value);
         if reads(used) {
             self.read += 1;
         }
+        Next { pc, used }
     }
 }
 
@@ -53,8 +57,8 @@ pub(crate) fn next_of(program: &Program, core: &Core) -> Next
     ensures { result ≡ next_of program.now core.now }
 {
     let pc = core.pc();
-    let need = core.need_by_op(program.image(), program.op(pc));
-    Next { pc, need }
+    let used = core.need_by_op(program.image(), program.op(pc)).access();
+    Next { pc, used }
 }
 
 /// Whether an instruction reads a word.

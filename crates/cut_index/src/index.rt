@@ -5,7 +5,7 @@ ghost use Rattle.replay_core.specs.Plans.{recorded_image};
 ghost use Rattle.replay_core.specs.Play.{loads_at};
 ghost use Rattle.cut_replay.specs.ClosedCuts.{IsClosed};
 ghost use Rattle.race_queries.specs.Queries.{IsAudited};
-ghost use Rattle.cut_index.specs.Indexes.{AreRuns, IsCoreAt, IsNextAt, IsRunOf, IsWordAt};
+ghost use Rattle.cut_index.specs.Indexes.{AreNextsOf, AreRuns, IsCoreAt, IsNextAt, IsRunOf, IsWordAt};
 
 use crate::alone::{Alone, Next, next_of};
 use crate::runs::Run;
@@ -108,6 +108,17 @@ impl<'a> Index<'a> {
         } else {
             next_of(&self.program, &self.core(core, count))
         }
+    }
+
+    /// What comes next at a core behind each number of its instructions, but for all.
+    pub fn nexts(&self, core: u8) -> &[Next]
+        requires { core < self.now.recording.params.cores }
+        ensures { AreNextsOf self.now core result.now }
+    {
+        // What always holds of an index: it has a run for each core of its recording.
+        let _ = self.audited.recording();
+        let run = &self.runs[core as usize];
+        run.nexts.as_slice()
     }
 
     /// What comes next at a core, as it was noted.

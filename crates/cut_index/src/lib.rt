@@ -10,9 +10,9 @@
 //! its own loads have brought it. So at a closed cut it depends on the cut's count of that core alone, and so does what
 //! it needs next (`cores_stand_alone`). A word at a closed cut is what the low order's accesses that the cut holds
 //! leave of it (`words_are_left`). Of an audited recording, `core` is the core of the state at each closed cut with so
-//! many of its instructions, and `next` is what comes next at it there. `word` is the word of the state at the cut.
-//! `Standing` shows at a closed cut just what a replay shows that has come there. Only `Index::of` takes memory, and is
-//! refused for want of it alone.
+//! many of its instructions, and `next` is what comes next at it there, as `nexts` has it for each count. `word` is the
+//! word of the state at the cut. `Standing` shows at a closed cut just what a replay shows that has come there. Only
+//! `Index::of` takes memory, and is refused for want of it alone.
 #![tactic(auto)]
 
 mod alone;

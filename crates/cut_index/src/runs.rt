@@ -3,7 +3,7 @@ ghost use Rattle.std.specs.Prelude.{◌≡◌, ◌≤◌, IfOk, OnOk, [], ◌∷
 ghost use Rattle.cut_index.specs.Alone.{alone_after};
 ghost use Rattle.cut_index.specs.Runs.{CanRun, IsRun, marked};
 
-use crate::alone::{Alone, Next, next_of};
+use crate::alone::{Alone, Next};
 use rtr_types::Items;
 use rv_core::{LoadNote, Program};
 use std::alloc::{AllocError, Global};
@@ -37,8 +37,8 @@ impl Run {
         let mut run = Run::new(alloc, first, total)?;
         let mut alone = first;
         for count in 0..total {
-            run.note(next_of(program, &alone.core))?;
-            alone.go_on(program, loads);
+            let next = alone.go_on(program, loads);
+            run.note(next)?;
             run.mark(count + 1, alone)?;
         }
         Ok(run)
@@ -90,7 +90,7 @@ impl Run {
     {
         let mut alone = self.marks.as_slice()[(count / SPAN) as usize];
         for _done in count / SPAN * SPAN..count {
-            alone.go_on(program, loads);
+            let _ = alone.go_on(program, loads);
         }
         alone
     }

@@ -103,14 +103,14 @@ impl<'i, 'a> Standing<'i, 'a> {
         ensures used { result ≡ use_of (need_at self.now.plan self.now.state core) }
         ensures within { UsesWithin result self.now.plan.image.words }
     {
-        self.next(core).need.access()
+        self.next(core).used
     }
 
     /// What comes next at the core.
     fn next(&self, core: u8) -> Next
         requires { core < length self.now.plan.totals }
         ensures pc { result.pc ≡ (core_at self.now.state core).pc }
-        ensures need { result.need ≡ need_at self.now.plan self.now.state core }
+        ensures used { result.used ≡ use_of (need_at self.now.plan self.now.state core) }
     {
         // What always holds of an index: its recording was audited.
         let _ = self.index.audited();

@@ -16,10 +16,10 @@ use Rattle.cut_moves.specs.Ways.{way_from, with_place, ClosedUnder, Within, WayC
 
 -- how far the way has come, where the timeline has come to `at`: there, but not below the lower cut and not above the
 -- higher
-record IsBetween (low high at now : ℕ) : Type 0 where
-  below : at ≤ low → now ≡ low
-  inside : low ≤ at → at ≤ high → now ≡ at
-  above : high ≤ at → now ≡ high
+pub record IsBetween (low high at now : ℕ) : Type 0 where
+  pub below : at ≤ low → now ≡ low
+  pub inside : low ≤ at → at ≤ high → now ≡ at
+  pub above : high ≤ at → now ≡ high
 
 abbrev AreBetween : (low high at now : ℕ → ℕ) → Type 0
 AreBetween low high at now = (i : ℕ) → IsBetween (low i) (high i) (at i) (now i)
@@ -158,7 +158,7 @@ CountsOn low high at c cs =
     (g : ℕ → ℕ) → AreBetween low high (bump at c) g →
     AreBetween low high (counts (bump at c) cs) (counts g (way_from low high (bump at c) cs))
 
-counts_from : (low high at now : ℕ → ℕ) (cs : List ℕ) → Within low high → AreBetween low high at now →
+pub counts_from : (low high at now : ℕ → ℕ) (cs : List ℕ) → Within low high → AreBetween low high at now →
     AreBetween low high (counts at cs) (counts now (way_from low high at cs))
 counts_from low high at now [] w b = b
 counts_from low high at now (c ∷ cs) w b =
@@ -176,7 +176,7 @@ counts_from low high at now (c ∷ cs) w b =
         rw (on_is (low c) (high c) (at c) le lt) (rest (bump now c) (on_both low high at now c b w le lt))
 
 -- before the timeline's first place the way is at the lower cut
-begins : (low high : ℕ → ℕ) → Within low high → AreBetween low high nought low
+pub begins : (low high : ℕ → ℕ) → Within low high → AreBetween low high nought low
 begins low high w i =
     let le = w i in
     record { below = λ k. refl; inside = λ k m. omega arith; above = λ k. omega arith }

@@ -7,6 +7,9 @@ pub mod Along
 pub mod TakenRounds
 pub mod TakenWay
 mod Short
-mod SeatCounts
+pub mod SeatCounts
 mod WindowWay
 mod CutWindows
+mod SeatHalves
+mod StepsBack
+pub mod WayPlaces

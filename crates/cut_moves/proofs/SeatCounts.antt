@@ -1,10 +1,12 @@
 -- Seats: how many of a core's instructions stand among the first places grows by one at each of its places, so the
 -- places of a core between two of its counts are those from the one seat up to the other.
-use Rattle.std.proofs.Common.{inl, inr, ◌≡◌, ◌⊎◌, ℕ, zero, suc, ◌+◌, ◌-◌, ◌<◌, ◌≤◌, Bool, true, false, List, [], ◌∷◌, ◌++◌}
+use Rattle.std.proofs.Common.{inl, inr, ◌≡◌, ◌⊎◌, ℕ, zero, suc, ◌+◌, ◌-◌, ◌<◌, ◌≤◌, Bool, true, false, List}
+use Rattle.std.proofs.Common.{[], ◌∷◌, ◌++◌}
 use Rattle.std.proofs.Common.{length, take, replicate, refl, sym, ap, ◌∙◌, subst, arith, ◌&&◌}
 use Rattle.std.proofs.Common.{length-set, get_or-set_same, get_or-set_other}
 use Rattle.std.proofs.lemmas.Bool.{cases_lt}
-use Rattle.std.proofs.lemmas.List.{get_or_append_left, get_or_push, take_more, take-take, take-append-drop, take_all, length-append, length-replicate}
+use Rattle.std.proofs.lemmas.List.{get_or_append_left, get_or_push, take_more, take-take, take-append-drop, take_all}
+use Rattle.std.proofs.lemmas.List.{length-append, length-replicate}
 use Rattle.std.specs.Prelude.{nat_le, nat_lt, slice_index, slice_index_or, slice_set, drop}
 use native.Mathlib.Decide.{ℕ_discrete}
 use Rattle.rtr_types.specs.declared.TheConstants.{CORES_MAX}
@@ -31,7 +33,7 @@ among_here timeline n core lt is =
     ap (λ (f : ℕ → ℕ). f core) (among_next timeline n lt)
     ∙ bump_same (counts nought (take n timeline)) (slice_index timeline n) core (sym is)
 
-among_else : (timeline : List ℕ) (n core : ℕ) → n < length timeline → (core ≡ slice_index timeline n → ⊥) →
+pub among_else : (timeline : List ℕ) (n core : ℕ) → n < length timeline → (core ≡ slice_index timeline n → ⊥) →
     among timeline (n + 1) core ≡ among timeline n core
 among_else timeline n core lt other =
     ap (λ (f : ℕ → ℕ). f core) (among_next timeline n lt)

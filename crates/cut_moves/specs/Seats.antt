@@ -1,5 +1,6 @@
 -- Where each core's instructions stand in a timeline. Places and instructions are counted from 0.
-use Rattle.std.specs.Prelude.{◌≡◌, ℕ, ◌+◌, ◌-◌, ◌<◌, ◌≤◌, ◌^◌, Bool, false, ◌&&◌, nat_le, nat_lt, List, [], length, take}
+use Rattle.std.specs.Prelude.{◌≡◌, ℕ, ◌+◌, ◌-◌, ◌<◌, ◌≤◌, ◌^◌, Bool, false, ◌&&◌, nat_le, nat_lt, List, []}
+use Rattle.std.specs.Prelude.{length, take}
 use Rattle.std.specs.Prelude.{slice_index, slice_index_or}
 use Rattle.rtr_types.specs.declared.TheConstants.{CORES_MAX}
 use Rattle.replay_core.specs.Orders.{counts, nought}
@@ -26,6 +27,19 @@ pub record HaveSeats (timeline : List ℕ) (seats : List (List ℕ)) : Type 0 wh
   pub few : (number : ℕ) → number < length timeline → slice_index timeline number < CORES_MAX
   pub short : length timeline < 2 ^ 32
   pub up_to : SeatsUpTo timeline (length timeline) seats
+
+-- ---- seats before a place
+
+-- each number is below the next
+abbrev pub Rise : List ℕ → Type 0
+Rise seats = (i j : ℕ) → i < j → j < length seats → slice_index seats i < slice_index seats j
+
+-- from the lower on, before the higher, just those before so many are below the number
+pub record IsHowMany (seats : List ℕ) (low high number some : ℕ) : Type 0 where
+  pub least : low ≤ some
+  pub most : some ≤ high
+  pub below : (count : ℕ) → low ≤ count → count < some → slice_index seats count < number
+  pub above : (count : ℕ) → some ≤ count → count < high → number ≤ slice_index seats count
 
 -- ---- windows
 

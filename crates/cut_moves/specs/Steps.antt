@@ -1,6 +1,7 @@
 -- Rule: a step and a step back: IsStep, IsStepBack, IsHull
 -- Moves from a closed cut to another: forward by one instruction of a core, and back.
-use Rattle.std.specs.Prelude.{◌≡◌, ℕ, ◌+◌, ◌<◌, List, slice_index}
+use Rattle.std.specs.Prelude.{◌≡◌, ℕ, ◌+◌, ◌<◌, ◌≤◌, List, length, slice_index}
+use Rattle.rtr_types.specs.declared.TheConstants.{CORES_MAX}
 use Rattle.rtr_types.specs.declared.cut.Cut.{Cut}
 use Rattle.rtr_types.specs.declared.instr.Instr.{Instr}
 use Rattle.rtr_types.specs.declared.pairs.Which.{Which}
@@ -14,6 +15,7 @@ use Rattle.replay_audit.specs.Audits.{IsInstrOf}
 use Rattle.replay_audit.specs.Determinate.{IsDeterminate}
 use Rattle.cut_replay.specs.ClosedCuts.{count_in, Holds, IsClosed, IsContained, IsCutOf}
 use Rattle.cut_replay.specs.ClosedCuts.{IsGreatestWithout, IsLeastWith}
+use Rattle.cut_replay.specs.Frees.{IsNeededBy}
 use Rattle.cut_moves.specs.Unions.{intersection_of, union_of}
 
 -- ---- one step
@@ -40,6 +42,19 @@ pub record IsStepBack (which : Which) (r : Recording) (cut : Cut) (at : Instr) (
   pub without : Holds to at → ⊥
   pub greatest : (other : Cut) → IsClosed which r other → IsContained other cut → (Holds other at → ⊥) →
       IsContained other to
+
+-- of the core's first instructions, up to so many, just the first n neither are the instruction nor need it
+pub record AreFreeOf (which : Which) (r : Recording) (at : Instr) (core most n : ℕ) : Type 0 where
+  pub within : n ≤ most
+  pub free : (count : ℕ) → 1 ≤ count → count ≤ n → IsNeededBy which r at core count → ⊥
+  pub need : (count : ℕ) → n < count → count ≤ most → IsNeededBy which r at core count
+
+-- the cut has just these of the other's
+pub record AreWithout (which : Which) (r : Recording) (cut : Cut) (at : Instr) (to : Cut) : Type 0 where
+  pub cores : to.cores ≡ r.params.cores
+  pub places : length to.counts ≡ CORES_MAX
+  pub each : (core : ℕ) → core < r.params.cores → AreFreeOf which r at core (count_in cut core) (count_in to core)
+  pub rest : (core : ℕ) → r.params.cores ≤ core → count_in to core ≡ 0
 
 -- ---- the cut around given counts
 

@@ -1,7 +1,8 @@
 -- Rule: the way between two cuts: way_of
 -- The way between two cuts along a timeline: what the higher one has beyond the lower, in the timeline's order. Cuts
 -- are functions here, a count for each core.
-use Rattle.std.specs.Prelude.{◌≡◌, ℕ, ◌≤◌, Bool, true, false, ◌&&◌, nat_lt, nat_le, List, [], ◌∷◌}
+use Rattle.std.specs.Prelude.{◌≡◌, ℕ, ◌≤◌, Bool, true, false, ◌&&◌, nat_lt, nat_le, List, [], ◌∷◌, max, min}
+use Rattle.std.specs.Prelude.{slice_index, take}
 use Rattle.std.specs.List.{Contains}
 use Rattle.rtr_types.specs.declared.instr.Edge.{Edge}
 use Rattle.replay_core.specs.Plans.{Plan}
@@ -20,6 +21,20 @@ way_from low high at (c ∷ cs) =
 
 abbrev pub way_of : (low high : ℕ → ℕ) → (timeline : List ℕ) → List ℕ
 way_of low high timeline = way_from low high nought timeline
+
+-- a count of the timeline, but no lower than the one cut's and no higher than the other's
+abbrev pub between : (low high at : ℕ) → ℕ
+between low high at = min high (max low at)
+
+-- the place with this number, counted from 0, is on the way
+abbrev pub is_on_way : (low high : ℕ → ℕ) → (timeline : List ℕ) → (number : ℕ) → Bool
+is_on_way low high timeline number =
+    nat_le (low (slice_index timeline number)) (counts nought (take number timeline) (slice_index timeline number))
+    && nat_lt (counts nought (take number timeline) (slice_index timeline number)) (high (slice_index timeline number))
+
+-- the way as far as that place
+abbrev pub way_before : (low high : ℕ → ℕ) → (timeline : List ℕ) → (number : ℕ) → List ℕ
+way_before low high timeline number = way_of low high (take number timeline)
 
 -- each logged source of an instruction within the counts is within them
 abbrev pub ClosedUnder : List Edge → (ℕ → ℕ) → Type 0

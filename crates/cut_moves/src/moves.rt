@@ -1,11 +1,13 @@
 //! Moves from a closed cut to another.
-ghost use Rattle.std.specs.Prelude.{◌≡◌, ◌+◌, ◌<◌, ◌≤◌, IsOkAnd, length, slice_index};
+ghost use Rattle.std.specs.Prelude.{◌≡◌, ◌+◌, ◌<◌, ◌≤◌, ◌↔◌, IsOkAnd, IsTrue, length, slice_index};
 ghost use Rattle.replay_core.specs.Play.{instr};
 ghost use Rattle.replay_audit.specs.Audits.{IsInstrOf};
 ghost use Rattle.cut_replay.specs.ClosedCuts.{IsClosed, IsCutOf, IsGreatestWithout, IsLeastWith, count_in};
-ghost use Rattle.cut_moves.specs.Steps.{IsHull, IsStep, IsStepBack, IsWholeCut, last_in, next_in};
+ghost use Rattle.cut_replay.specs.Frees.{IsNeededBy};
+ghost use Rattle.cut_moves.specs.Steps.{AreFreeOf, AreWithout, IsHull, IsStep, IsStepBack, IsWholeCut, last_in};
+ghost use Rattle.cut_moves.specs.Steps.{next_in};
 
-use crate::lattice::{PLACES, intersection, union};
+use crate::lattice::{PLACES, union};
 use cut_replay::{cut_with, cut_without};
 use replay_audit::Audited;
 use rtr_types::{Cut, Instr};
@@ -42,8 +44,68 @@ pub fn step_back(audited: &Audited, cut: &Cut, core: u8) -> Result<Cut, AllocErr
     let _ = audited.recording();
     let _ = audited.outcome();
     let count = cut.counts[core as usize];
-    let greatest = cut_without(audited, Instr { core, count })?;
-    Ok(intersection(cut, &greatest))
+    Ok(without(audited, cut, Instr { core, count }))
+}
+
+/// Of each core those of the cut's instructions that neither are the instruction nor need it.
+fn without(audited: &Audited, cut: &Cut, at: Instr) -> Cut
+    requires cut { IsCutOf audited.now.recording cut.now }
+    requires at { IsInstrOf audited.now.recording at }
+    ensures { AreWithout audited.now.which audited.now.recording cut.now at result }
+{
+    let cores = audited.recording().params.cores;
+    let mut counts = [0; PLACES];
+    for core in 0..cores {
+        counts[core as usize] = free_of(audited, core, at, cut.counts[core as usize]);
+    }
+    Cut { cores, counts }
+}
+
+/// How many of the core's first instructions, of at most so many, neither are the instruction nor need it. Where only
+/// few do, mostly all are free, or all but the last. Else halving what is left finds them.
+fn free_of(audited: &Audited, core: u8, at: Instr, most: u32) -> u32
+    requires core { core < audited.now.recording.params.cores }
+    requires at { IsInstrOf audited.now.recording at }
+    requires most { most ≤ slice_index audited.now.recording.totals core }
+    ensures { AreFreeOf audited.now.which audited.now.recording at core most result }
+{
+    let mut free = 0;
+    let mut least = most;
+    while free < least {
+        let count = next_asked(free, least, most);
+        if needs(audited, core, count, at) {
+            least = count - 1;
+        } else {
+            free = count;
+        }
+    }
+    free
+}
+
+/// The count that is asked for next: the last one of all, the one before it, and then the middle one of those that are
+/// left.
+fn next_asked(free: u32, least: u32, most: u32) -> u32
+    requires { free < least }
+    ensures above { free < result }
+    ensures below { result ≤ least }
+{
+    if free == 0 && most.saturating_sub(least) < 2 {
+        return least;
+    }
+    least - (least - free) / 2
+}
+
+/// Whether the core's instruction with this count is the instruction, or needs it.
+fn needs(audited: &Audited, core: u8, count: u32, at: Instr) -> bool
+    requires at { IsInstrOf audited.now.recording at }
+    requires core { core < audited.now.recording.params.cores }
+    requires some { 1 ≤ count }
+    requires most { count ≤ slice_index audited.now.recording.totals core }
+    ensures { IsTrue result ↔ IsNeededBy audited.now.which audited.now.recording at core count }
+{
+    // A valid recording has no more cores than there may be.
+    let _ = audited.recording();
+    audited.clock(Instr { core, count }).covers(at)
 }
 
 /// The core stays, and the others go back as far as the log lets them: the least closed cut with the core's

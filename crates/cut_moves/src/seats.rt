@@ -1,17 +1,17 @@
 //! A timeline that knows where each core's instructions stand in it.
-ghost use Rattle.std.specs.Prelude.{◌≡◌, ◌+◌, ◌<◌, ◌≤◌, ◌^◌, ℕ, IfOk, length, replicate, slice_index};
-ghost use Rattle.std.specs.Prelude.{[]};
+ghost use Rattle.std.specs.Prelude.{◌≡◌, ◌+◌, ◌<◌, ◌≤◌, ◌^◌, ℕ, IfOk, [], false, length, replicate, slice_index, take};
 ghost use Rattle.rtr_types.specs.declared.TheConstants.{CORES_MAX};
 ghost use Rattle.replay_core.specs.Orders.{counts, nought, IsReplayOrder, IsWhole};
 ghost use Rattle.replay_core.specs.Plans.{plan_of};
-ghost use Rattle.cut_replay.specs.ClosedCuts.{count_in};
+ghost use Rattle.cut_replay.specs.ClosedCuts.{IsContained, count_in};
 ghost use Rattle.cut_moves.specs.Rounds.{rounds_of};
-ghost use Rattle.cut_moves.specs.Seats.{AreWindows, HaveSeats, IsWindow, is_within, window_at};
+ghost use Rattle.cut_moves.specs.Seats.{AreWindows, HaveSeats, IsHowMany, IsSeat, IsWindow, Rise, is_within, window_at};
+ghost use Rattle.cut_moves.specs.Ways.{between, is_on_way, way_before};
 
 use crate::by_rounds::rounds_in;
 use crate::lattice::PLACES;
 use replay_audit::Audited;
-use rtr_types::{Cut, Items};
+use rtr_types::{CORES_MAX, Cut, Items};
 use std::alloc::{AllocError, Global};
 use std::marker::Model;
 
@@ -59,6 +59,65 @@ impl Timeline {
         ensures { result.now ≡ self.now }
     {
         self.places.as_slice()
+    }
+
+    /// At which place of the timeline the core's instruction stands that comes behind so many of its own. Places are
+    /// counted from 0.
+    pub fn seat(&self, core: u8, count: u32) -> u32
+        requires core { core < CORES_MAX }
+        requires count { count < counts nought self.now core }
+        ensures { IsSeat self.now core count result }
+    {
+        self.seats[core as usize].as_slice()[count as usize]
+    }
+
+    /// How many of the core's instructions stand before the place with this number, but at least and at most so many.
+    /// It is found by halving between these two.
+    pub fn count_before(&self, core: u8, low: u32, high: u32, number: usize) -> u32
+        requires core { core < CORES_MAX }
+        requires within { low ≤ high }
+        requires most { high ≤ counts nought self.now core }
+        ensures { result ≡ between low high (counts nought (take number self.now) core) }
+    {
+        some_before(self.seats[core as usize].as_slice(), low, high, number)
+    }
+
+    /// How far the way from one cut to another has come before the place with this number.
+    pub fn cut_before(&self, low: &Cut, high: &Cut, number: usize) -> Cut
+        requires within { IsContained low.now high.now }
+        requires most { (core : ℕ) → core < CORES_MAX → count_in high.now core ≤ counts nought self.now core }
+        ensures cores { result.cores ≡ low.now.cores }
+        ensures places { length result.counts ≡ CORES_MAX }
+        ensures counts { (core : ℕ) → core < CORES_MAX → count_in result core
+            ≡ counts (count_in low.now) (way_before (count_in low.now) (count_in high.now) self.now number) core }
+    {
+        let mut counts = [0; PLACES];
+        for core in 0..CORES_MAX {
+            let place = core as usize;
+            counts[place] = self.count_before(core, low.counts[place], high.counts[place], number);
+        }
+        Cut {
+            cores: low.cores,
+            counts,
+        }
+    }
+
+    /// The number of the first place that is on the way from one cut to another, or a higher one where none is.
+    pub fn start(&self, low: &Cut, high: &Cut) -> usize
+        requires { (core : ℕ) → core < CORES_MAX → count_in high.now core ≤ counts nought self.now core }
+        ensures { (number : ℕ) → number < length self.now → number < result →
+            is_on_way (count_in low.now) (count_in high.now) self.now number ≡ false }
+    {
+        start_of(&self.windows(low, high))
+    }
+
+    /// Behind the last place that is on the way from one cut to another, or 0 where none is.
+    pub fn end(&self, low: &Cut, high: &Cut) -> usize
+        requires { (core : ℕ) → core < CORES_MAX → count_in high.now core ≤ counts nought self.now core }
+        ensures { (number : ℕ) → number < length self.now → result ≤ number →
+            is_on_way (count_in low.now) (count_in high.now) self.now number ≡ false }
+    {
+        end_of(&self.windows(low, high))
     }
 
     /// Of each core the places that stand between its counts in the lower cut and in the higher.
@@ -122,6 +181,27 @@ fn window_of(seats: &[u32], low: u32, high: u32) -> Window
             past: 0,
         }
     }
+}
+
+/// How many of a core's seats come before this number, of which at least and at most so many do or are taken to. It is
+/// found by halving.
+fn some_before(seats: &[u32], low: u32, high: u32, number: usize) -> u32
+    requires rise { Rise seats.now }
+    requires within { low ≤ high }
+    requires most { high ≤ length seats.now }
+    ensures { IsHowMany seats.now low high number result }
+{
+    let mut some = low;
+    let mut past = high;
+    while some < past {
+        let middle = some + (past - some) / 2;
+        if (seats[middle as usize] as usize) < number {
+            some = middle + 1;
+        } else {
+            past = middle;
+        }
+    }
+    some
 }
 
 /// Where each core's instructions stand among these places.

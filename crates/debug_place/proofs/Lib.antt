@@ -1,6 +1,8 @@
 pub mod OwnCuts
 pub mod WalkedWay
-pub mod StopTest
-pub mod LastStop
 pub mod StateAtStop
 pub mod AtCuts
+pub mod StopPlaces
+mod CountTests
+mod SeatTests
+mod PlaceMoves

@@ -1,7 +1,6 @@
--- A place that went back to a noted stop has the state that the places before it play to, from the cut where the way
--- begins.
-use Rattle.std.proofs.Common.{◌≡◌, inl, inr, ℕ, Bool, List, ◌++◌, take, sym, ap, subst, ◌∙◌, arith}
-use Rattle.std.specs.Prelude.{slice_index, Option}
+-- The state at a closed cut is what a way's places play to that lead there from another.
+use Rattle.std.proofs.Common.{◌≡◌, inl, inr, ℕ, List, ◌++◌, sym, ap, subst, ◌∙◌, arith}
+use Rattle.std.specs.Prelude.{slice_index}
 use Rattle.std.proofs.lemmas.Bool.{cases_lt}
 use Rattle.std.proofs.lemmas.List.{get_or_past}
 use Rattle.rtr_types.specs.declared.cut.Cut.{Cut}
@@ -16,13 +15,9 @@ use Rattle.replay_core.specs.Play.{play, played, start}
 use Rattle.replay_core.proofs.Counts.{counts_on}
 use Rattle.replay_core.proofs.Lists.{ordered_join, play_on}
 use Rattle.replay_core.proofs.Places.{play_law}
-use Rattle.cut_replay.specs.ClosedCuts.{count_in}
+use Rattle.cut_replay.specs.ClosedCuts.{count_in, IsClosed}
 use Rattle.cut_replay.specs.CutStates.{IsStateAt}
 use Rattle.cut_moves.proofs.Fronts.{count_is, order_cut}
-use Rattle.cut_moves.specs.Rounds.{rounds_of}
-use Rattle.debug_place.specs.Backs.{IsLastStop, IsNoted, NotesOnWay}
-use Rattle.debug_place.specs.Places.{Placed, Stands, cut_at, plan_at}
-use Rattle.debug_place.specs.declared.backs.Seen.{Seen}
 
 module _ (which : Which) (r : Recording) (valid : Valid r) (order : List ℕ)
     (ordered : IsReplayOrder (plan_of which r) order) where
@@ -73,43 +68,15 @@ module _ (which : Which) (r : Recording) (from : Cut) (s : Outcome) (at : IsStat
   played_joined : played (plan_of which r) (at.some_order.0 ++ front) ≡ play (plan_of which r) s front
   played_joined = play_on q (start q) base front ∙ ap (λ (t : Outcome). play q t front) (sym state_is)
 
-  state_behind : Valid r → (cut : Cut) (state : Outcome) → IsStateAt which r cut state →
+  -- the cut there is closed
+  pub cut_behind : Valid r → IsClosed which r (cut_of (plan_of which r) (counts (counts_in s) front))
+  cut_behind valid = subst (λ (f : ℕ → ℕ). IsClosed which r (cut_of q f)) (sym counts_joined)
+      (order_cut which r (base ++ front) valid joined)
+
+  -- and its state is what they play to
+  pub state_behind : Valid r → (cut : Cut) (state : Outcome) → IsStateAt which r cut state →
       cut ≡ cut_of (plan_of which r) (counts (counts_in s) front) → state ≡ play (plan_of which r) s front
   state_behind valid cut state there cut_is =
       state_there which r valid (base ++ front) joined cut state there
       (cut_is ∙ ap (λ (f : ℕ → ℕ). cut_of q f) counts_joined)
       ∙ played_joined
-
-pub came_back : (test : Plan → Outcome → ℕ → Bool) (old new : Placed) (from : Cut) (s : Outcome) (places : List ℕ)
-    (past : ℕ) (seen : Seen) → new.recording ≡ old.recording → new.which ≡ old.which → Valid old.recording →
-    Stands new → cut_at new ≡ seen.cut → IsStateAt old.which old.recording from s →
-    IsNoted test old.which old.recording s places past seen →
-    IsLastStop test (plan_at old) s places past seen.core new.state
-came_back test old new from s places past seen same_recording same_which valid stands cut_is begins noted =
-    let at : IsStateAt old.which old.recording seen.cut new.state =
-    subst (λ (w : Which). IsStateAt w old.recording seen.cut new.state) same_which
-    (subst (λ (r : Recording). IsStateAt new.which r seen.cut new.state) same_recording
-    (subst (λ (k : Cut). IsStateAt new.which new.recording k new.state) cut_is stands.state)) in
-    record {
-      number = noted.stop.number;
-      inside = noted.stop.inside;
-      core_is = noted.stop.core_is;
-      here = noted.stop.here;
-      behind = noted.stop.behind;
-      state = state_behind old.which old.recording from s begins (take noted.number places) noted.ordered valid
-          seen.cut new.state at noted.cut_is
-          ∙ noted.stop.state;
-    }
-
--- what was noted along the way to here, said of the place
-pub notes_here : (test : Plan → Outcome → ℕ → Bool) (which : Which) (r : Recording) (state : Outcome) (old : Placed) →
-    record { recording = r; which = which; state = state } ≡ old → (from here : Cut) (line : List ℕ) →
-    here ≡ cut_at old → line ≡ rounds_of which r → (seen found : Option Seen) → found ≡ seen →
-    NotesOnWay test which r from here line found →
-    NotesOnWay test old.which old.recording from (cut_at old) (rounds_of old.which old.recording) seen
-notes_here test which r state old view_is from here line here_is line_is seen found is noted =
-    subst (λ (place : Placed).
-    NotesOnWay test place.which place.recording from (cut_at old) (rounds_of place.which place.recording) seen) view_is
-    (subst (λ (k : Cut). NotesOnWay test which r from k (rounds_of which r) seen) here_is
-    (subst (λ (l : List ℕ). NotesOnWay test which r from here l seen) line_is
-    (subst (λ (s : Option Seen). NotesOnWay test which r from here line s) is noted)))

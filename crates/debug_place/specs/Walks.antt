@@ -1,18 +1,15 @@
 -- How far one has come on a way.
-use Rattle.std.specs.Prelude.{◌≡◌, ℕ, Bool, List, Option, MatchOption}
+use Rattle.std.specs.Prelude.{◌≡◌, ℕ, List}
 use Rattle.rtr_types.specs.declared.cut.Cut.{Cut}
 use Rattle.rtr_types.specs.declared.pairs.Which.{Which}
 use Rattle.race_log.specs.declared.recording.Recording.{Recording}
-use Rattle.rv_core.specs.declared.outcome.Outcome.{Outcome}
-use Rattle.replay_core.specs.Answers.{UnderWay, cut_of}
+use Rattle.replay_core.specs.Answers.{UnderWay}
 use Rattle.replay_core.specs.Orders.{Ordered, counts_in}
 use Rattle.replay_core.specs.Plans.{Plan, plan_of}
 use Rattle.replay_core.specs.Play.{place}
 use Rattle.cut_replay.specs.ClosedCuts.{count_in}
 use Rattle.cut_replay.specs.Dues.{IsOnTheWay}
 use Rattle.cut_moves.specs.Ways.{LeadsTo}
-use Rattle.debug_place.specs.Places.{IsReplayAt}
-use Rattle.debug_place.specs.Stops.{IsFirstStop, NoneStops}
 
 -- the places to come are ready one after the other, and lead to the cut
 pub record IsWalking (which : Which) (r : Recording) (to : Cut) (replay : UnderWay) (places : List ℕ) : Type 0 where
@@ -25,12 +22,3 @@ pub record HasTaken (which : Which) (r : Recording) (to : Cut) (old : UnderWay) 
   where
     pub way : IsOnTheWay which r to new
     pub state : new.state ≡ place (plan_of which r) old.state core
-
--- before which core's place of the way it stopped: it's the first stop, and the replay is at the cut of its own counts;
--- or it stopped before none, and is at the cut
-abbrev pub EndsWalk : (test : Plan → Outcome → ℕ → Bool) → (which : Which) → (r : Recording) → (to : Cut) →
-    (old : UnderWay) → (places : List ℕ) → (new : UnderWay) → Option ℕ → Type 0
-EndsWalk test which r to old places new stopped =
-    MatchOption stopped (NoneStops test (plan_of which r) old.state places × IsReplayAt which r to new)
-    (λ core. IsFirstStop test (plan_of which r) old.state places core new.state
-    × IsReplayAt which r (cut_of (plan_of which r) (counts_in new.state)) new)

@@ -1,76 +1,195 @@
-//! Looking for the last stop of a way.
-ghost use Rattle.std.specs.Prelude.{◌≡◌, ◌<◌, IfOk, length};
+//! Looking for a stop of a way: for the first one, or for the last.
+ghost use Rattle.std.specs.Prelude.{◌≡◌, ◌<◌, ◌≤◌, length};
 ghost use Rattle.cut_replay.specs.ClosedCuts.{IsClosed, IsContained};
 ghost use Rattle.cut_moves.specs.Rounds.{rounds_of};
-ghost use Rattle.debug_place.specs.Backs.{NotesLast, NotesOnWay, noted};
-ghost use Rattle.debug_place.specs.Walks.{IsWalking};
+ghost use Rattle.debug_place.specs.Hits.{AreCountsWithin, FirstIn, LastIn, stops_on};
 
-use crate::backs::Seen;
+use crate::counts::{first_count, last_count};
 use crate::stops::Stops;
-use crate::walks::take_place;
-use cut_index::{Index, Standing};
-use cut_moves::{Timeline, way};
-use replay_audit::Audited;
-use rtr_types::Cut;
-use std::alloc::{AllocError, Global};
+use cut_index::Index;
+use cut_moves::Timeline;
+use rtr_types::{CORES_MAX, Cut};
 
-/// The last stop on the way from one closed cut to another that contains it, along the timeline.
-pub(crate) fn last_stop<S: Stops>(
-    alloc: Global,
-    audited: &Audited,
-    timeline: &Timeline,
+/// A place for each core, as the length of an array.
+const PLACES: usize = CORES_MAX as usize;
+
+/// How far one looks at a time, in places of the timeline, before one looks through all that is left.
+const SPANS: [usize; 3] = [1 << 12, 1 << 16, 1 << 20];
+
+/// The number of the first place before which it stops on the way from a cut to another, in the timeline. One looks
+/// farther and farther, so a stop that is near is found soon.
+pub(crate) fn first_stop<S: Stops>(
     index: &Index,
+    timeline: &Timeline,
     stops: &S,
-    from: &Cut,
-    to: &Cut,
-) -> Result<Option<Seen>, AllocError>
-    requires timeline { timeline.now ≡ rounds_of audited.now.which audited.now.recording }
-    requires index { index.now ≡ audited.now }
-    requires from { IsClosed audited.now.which audited.now.recording from.now }
-    requires to { IsClosed audited.now.which audited.now.recording to.now }
-    requires within { IsContained from.now to.now }
-    ensures { IfOk result (NotesOnWay (S.stops stops.now) audited.now.which audited.now.recording from.now to.now
-        timeline.now) }
+    low: &Cut,
+    high: &Cut,
+) -> Option<usize>
+    requires timeline { timeline.now ≡ rounds_of index.now.which index.now.recording }
+    requires low { IsClosed index.now.which index.now.recording low.now }
+    requires high { IsClosed index.now.which index.now.recording high.now }
+    requires within { IsContained low.now high.now }
+    ensures { FirstIn (stops_on (S.hits stops.now) index.now.which index.now.recording low.now high.now timeline.now) 0
+        (length timeline.now) result }
 {
-    // The audit passed, so each order plays.
+    // The audit passed, so the timeline is whole.
+    let audited = index.audited();
     let _ = audited.outcome();
     let _ = audited.recording();
-    let mut standing = Standing::at(index, from);
-    let places = way(alloc, audited, timeline, from, to)?;
-    Ok(look(audited, stops, &mut standing, to, places.as_slice()))
+    let places = timeline.as_slice().len();
+    let mut from = 0;
+    if is_long(low, high) {
+        let start = timeline.start(low, high);
+        for span in SPANS {
+            let past = start.saturating_add(span).min(places);
+            if let Some(number) = first_within(index, timeline, stops, low, high, from, past) {
+                return Some(number);
+            }
+            from = past;
+        }
+    }
+    first_within(index, timeline, stops, low, high, from, places)
 }
 
-/// The last of the places before which it stops, from where it stands on.
-fn look<S: Stops>(
-    audited: &Audited,
+/// The number of the last place before which it stops on the way from a cut to another, in the timeline. One looks
+/// farther and farther back.
+pub(crate) fn last_stop<S: Stops>(
+    index: &Index,
+    timeline: &Timeline,
     stops: &S,
-    standing: &mut Standing,
-    to: &Cut,
-    places: &[u8],
-) -> Option<Seen>
-    requires { IsWalking audited.now.which audited.now.recording to.now standing.old places.now }
-    ensures { NotesLast (S.stops stops.now) audited.now.which audited.now.recording standing.old.state places.now
-        (length places.now) result }
+    low: &Cut,
+    high: &Cut,
+) -> Option<usize>
+    requires timeline { timeline.now ≡ rounds_of index.now.which index.now.recording }
+    requires low { IsClosed index.now.which index.now.recording low.now }
+    requires high { IsClosed index.now.which index.now.recording high.now }
+    requires within { IsContained low.now high.now }
+    ensures { LastIn (stops_on (S.hits stops.now) index.now.which index.now.recording low.now high.now timeline.now) 0
+        (length timeline.now) result }
 {
-    // The audit passed, so each order plays.
+    // The audit passed, so the timeline is whole.
+    let audited = index.audited();
     let _ = audited.outcome();
-    let mut last = None;
-    for core in places {
-        last = noted(stops, standing, *core).or(last);
-        take_place(audited, standing, to, *core);
+    let _ = audited.recording();
+    let mut past = timeline.as_slice().len();
+    if is_long(low, high) {
+        let end = timeline.end(low, high);
+        for span in SPANS {
+            let from = end.saturating_sub(span).min(past);
+            if let Some(number) = last_within(index, timeline, stops, low, high, from, past) {
+                return Some(number);
+            }
+            past = from;
+        }
     }
-    last
+    last_within(index, timeline, stops, low, high, 0, past)
 }
 
-/// The stop before the core's next place, if it stops there.
-fn noted<S: Stops>(stops: &S, standing: &Standing, core: u8) -> Option<Seen>
-    requires { core < length standing.now.plan.totals }
-    ensures { result ≡ noted (S.stops stops.now) standing.now core }
-{
-    if stops.stops(standing, core) {
-        let cut = standing.cut();
-        Some(Seen { core, cut })
-    } else {
-        None
+/// Whether the way has more places than one looks at at first.
+fn is_long(low: &Cut, high: &Cut) -> bool {
+    let mut places: usize = 0;
+    for core in 0..PLACES {
+        let more = high.counts[core].saturating_sub(low.counts[core]);
+        places = places.saturating_add(more as usize);
     }
+    places > SPANS[0]
+}
+
+/// The number of the first place before which it stops on the way, of those from a number on, before another. Each core
+/// is looked at on its own, and no farther than to the stop that was found.
+fn first_within<S: Stops>(
+    index: &Index,
+    timeline: &Timeline,
+    stops: &S,
+    low: &Cut,
+    high: &Cut,
+    from: usize,
+    past: usize,
+) -> Option<usize>
+    requires timeline { timeline.now ≡ rounds_of index.now.which index.now.recording }
+    requires low { IsClosed index.now.which index.now.recording low.now }
+    requires high { IsClosed index.now.which index.now.recording high.now }
+    requires within { IsContained low.now high.now }
+    requires past { past ≤ length timeline.now }
+    ensures { FirstIn (stops_on (S.hits stops.now) index.now.which index.now.recording low.now high.now timeline.now)
+        from past result }
+{
+    // A valid recording has no more cores than there may be, and the audit passed, so the timeline is whole.
+    let audited = index.audited();
+    let _ = audited.outcome();
+    let recording = audited.recording();
+    let mut found = None;
+    let mut past = past;
+    for core in 0..recording.params.cores {
+        let (least, most) = counts_within(index, timeline, core, low, high, from, past);
+        if let Some(count) = first_count(index, stops, core, least, most) {
+            past = timeline.seat(core, count) as usize;
+            found = Some(past);
+        }
+    }
+    found
+}
+
+/// The number of the last place before which it stops on the way, of those from a number on, before another.
+fn last_within<S: Stops>(
+    index: &Index,
+    timeline: &Timeline,
+    stops: &S,
+    low: &Cut,
+    high: &Cut,
+    from: usize,
+    past: usize,
+) -> Option<usize>
+    requires timeline { timeline.now ≡ rounds_of index.now.which index.now.recording }
+    requires low { IsClosed index.now.which index.now.recording low.now }
+    requires high { IsClosed index.now.which index.now.recording high.now }
+    requires within { IsContained low.now high.now }
+    requires past { past ≤ length timeline.now }
+    ensures { LastIn (stops_on (S.hits stops.now) index.now.which index.now.recording low.now high.now timeline.now)
+        from past result }
+{
+    // A valid recording has no more cores than there may be, and the audit passed, so the timeline is whole.
+    let audited = index.audited();
+    let _ = audited.outcome();
+    let recording = audited.recording();
+    let mut found = None;
+    let mut from = from;
+    for core in 0..recording.params.cores {
+        let (least, most) = counts_within(index, timeline, core, low, high, from, past);
+        if let Some(count) = last_count(index, stops, core, least, most) {
+            let number = timeline.seat(core, count) as usize;
+            from = number + 1;
+            found = Some(number);
+        }
+    }
+    found
+}
+
+/// Those of a core's counts on the way that stand from a number on, before another.
+fn counts_within(
+    index: &Index,
+    timeline: &Timeline,
+    core: u8,
+    low: &Cut,
+    high: &Cut,
+    from: usize,
+    past: usize,
+) -> (u32, u32)
+    requires timeline { timeline.now ≡ rounds_of index.now.which index.now.recording }
+    requires high { IsClosed index.now.which index.now.recording high.now }
+    requires within { IsContained low.now high.now }
+    requires core { core < index.now.recording.params.cores }
+    ensures { AreCountsWithin index.now.which index.now.recording core low.now high.now timeline.now from past result.0
+        result.1 }
+{
+    // A valid recording has no more cores than there may be, and the audit passed, so the timeline is whole.
+    let audited = index.audited();
+    let _ = audited.outcome();
+    let _ = audited.recording();
+    let least = low.counts[core as usize];
+    let most = high.counts[core as usize];
+    (
+        timeline.count_before(core, least, most, from),
+        timeline.count_before(core, least, most, past),
+    )
 }

@@ -10,9 +10,8 @@ ghost use Rattle.debug_place.specs.Places.{IsKept, IsReplayAt, Stands, cut_at, p
 ghost use Rattle.debug_place.specs.Backs.{GoesBack};
 ghost use Rattle.debug_place.specs.Stops.{GoesOn};
 
-use crate::looks::last_stop;
-use crate::stops::Stops;
-use crate::walks::{Stopped, go_until};
+use crate::looks::{first_stop, last_stop};
+use crate::stops::{Stopped, Stops};
 use cut_index::{Index, Standing};
 use cut_moves::{Timeline, step, step_back};
 use replay_audit::Audited;
@@ -189,54 +188,52 @@ impl<'a> Place<'a> {
     }
 
     /// Goes on to a closed cut that contains the present one, place by place along the timeline, until the test stops
-    /// it before a core takes its next instruction. It answers which core that is, or that it came to the cut. A refusal,
-    /// which comes for want of memory alone, leaves the place as it was.
-    pub fn go_to<S: Stops>(&mut self, alloc: Global, stops: &S, to: &Cut) -> Stopped
+    /// it before a core takes its next instruction. It answers which core that is, or that it came to the cut. It takes
+    /// no memory, and is never refused.
+    pub fn go_to<S: Stops>(&mut self, _alloc: Global, stops: &S, to: &Cut) -> Stopped
         requires closed { IsClosed self.old.which self.old.recording to.now }
         requires within { IsContained (cut_at self.old) to.now }
         ensures kept { IsKept self.old self.new }
         ensures ok { IfOk result (GoesOn (S.stops stops.now) self.old to.now self.new) }
         ensures err { OnErr result (self.new ≡ self.old) }
+        ensures never_refused { IsOk result }
     {
         // The audit passed, so each cut has one state.
         let _ = self.audited.outcome();
-        let low = self.cut;
-        let mut standing = Standing::at(&self.index, &low);
-        let stopped = go_until(
-            alloc,
-            self.audited,
-            &self.timeline,
-            stops,
-            &mut standing,
-            &low,
-            to,
-        )?;
-        self.cut = standing.cut();
-        Ok(stopped)
+        match first_stop(&self.index, &self.timeline, stops, &self.cut, to) {
+            Some(number) => {
+                let core = self.timeline.as_slice()[number];
+                self.cut = self.timeline.cut_before(&self.cut, to, number);
+                Ok(Some(core))
+            }
+            None => {
+                self.cut = *to;
+                Ok(None)
+            }
+        }
     }
 
     /// Goes back to a closed cut within the present one, place by place along the timeline, until the test stops it: to
     /// the last cut of the way from there to here at which it stops before a core takes its next instruction. It
-    /// answers which core that is, or that it came to the cut. A refusal, which comes for want of memory alone, leaves
-    /// the place as it was.
-    pub fn back<S: Stops>(&mut self, alloc: Global, stops: &S, to: &Cut) -> Stopped
+    /// answers which core that is, or that it came to the cut. It takes no memory, and is never refused.
+    pub fn back<S: Stops>(&mut self, _alloc: Global, stops: &S, to: &Cut) -> Stopped
         requires closed { IsClosed self.old.which self.old.recording to.now }
         requires within { IsContained to.now (cut_at self.old) }
         ensures kept { IsKept self.old self.new }
         ensures ok { IfOk result (GoesBack (S.stops stops.now) self.old to.now self.new) }
         ensures err { OnErr result (self.new ≡ self.old) }
+        ensures never_refused { IsOk result }
     {
-        let here = self.cut();
-        let timeline = &self.timeline;
-        match last_stop(alloc, self.audited, timeline, &self.index, stops, to, &here)? {
-            Some(seen) => {
-                self.seek(alloc, &seen.cut)?;
-                // The cut at which it stands by now is the one that was seen.
-                let _ = self.cut();
-                Ok(Some(seen.core))
+        // The audit passed, so each cut has one state.
+        let _ = self.audited.outcome();
+        match last_stop(&self.index, &self.timeline, stops, to, &self.cut) {
+            Some(number) => {
+                let core = self.timeline.as_slice()[number];
+                self.cut = self.timeline.cut_before(to, &self.cut, number);
+                Ok(Some(core))
             }
             None => {
-                self.seek(alloc, to)?;
+                self.cut = *to;
                 Ok(None)
             }
         }

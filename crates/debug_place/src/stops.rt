@@ -1,17 +1,41 @@
 //! What stops a place that goes on.
-ghost use Rattle.std.specs.Prelude.{◌≡◌, ◌<◌, ℕ, Bool, length};
+ghost use Rattle.std.specs.Prelude.{◌≡◌, ◌<◌, ℕ, Bool, false, true};
+ghost use Rattle.rtr_types.specs.declared.TheConstants.{CORES_MAX};
 ghost use Rattle.rv_core.specs.declared.outcome.Outcome.{Outcome};
 ghost use Rattle.replay_core.specs.Plans.{Plan};
+ghost use Rattle.debug_place.specs.Hits.{Hits, hit_in};
+ghost use Rattle.cut_index.specs.declared.alone.Next.{Next as SomeNext};
 
-use cut_index::Standing;
+use cut_index::Next;
+use std::alloc::AllocError;
+
+/// Before which core's next instruction a move was stopped; none where it came to its cut. No move is refused.
+pub type Stopped = Result<Option<u8>, AllocError>;
 
 /// A test by which a place stops.
 pub trait Stops {
     /// Whether it stops in a state, before a core takes its next instruction.
     ghost stops: { Self → Plan → Outcome → ℕ → Bool };
 
-    /// Whether it stops where this stands, before the core takes its next instruction.
-    fn stops(&self, standing: &Standing, core: u8) -> bool
-        requires { core < length standing.now.plan.totals }
-        ensures { result ≡ stops self.now standing.now.plan standing.now.state core };
+    /// The same by the core's own count and its next instruction.
+    ghost hits: { Self → Hits };
+
+    /// Nothing else of a state matters to it.
+    ghost own: { (test : Self) (p : Plan) (s : Outcome) (core : ℕ) →
+        stops test p s core ≡ hit_in (hits test) p s core };
+
+    /// Whether it stops a core before this instruction.
+    fn hits(&self, core: u8, next: Next) -> bool
+        requires { core < CORES_MAX }
+        ensures { result ≡ (hits self.now).each core next };
+
+    /// Whether it stops a core before its last instruction, whatever that is.
+    fn stops_last(&self, core: u8) -> bool
+        requires { core < CORES_MAX }
+        ensures { result ≡ (hits self.now).last core };
+
+    /// Whether no instruction but its last can stop a core.
+    fn passes_all(&self, core: u8) -> bool
+        requires { core < CORES_MAX }
+        ensures { result ≡ true → (next : SomeNext) → (hits self.now).each core next ≡ false };
 }

@@ -9,7 +9,7 @@ ghost use Rattle.end_claims.specs.Numbers.{prefixed_number, word_of};
 use tool_words::number_between;
 
 /// What stands before and after the first character of this kind.
-pub(crate) fn parted(at: char, text: &str) -> Option<(&str, &str)>
+pub fn parted(at: char, text: &str) -> Option<(&str, &str)>
     requires { at < 128 }
     ensures { option_map (λ parts. (parts.0.now, parts.1.now)) result ≡ parted at text.now }
 {
@@ -18,7 +18,7 @@ pub(crate) fn parted(at: char, text: &str) -> Option<(&str, &str)>
 
 /// What stands behind the first character of this kind, where the text before it is `front`.
 #[tactic(auto, unfolding(crate::specs::Numbers::behind))]
-pub(crate) fn behind<'a>(front: &str, at: char, text: &'a str) -> Option<&'a str>
+pub fn behind<'a>(front: &str, at: char, text: &'a str) -> Option<&'a str>
     requires { at < 128 }
     ensures { option_map (λ rest. rest.now) result ≡ behind front.now at text.now }
 {

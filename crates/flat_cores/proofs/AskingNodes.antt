@@ -462,3 +462,37 @@ give_back_stands f f' s memory c word n n' line ask state within is looks copy o
         ∙ (put_row own.state (is_write need_is.0) copy
         ∙ (ap (λ (x : Ask). Some (row_of (asked_as x) (leaving own.state))) (sym ask_own)
         ∙ ap (λ (l : KeptLine). Some (row_of (asked_as ask) l.state)) (sym line_own)))
+
+-- ---- an ask tells nothing
+
+module _ (f : Flat) (s : PlainState) (memory : ℕ → List ℕ) (c word : ℕ) (within : c < length f.nodes.items)
+    (stands : Stands f s memory) (on : enabled none_riding none_carrying s (CoreMove c) ≡ true) where
+  abbrev asker : Node
+  asker = node_at f.nodes.items c
+
+  abbrev asked_line : KeptLine
+  asked_line = line_at (node_at f.nodes.items c) (word / BLOCK_WORDS % LINES)
+
+  pub ask_for_told : looked (node_at f.nodes.items c).need ≡ Some word →
+      (line_at (node_at f.nodes.items c) (word / BLOCK_WORDS % LINES)).state ≡ I →
+      plain_event s (CoreMove c) ≡ Nothing
+  ask_for_told looks missing =
+      let need_is = look_needed asker.need word looks in
+      nothing_told f s memory c word need_is.0 within need_is.1
+      (missed_empty (is_write need_is.0) (word / BLOCK_WORDS) asked_line missing) stands on
+
+  pub upgrade_told : written (node_at f.nodes.items c).need ≡ Some word →
+      (line_at (node_at f.nodes.items c) (word / BLOCK_WORDS % LINES)).state ≡ S →
+      plain_event s (CoreMove c) ≡ Nothing
+  upgrade_told writes shared =
+      let need_is = write_needed asker.need word writes in
+      nothing_told f s memory c word (kind_of asker.need) within need_is.0
+      (missed_shared (is_write (kind_of asker.need)) (word / BLOCK_WORDS) asked_line need_is.1 shared) stands on
+
+  pub give_back_told : looked (node_at f.nodes.items c).need ≡ Some word →
+      ((line_at (node_at f.nodes.items c) (word / BLOCK_WORDS % LINES)).block == (word / BLOCK_WORDS)) ≡ false →
+      plain_event s (CoreMove c) ≡ Nothing
+  give_back_told looks other =
+      let need_is = look_needed asker.need word looks in
+      nothing_told f s memory c word need_is.0 within need_is.1
+      (missed_other (is_write need_is.0) (word / BLOCK_WORDS) asked_line other) stands on

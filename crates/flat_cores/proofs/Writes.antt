@@ -1,11 +1,13 @@
 -- A store or an atomic memory operation that hits: the core's node is another, and one word of its block's entry.
 use Rattle.std.proofs.Common.{◌≡◌, ◌≢◌, ◌∙◌, ◌⊎◌, inl, inr, refl, sym, ap, subst, ℕ, ◌<◌, ◌==◌, ◌/◌, ◌%◌, Bool, true}
 use Rattle.std.proofs.Common.{false}
-use Rattle.std.proofs.Common.{List, length, arith, Option, Some, None}
+use Rattle.std.proofs.Common.{List, length, map, get_or, arith, Option, Some, None}
 use Rattle.std.specs.Prelude.{slice_set, slice_index, ◌&&◌, if◌then◌else◌}
 use Rattle.std.proofs.lemmas.Bool.{cases_eq}
 use Rattle.std.proofs.lemmas.Bool.Decides.{nat_tests}
 use Rattle.std.proofs.lemmas.List.{set-get_or}
+use Rattle.std.proofs.Math.ListN.{get_or-map}
+use Rattle.std.proofs.Math.Seq.{map-set_same}
 use Rattle.access_times.specs.Riding.{none_riding, none_carrying}
 use Rattle.image_mem.specs.Contents.{Contents}
 use Rattle.rtr_types.specs.Accesses.{is_write}
@@ -43,11 +45,11 @@ use Rattle.flat_state.specs.declared.flat.Flat.{Flat}
 use Rattle.flat_state.specs.declared.node.KeptLine.{KeptLine}
 use Rattle.flat_state.specs.declared.node.Node.{Node}
 use Rattle.flat_state.specs.Shows.{HomeShows, NodeShows, Stands, WordsKept, block_at, blocks_of, held_as, home_at}
-use Rattle.flat_state.specs.Shows.{kept_line, line_at, node_after, node_at, owns}
+use Rattle.flat_state.specs.Shows.{kept_line, line_at, no_block, node_after, node_at, owns}
 use Rattle.flat_state.proofs.HomeBlocks.{block_is, block_same, blocks_same, elsewhere_now, here_now, home_set, longer}
 use Rattle.flat_state.proofs.HomeBlocks.{place_within, shorter}
 use Rattle.flat_state.proofs.NodeReads.{core_within, line_is, own_node}
-use Rattle.flat_cores.specs.Needs.{kind_of, written}
+use Rattle.flat_cores.specs.Needs.{but_words, kind_of, written}
 use Rattle.flat_cores.proofs.Hits.{block_of_hit, told_access, worked_stands}
 
 -- the block with other words
@@ -61,6 +63,16 @@ held_with IsOwned b words = refl
 held_with InAcks b words = refl
 held_with ToShare b words = refl
 held_with ToOwn b words = refl
+
+-- an entry that has other words is the same but for them
+pub but_words_same : (home home' : List HomeBlock) (place : ℕ) (b' : HomeBlock) → home' ≡ slice_set home place b' →
+    but_words b' ≡ but_words (home_at home place) → (i : ℕ) →
+    but_words (home_at home' i) ≡ but_words (home_at home i)
+but_words_same home home' place b' is same i =
+    sym (get_or-map but_words home' i no_block)
+    ∙ (ap (λ (l : List HomeBlock). get_or (map but_words l) i (but_words no_block)) is
+    ∙ (ap (λ (l : List HomeBlock). get_or l i (but_words no_block)) (map-set_same but_words home place b' no_block same)
+    ∙ get_or-map but_words home i no_block))
 
 -- its words are no part of what the home shows
 pub home_words : {R : Type 0} (fresh : R) (home home' : List HomeBlock) (entries : List (Entry R)) (place : ℕ)

@@ -1,15 +1,18 @@
 -- What a core's own move looks at, and how it asks.
-use Rattle.std.specs.Prelude.{ℕ, Bool, true, false, Option, Some, None, slice_set}
+use Rattle.std.specs.Prelude.{ℕ, Bool, true, false, Option, Some, None, List, [], slice_set}
 use Rattle.rtr_types.specs.declared.access.Kind.{Kind}
 use Rattle.rtr_types.specs.declared.access.Kind.TheVariants.{Load as Loading, Store as Storing, Amo as Exchanging}
 use Rattle.rv_core.specs.declared.core_state.Need.{Need}
 use Rattle.rv_core.specs.declared.core_state.Need.TheVariants.{Load, Store, Amo}
 use Rattle.msi_cache.specs.declared.line.State.{State as LineState}
-use Rattle.msi_cache.specs.declared.line.State.TheVariants.{S, M, IsD, ImD, SiA, MiA}
+use Rattle.msi_cache.specs.declared.line.State.TheVariants.{S, M, IsD, ImD, SmD, SiA, MiA}
 use Rattle.flat_state.specs.declared.node.Ask.{Ask}
 use Rattle.flat_state.specs.declared.node.Ask.TheVariants.{GetS, GetM, PutS, PutM}
 use Rattle.flat_state.specs.declared.node.KeptLine.{KeptLine}
+use Rattle.flat_state.specs.declared.block.HomeBlock.{HomeBlock}
+use Rattle.flat_state.specs.declared.flat.Flat.{Flat}
 use Rattle.flat_state.specs.declared.node.Node.{Node}
+use Rattle.flat_state.specs.Shows.{line_at, node_after, node_at}
 
 -- the word that the instruction writes, if it may write one
 abbrev pub written : Need → Option ℕ
@@ -58,3 +61,28 @@ leaving _ = SiA
 abbrev pub node_asked : Node → (index : ℕ) → KeptLine → Ask → Node
 node_asked n index line ask =
     record n { lines = slice_set n.lines index line; asks = true; ask = ask; place = line.place }
+
+-- ---- what a move leaves
+
+-- an entry but for its words
+abbrev pub but_words : HomeBlock → HomeBlock
+but_words b = record b { words = [] }
+
+-- the core's node once its instruction retired, which found this word
+abbrev pub node_retired_at : Flat → (core : ℕ) → (before : ℕ) → Node
+node_retired_at f core before = node_after f.program (node_at f.nodes.items core) (node_at f.nodes.items core).core before
+
+-- the core's node once it asks for what its instruction needs, whose block has its entry at this place
+abbrev pub node_asking_for : Node → (block place index : ℕ) → Node
+node_asking_for n block place index =
+    node_asked n index (record { block = block; place = place; state = getting n.need }) (get_of n.need)
+
+-- the core's node once it asks to own what it shares
+abbrev pub node_upgrading : Node → (index : ℕ) → Node
+node_upgrading n index = node_asked n index (record (line_at n index) { state = SmD }) GetM
+
+-- the core's node once it gives its copy back
+abbrev pub node_giving : Node → (index : ℕ) → Node
+node_giving n index =
+    node_asked n index (record (line_at n index) { state = leaving (line_at n index).state })
+    (put_of (line_at n index).state)

@@ -1,10 +1,12 @@
 //! A core asks the home for what its next instruction needs.
-ghost use Rattle.std.specs.Prelude.{◌≡◌, ◌<◌, ◌/◌, ◌%◌, ◌==◌, Some, false, length, true};
+ghost use Rattle.std.specs.Prelude.{◌≡◌, ◌<◌, ◌/◌, ◌%◌, ◌==◌, Some, false, length, slice_set, true};
 ghost use Rattle.rtr_types.specs.declared.TheConstants.{BLOCK_WORDS, LINES};
 ghost use Rattle.msi_cache.specs.declared.line.State.TheVariants.{I, S};
+ghost use Rattle.msi_state.specs.Events.{Nothing};
 ghost use Rattle.msi_state.specs.declared.moves.Move.{Move};
-ghost use Rattle.flat_state.specs.Shows.{IsSomewhere, Makes, blocks_of, home_at, line_at, node_at};
-ghost use Rattle.flat_cores.specs.Needs.{get_of, getting, is_copy, leaving, looked, node_asked, put_of, written};
+ghost use Rattle.flat_state.specs.Shows.{IsSomewhere, Makes, Tells, home_at, line_at, node_at};
+ghost use Rattle.flat_cores.specs.Needs.{get_of, getting, is_copy, leaving, looked, node_asked, node_asking_for, node_giving};
+ghost use Rattle.flat_cores.specs.Needs.{node_upgrading, put_of, written};
 
 use flat_state::{Ask, Flat, KeptLine, Node};
 use msi_cache::State;
@@ -21,7 +23,10 @@ pub fn ask_for(flat: &mut Flat, core: u8, word: u32, place: u32)
     requires place { place < length flat.old.home.items }
     requires block { (home_at flat.old.home.items place).block ≡ word / BLOCK_WORDS }
     ensures makes { Makes flat.old flat.new (Move.Core core) }
-    ensures blocks { blocks_of flat.new.home.items ≡ blocks_of flat.old.home.items }
+    ensures told { Tells flat.old (Move.Core core) Nothing }
+    ensures nodes { flat.new.nodes.items ≡ slice_set flat.old.nodes.items core
+        (node_asking_for (node_at flat.old.nodes.items core) (word / BLOCK_WORDS) place (word / BLOCK_WORDS % LINES)) }
+    ensures home { flat.new.home.items ≡ flat.old.home.items }
 {
     let node = &mut flat.nodes[core as usize];
     let state = getting(node.need);
@@ -43,7 +48,10 @@ pub fn upgrade(flat: &mut Flat, core: u8, word: u32)
     requires block { (line_at (node_at flat.old.nodes.items core) (word / BLOCK_WORDS % LINES)).block
         ≡ word / BLOCK_WORDS }
     ensures makes { Makes flat.old flat.new (Move.Core core) }
-    ensures blocks { blocks_of flat.new.home.items ≡ blocks_of flat.old.home.items }
+    ensures told { Tells flat.old (Move.Core core) Nothing }
+    ensures nodes { flat.new.nodes.items ≡ slice_set flat.old.nodes.items core
+        (node_upgrading (node_at flat.old.nodes.items core) (word / BLOCK_WORDS % LINES)) }
+    ensures home { flat.new.home.items ≡ flat.old.home.items }
 {
     let node = &mut flat.nodes[core as usize];
     let index = word as usize / BLOCK_WORDS % LINES;
@@ -63,7 +71,10 @@ pub fn give_back(flat: &mut Flat, core: u8, word: u32)
     requires other { ((line_at (node_at flat.old.nodes.items core) (word / BLOCK_WORDS % LINES)).block
         == (word / BLOCK_WORDS)) ≡ false }
     ensures makes { Makes flat.old flat.new (Move.Core core) }
-    ensures blocks { blocks_of flat.new.home.items ≡ blocks_of flat.old.home.items }
+    ensures told { Tells flat.old (Move.Core core) Nothing }
+    ensures nodes { flat.new.nodes.items ≡ slice_set flat.old.nodes.items core
+        (node_giving (node_at flat.old.nodes.items core) (word / BLOCK_WORDS % LINES)) }
+    ensures home { flat.new.home.items ≡ flat.old.home.items }
 {
     let node = &mut flat.nodes[core as usize];
     let index = word as usize / BLOCK_WORDS % LINES;

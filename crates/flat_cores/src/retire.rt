@@ -1,11 +1,11 @@
 //! A core retires an instruction.
-ghost use Rattle.std.specs.Prelude.{◌≡◌, ◌<◌, ◌/◌, Some, length, true};
+ghost use Rattle.std.specs.Prelude.{◌≡◌, ◌<◌, ◌/◌, ℕ, Some, length, slice_set, true};
 ghost use Rattle.rtr_types.specs.declared.TheConstants.{BLOCK_WORDS};
 ghost use Rattle.rv_core.specs.declared.core_state.Need.TheVariants.{Load, Local};
 ghost use Rattle.msi_state.specs.Events.{Accesses, Retires};
 ghost use Rattle.msi_state.specs.declared.moves.Move.{Move};
-ghost use Rattle.flat_state.specs.Shows.{IsSomewhere, Makes, Tells, blocks_of, hits, node_at, owns};
-ghost use Rattle.flat_cores.specs.Needs.{kind_of, written};
+ghost use Rattle.flat_state.specs.Shows.{IsSomewhere, Makes, Tells, blocks_of, hits, home_at, node_at, owns};
+ghost use Rattle.flat_cores.specs.Needs.{but_words, kind_of, node_retired_at, written};
 
 use flat_state::Flat;
 use rtr_types::{Access, BLOCK_WORDS, Instr, Kind, LINES};
@@ -18,7 +18,9 @@ pub fn retire_local(flat: &mut Flat, core: u8) -> Instr
     requires local { (node_at flat.old.nodes.items core).need ≡ Local }
     ensures makes { Makes flat.old flat.new (Move.Core core) }
     ensures told { Tells flat.old (Move.Core core) (Retires result) }
-    ensures blocks { blocks_of flat.new.home.items ≡ blocks_of flat.old.home.items }
+    ensures nodes { flat.new.nodes.items
+        ≡ slice_set flat.old.nodes.items core (node_retired_at flat.old core 0) }
+    ensures home { flat.new.home.items ≡ flat.old.home.items }
 {
     let node = &mut flat.nodes[core as usize];
     let at = node.next_instr(&flat.program);
@@ -34,7 +36,9 @@ pub fn retire_load(flat: &mut Flat, core: u8, word: u32) -> Access
     requires hit { hits (node_at flat.old.nodes.items core) (word / BLOCK_WORDS) ≡ true }
     ensures makes { Makes flat.old flat.new (Move.Core core) }
     ensures told { Tells flat.old (Move.Core core) (Accesses result) }
-    ensures blocks { blocks_of flat.new.home.items ≡ blocks_of flat.old.home.items }
+    ensures nodes { flat.new.nodes.items
+        ≡ slice_set flat.old.nodes.items core (node_retired_at flat.old core result.before) }
+    ensures home { flat.new.home.items ≡ flat.old.home.items }
 {
     let node = &mut flat.nodes[core as usize];
     let place = node.lines[word as usize / BLOCK_WORDS % LINES].place;
@@ -58,6 +62,9 @@ pub fn retire_write(flat: &mut Flat, core: u8, word: u32) -> Access
     requires hit { owns (node_at flat.old.nodes.items core) (word / BLOCK_WORDS) ≡ true }
     ensures makes { Makes flat.old flat.new (Move.Core core) }
     ensures told { Tells flat.old (Move.Core core) (Accesses result) }
+    ensures nodes { flat.new.nodes.items
+        ≡ slice_set flat.old.nodes.items core (node_retired_at flat.old core result.before) }
+    ensures home { (i : ℕ) → but_words (home_at flat.new.home.items i) ≡ but_words (home_at flat.old.home.items i) }
     ensures blocks { blocks_of flat.new.home.items ≡ blocks_of flat.old.home.items }
 {
     let node = &mut flat.nodes[core as usize];

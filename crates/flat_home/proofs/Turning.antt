@@ -1,5 +1,7 @@
 -- An entry that was turned as a row says is the row's, and what is told of it is what the row sends.
-use Rattle.std.proofs.Common.{◌≡◌, ◌∙◌, refl, sym, ap, subst, ℕ, ◌<◌, Option, Some, None, List}
+use Rattle.std.proofs.Common.{◌≡◌, ◌∙◌, refl, sym, ap, subst, ℕ, ◌≢◌, ◌<◌, Option, Some, None, List, length}
+use Rattle.std.specs.Prelude.{slice_set}
+use Rattle.std.proofs.lemmas.List.{length-set}
 use Rattle.access_times.specs.Riding.{Riding}
 use Rattle.rtr_types.proofs.Lists.{some_same}
 use Rattle.rtr_types.proofs.Members.{has-no_cores}
@@ -12,9 +14,13 @@ use Rattle.msi_directory.specs.declared.entry.HomeAnswer.{HomeAnswer}
 use Rattle.msi_memory.specs.Rests.{hears}
 use Rattle.rtr_types.specs.declared.core_set.CoreSet.{CoreSet}
 use Rattle.flat_state.specs.declared.block.HomeBlock.{HomeBlock}
-use Rattle.flat_state.specs.Shows.{BlockShows, told_as}
+use Rattle.flat_state.specs.declared.flat.Flat.{Flat}
+use Rattle.flat_state.specs.declared.node.Node.{Node}
+use Rattle.flat_state.specs.Shows.{BlockShows, home_at, node_at, told_as}
+use Rattle.flat_state.proofs.HomeBlocks.{elsewhere_now, here_now}
 use Rattle.flat_state.proofs.HomeTurns.{told_message}
-use Rattle.flat_home.specs.Tellings.{IsTurned, Turn, addressee, invalidates, sends, tells, told_of, turn_of, turned}
+use Rattle.flat_home.specs.Tellings.{HasTurned, IsTurned, Turn, addressee, invalidates, sends, tells, told_of}
+use Rattle.flat_home.specs.Tellings.{turn_of, turned, with_message}
 use Rattle.flat_home.specs.declared.tellings.Telling.{Telling}
 use Rattle.flat_home.specs.declared.tellings.Telling.TheVariants.{Data, Ack, FwdS, FwdM, Each, Nobody}
 
@@ -100,3 +106,30 @@ module _ {R : Type 0} where
   to_there (FwdM k) block e n to there is = subst (λ (x : ℕ). x < n) (some_same _ _ is) (there k _ refl)
   to_there (Each set) block e n to there is = absurd (cc)
   to_there Nobody block e n to there is = absurd (cc)
+
+-- ---- the flat state once an entry was turned and the nodes were told
+
+pub has_turned : (f f' : Flat) (row : Option HomeRow) (c place : ℕ) (left left' : Node) (b0 b' : HomeBlock)
+    (telling : Telling) → place < length f.home.items → b0 ≡ home_at f.home.items place → left ≡ left' →
+    IsTurned row b0 b' telling →
+    ((to : ℕ) → addressee telling ≡ Some to → to < length (slice_set f.nodes.items c left)) →
+    f'.home.items ≡ slice_set f.home.items place b' →
+    length f'.nodes.items ≡ length (slice_set f.nodes.items c left) →
+    ((d : ℕ) → d < length (slice_set f.nodes.items c left) → node_at f'.nodes.items d
+    ≡ with_message (tells telling d) place (told_of telling) (node_at (slice_set f.nodes.items c left) d)) →
+    HasTurned f f' c left' (record { place = place; telling = telling })
+has_turned f f' row c place left left' b0 b' telling lies found is turn there home long nodes =
+    record {
+      lies = lies;
+      there = λ to at. subst (λ (k : ℕ). to < k) (length-set f.nodes.items c left) (there to at);
+      long = long ∙ length-set f.nodes.items c left;
+      nodes = λ d within. nodes d (subst (λ (k : ℕ). d < k) (sym (length-set f.nodes.items c left)) within)
+          ∙ ap (λ (x : Node). with_message (tells telling d) place (told_of telling)
+          (node_at (slice_set f.nodes.items c x) d)) is;
+      others = λ i apart. elsewhere_now f.home.items f'.home.items place b' home same i apart;
+      askers = ap (λ (x : HomeBlock). x.askers) (here_now f.home.items f'.home.items place b' home same lies)
+          ∙ (turn.askers ∙ ap (λ (x : HomeBlock). x.askers) found);
+    }
+  where
+    same : b'.block ≡ (home_at f.home.items place).block
+    same = turn.block ∙ ap (λ (x : HomeBlock). x.block) found

@@ -14,5 +14,5 @@ mod turns;
 
 pub use hearing::hear;
 pub use serving::serve;
-pub use tellings::{Telling, tell};
+pub use tellings::{HomeTurn, Telling, tell};
 pub use turns::{take_request, take_response};

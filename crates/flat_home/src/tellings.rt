@@ -21,6 +21,13 @@ pub enum Telling {
     Nobody,
 }
 
+/// What came of a turn: the place of its block's entry, and what the home tells of it.
+#[derive(Clone, Copy)]
+pub struct HomeTurn {
+    pub place: u32,
+    pub telling: Telling,
+}
+
 /// Puts what is told on its way, about the block at this place.
 pub fn tell(nodes: &mut Vec<Node>, place: u32, telling: Telling)
     requires few { length nodes.old.items ≤ CORES_MAX }

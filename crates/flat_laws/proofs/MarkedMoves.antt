@@ -45,7 +45,7 @@ nil_alike f g [] (y ∷ ys) same = absurd (cc)
 nil_alike f g (x ∷ xs) [] same = absurd (cc)
 
 module _ {R K : Type 0} where
-  node_waits_is : (n : Node) (p : Port R K) → map kept_line n.lines ≡ map seen_line p.cache →
+  pub node_waits_is : (n : Node) (p : Port R K) → map kept_line n.lines ≡ map seen_line p.cache →
       node_waits n ≡ waits p.cache
   node_waits_is n p same =
       any_map kept_line (λ (x : LineState × ℕ). is_transient x.0) n.lines

@@ -23,6 +23,7 @@ use Rattle.msi_cache.specs.declared.messages.Response.{Response}
 use Rattle.msi_memory.specs.Acts.{port_answering, port_hearing, port_taking}
 use Rattle.msi_memory.specs.declared.port.Mail.{Mail}
 use Rattle.msi_memory.specs.declared.port.Port.{Port}
+use Rattle.flat_state.specs.declared.block.HomeBlock.{HomeBlock}
 use Rattle.flat_state.specs.declared.message_ring.Message.{Message}
 use Rattle.flat_state.specs.declared.message_ring.Told.{Told}
 use Rattle.flat_state.specs.declared.message_ring.Told.TheVariants.{Data, Ack, Inv, FwdS, FwdM}
@@ -31,11 +32,12 @@ use Rattle.flat_state.specs.declared.node.Node.{Node}
 use Rattle.flat_state.specs.declared.reply_ring.Replied.{Replied}
 use Rattle.flat_state.specs.declared.reply_ring.Replied.TheVariants.{InvAck, OwnerData}
 use Rattle.flat_state.specs.declared.reply_ring.Reply.{Reply}
-use Rattle.flat_state.specs.Shows.{NodeShows, are_replied_placed, are_told_placed, block_at, kept_line, kept_message}
+use Rattle.flat_state.specs.Shows.{NodeShows, are_replied_placed, are_told_placed, block_at, home_at, kept_line}
+use Rattle.flat_state.specs.Shows.{kept_message}
 use Rattle.flat_state.specs.Shows.{kept_reply, line_at, no_line, replied_as, seen_line, seen_message, seen_reply}
 use Rattle.flat_state.specs.Shows.{seen_request, told_as}
 use Rattle.flat_state.proofs.NodeReads.{line_is}
-use Rattle.flat_messages.specs.Heard.{answered, heard, node_heard, with_reply}
+use Rattle.flat_messages.specs.Heard.{answered, heard, hearing, node_heard, with_reply}
 
 -- ---- the table's row
 
@@ -349,3 +351,12 @@ data_heard n i m later state brings is =
       replies = with_reply (answered t) m.place n.replies;
       messages = later;
     }
+
+-- the message that was taken was the oldest
+pub heard_oldest : (home : List HomeBlock) (n n0 : Node) (m : Message) (later : List Message) (block : ℕ) →
+    n ≡ n0 → n.messages ≡ m ∷ later → block ≡ (home_at home m.place).block →
+    node_heard n (block % LINES) m later ≡ hearing home n0 n0.messages
+heard_oldest home n n0 m later block is oldest at =
+    ap (λ (x : Node). node_heard x (block % LINES) m later) is
+    ∙ (ap (λ (b : ℕ). node_heard n0 (b % LINES) m later) at
+    ∙ ap (hearing home n0) (sym (ap (λ (x : Node). x.messages) (sym is) ∙ oldest)))

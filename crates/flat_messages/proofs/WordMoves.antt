@@ -151,6 +151,14 @@ module _ (f : Flat) (s : PlainState) (memory : ℕ → List ℕ) (c : ℕ) (n : 
   pub data_comes : m.told ≡ Data → data_next (port_at none_carrying s.memory.ports c).messages.items ≡ true
   data_comes brings = data_there ∙ ap is_data brings
 
+  -- without data nothing is told
+  pub word_told : (told : Told) → told_next (node_at f.nodes.items c).messages ≡ Some told → is_data told ≡ false →
+      plain_event s (MessageMove c) ≡ Nothing
+  word_told told next word =
+      heard_event ∙ ap (λ (t : Bool). if t then event_working s.image none_riding core
+      (port_taken none_riding none_carrying p) else Nothing)
+      (ap is_data (told_head n.messages told m later (ap (λ (x : Node). told_next x.messages) is ∙ next) oldest) ∙ word)
+
   pub word_stands : (f' : Flat) (n' : Node) (told : Told) (block : ℕ) →
       told_next (node_at f.nodes.items c).messages ≡ Some told → is_data told ≡ false →
       block ≡ (home_at f.home.items m.place).block → n' ≡ node_heard n (block % LINES) m later →
@@ -165,12 +173,8 @@ module _ (f : Flat) (s : PlainState) (memory : ℕ → List ℕ) (c : ℕ) (n : 
       (subst (λ (e : Event). WordsKept s.image f'.home.items (memory_after e memory)) (sym nothing)
       (subst (λ (l : List HomeBlock). WordsKept s.image l memory) (sym home) stands.words))
     where
-      told_is : m.told ≡ told
-      told_is = told_head n.messages told m later (ap (λ (x : Node). told_next x.messages) is ∙ next) oldest
-
       nothing : plain_event s (MessageMove c) ≡ Nothing
-      nothing = heard_event ∙ ap (λ (t : Bool). if t then event_working s.image none_riding core
-          (port_taken none_riding none_carrying p) else Nothing) (ap is_data told_is ∙ word)
+      nothing = word_told told next word
 
       own_now : NodeShows s.image blocks n' (core_after s.image (plain_event s (MessageMove c)) core)
           (port_told none_riding none_carrying tt (plain_event s (MessageMove c))

@@ -1,9 +1,12 @@
 -- What a message from home does to a line, and how it is answered.
-use Rattle.std.specs.Prelude.{ℕ, Bool, true, false, ◌++◌, ◌∷◌, [], List, Option, Some, None, if◌then◌else◌, slice_set}
+use Rattle.std.specs.Prelude.{ℕ, ◌%◌, Bool, true, false, ◌++◌, ◌∷◌, [], List, Option, Some, None, if◌then◌else◌, slice_set}
+use Rattle.rtr_types.specs.declared.TheConstants.{LINES}
 use Rattle.rv_core.specs.declared.core_state.Need.{Need}
 use Rattle.rv_core.specs.declared.core_state.Need.TheVariants.{Load, Store, Amo}
 use Rattle.msi_cache.specs.declared.line.State.{State as LineState}
 use Rattle.msi_cache.specs.declared.line.State.TheVariants.{I, S, M, IsD, ImD, SmD, SiA, IiA}
+use Rattle.flat_state.specs.declared.block.HomeBlock.{HomeBlock}
+use Rattle.flat_state.specs.declared.flat.Flat.{Flat}
 use Rattle.flat_state.specs.declared.message_ring.Message.{Message}
 use Rattle.flat_state.specs.declared.message_ring.Told.{Told}
 use Rattle.flat_state.specs.declared.message_ring.Told.TheVariants.{Data, Ack, Inv, FwdS, FwdM}
@@ -11,7 +14,7 @@ use Rattle.flat_state.specs.declared.node.Node.{Node}
 use Rattle.flat_state.specs.declared.reply_ring.Replied.{Replied}
 use Rattle.flat_state.specs.declared.reply_ring.Replied.TheVariants.{InvAck, OwnerData}
 use Rattle.flat_state.specs.declared.reply_ring.Reply.{Reply}
-use Rattle.flat_state.specs.Shows.{line_at}
+use Rattle.flat_state.specs.Shows.{home_at, line_at, node_after, node_at}
 
 -- what the oldest message tells
 abbrev pub told_next : List Message → Option Told
@@ -55,6 +58,19 @@ node_heard n index m later =
       replies = with_reply (answered m.told) m.place n.replies;
       messages = later;
     }
+
+-- the node once it took the oldest of these messages
+abbrev pub hearing : List HomeBlock → Node → List Message → Node
+hearing home n [] = n
+hearing home n (m ∷ later) = node_heard n ((home_at home m.place).block % LINES) m later
+
+-- the core's node once it took its oldest message
+abbrev pub node_hearing : Flat → (core : ℕ) → Node
+node_hearing f core = hearing f.home.items (node_at f.nodes.items core) (node_at f.nodes.items core).messages
+
+-- and once the instruction that waited for it retired, which found this word
+abbrev pub node_filled : Flat → (core : ℕ) → (before : ℕ) → Node
+node_filled f core before = node_after f.program (node_hearing f core) (node_hearing f core).core before
 
 -- the word that an instruction looks at, and whether it writes it
 abbrev pub word_of : Need → ℕ

@@ -1,10 +1,11 @@
 //! A block's data, and the access that waited for them.
-ghost use Rattle.std.specs.Prelude.{◌≡◌, ◌<◌, Some, length};
+ghost use Rattle.std.specs.Prelude.{◌≡◌, ◌<◌, ℕ, Some, length, slice_set};
 ghost use Rattle.msi_state.specs.Events.{Accesses};
 ghost use Rattle.msi_state.specs.declared.moves.Move.{Move};
 ghost use Rattle.flat_state.specs.declared.message_ring.Told.{Told};
-ghost use Rattle.flat_state.specs.Shows.{IsSomewhere, Makes, Tells, blocks_of, node_at};
-ghost use Rattle.flat_messages.specs.Heard.{left_by, told_next, word_of, writes};
+ghost use Rattle.flat_state.specs.Shows.{IsSomewhere, Makes, Tells, blocks_of, home_at, node_at};
+ghost use Rattle.flat_cores.specs.Needs.{but_words};
+ghost use Rattle.flat_messages.specs.Heard.{left_by, node_filled, told_next, word_of, writes};
 
 use crate::words::heard;
 use flat_cores::kind_of;
@@ -20,6 +21,8 @@ pub fn take_data(flat: &mut Flat, core: u8) -> Access
     requires brings { told_next (node_at flat.old.nodes.items core).messages ≡ Some Told.Data }
     ensures makes { Makes flat.old flat.new (Move.FromHome core) }
     ensures told { Tells flat.old (Move.FromHome core) (Accesses result) }
+    ensures nodes { flat.new.nodes.items ≡ slice_set flat.old.nodes.items core (node_filled flat.old core result.before) }
+    ensures home { (i : ℕ) → but_words (home_at flat.new.home.items i) ≡ but_words (home_at flat.old.home.items i) }
     ensures blocks { blocks_of flat.new.home.items ≡ blocks_of flat.old.home.items }
 {
     let node = &mut flat.nodes[core as usize];

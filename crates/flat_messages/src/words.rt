@@ -1,9 +1,10 @@
 //! A message without data.
-ghost use Rattle.std.specs.Prelude.{◌≡◌, ◌<◌, Some, false, length};
+ghost use Rattle.std.specs.Prelude.{◌≡◌, ◌<◌, Some, false, length, slice_set};
+ghost use Rattle.msi_state.specs.Events.{Nothing};
 ghost use Rattle.msi_state.specs.declared.moves.Move.{Move};
 ghost use Rattle.flat_state.specs.declared.message_ring.Told.{Told};
-ghost use Rattle.flat_state.specs.Shows.{IsSomewhere, Makes, blocks_of, node_at};
-ghost use Rattle.flat_messages.specs.Heard.{answered, heard, is_data, told_next, with_reply};
+ghost use Rattle.flat_state.specs.Shows.{IsSomewhere, Makes, Tells, node_at};
+ghost use Rattle.flat_messages.specs.Heard.{answered, heard, is_data, node_hearing, told_next, with_reply};
 
 use flat_state::{Flat, Replied, Reply, ReplyRing, Told};
 use msi_cache::State;
@@ -16,7 +17,9 @@ pub fn take_word(flat: &mut Flat, core: u8, told: Told)
     requires told { told_next (node_at flat.old.nodes.items core).messages ≡ Some told }
     requires word { is_data told ≡ false }
     ensures makes { Makes flat.old flat.new (Move.FromHome core) }
-    ensures blocks { blocks_of flat.new.home.items ≡ blocks_of flat.old.home.items }
+    ensures told { Tells flat.old (Move.FromHome core) Nothing }
+    ensures nodes { flat.new.nodes.items ≡ slice_set flat.old.nodes.items core (node_hearing flat.old core) }
+    ensures home { flat.new.home.items ≡ flat.old.home.items }
 {
     let node = &mut flat.nodes[core as usize];
     let message = node.messages.take();

@@ -24,6 +24,8 @@ pub fn start(alloc: Global, image: Image, cores: u8, limit: u32) -> Result<Flat,
     ensures stands { IfOk result (λ f. Stands f (state_start none_riding none_carrying image cores limit)
         (opening_memory image)) }
     ensures empty { IfOk result (λ f. f.home.items ≡ []) }
+    ensures nodes { IfOk result (λ f. f.nodes.items
+        ≡ map (λ id. node_start f.program id limit) (range_with_len 0 cores)) }
 {
     let program = Program::new(alloc, image)?;
     let nodes = nodes_at_start(alloc, &program, cores, limit)?;

@@ -20,7 +20,8 @@ use Rattle.debug_place.specs.Places.{Placed, cut_at}
 use Rattle.gdb_monitor.specs.declared.moves.Extreme.{Extreme}
 use Rattle.gdb_monitor.specs.Moves.{AreCounts, BothComeNext, Comes, ComesWhere, GoesAround, GoesBefore, GoesIfClosed}
 use Rattle.gdb_monitor.specs.Moves.{GoesTo, GoesToCut, GoesToDecision, IsDecision, decided_text}
-use Rattle.gdb_monitor.specs.Moves.{IsExtreme, IsOf, cut_with_counts}
+use Rattle.gdb_moves.specs.Sights.{IsOf}
+use Rattle.gdb_monitor.specs.Moves.{IsExtreme, cut_with_counts}
 use Rattle.gdb_monitor.specs.declared.moves.Extreme.TheVariants.{Earliest, Latest}
 use Rattle.gdb_monitor.specs.Ordering.{AreBoth}
 use Rattle.gdb_monitor.specs.Slack.{IsSlackTold, slack_rows}

@@ -1,9 +1,3 @@
 pub mod AnswerFrames
 pub mod AskedCuts
 pub mod OtherWays
-pub mod WordLemmas
-pub mod NotedPcs
-pub mod OnePc
-pub mod SameSites
-pub mod TableCounts
-pub mod AllDecisions

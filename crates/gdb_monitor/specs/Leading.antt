@@ -1,6 +1,7 @@
 -- The core that leads: by which alone all go on, and back.
 use Rattle.std.specs.Prelude.{ℕ, Bool, true, nat_lt, List, ◌++◌, codes, decimal, Option, Some, None, if◌then◌else◌}
-use Rattle.gdb_monitor.specs.Texts.{line, no_core_text}
+use Rattle.gdb_commands.specs.Lines.{line}
+use Rattle.gdb_monitor.specs.Texts.{no_core_text}
 
 -- whether such a core can lead: each that is there, and none
 abbrev pub can_lead : Option ℕ → (cores : ℕ) → Bool

@@ -17,15 +17,13 @@ use Rattle.cut_moves.specs.Steps.{IsHull, last_in, next_in}
 use Rattle.race_queries.specs.Queries.{IsLastWrite, NoWriteIn}
 use Rattle.race_cuts.specs.OpenCuts.{ComesNext, HasLeastLog}
 use Rattle.debug_place.specs.Places.{Placed, cut_at}
+use Rattle.gdb_moves.specs.Sights.{IsOf}
 use Rattle.gdb_monitor.specs.declared.moves.Extreme.{Extreme}
 use Rattle.gdb_monitor.specs.declared.moves.Extreme.TheVariants.{Earliest, Latest}
 use Rattle.gdb_monitor.specs.Ordering.{AreBoth}
-use Rattle.gdb_monitor.specs.Texts.{here_text, line, no_core_text, no_counts_text, no_instr_text, open_text}
-
--- the place is one of this audited recording
-pub record IsOf (a : Findings) (place : Placed) : Type 0 where
-  pub recording : a.recording ≡ place.recording
-  pub which : a.which ≡ place.which
+use Rattle.gdb_commands.specs.Lines.{line}
+use Rattle.race_answers.specs.Missing.{no_instr_text}
+use Rattle.gdb_monitor.specs.Texts.{here_text, no_core_text, no_counts_text, open_text}
 
 -- ---- commands that move nothing
 

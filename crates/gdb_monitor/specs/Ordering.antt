@@ -7,7 +7,8 @@ use Rattle.race_log.specs.declared.recording.Recording.{Recording}
 use Rattle.race_log.specs.Sources.{log_edges}
 use Rattle.replay_audit.specs.Audits.{IsInstrOf}
 use Rattle.debug_place.specs.Places.{Placed}
-use Rattle.gdb_monitor.specs.Texts.{line, no_instr_text}
+use Rattle.gdb_commands.specs.Lines.{line}
+use Rattle.race_answers.specs.Missing.{no_instr_text}
 
 -- by the log the one instruction comes before the other
 abbrev pub Leads : Which → Recording → Instr → Instr → Type 0

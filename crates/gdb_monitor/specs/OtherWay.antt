@@ -9,7 +9,7 @@ use Rattle.replay_audit.specs.Audits.{Findings, IsInstrOf}
 use Rattle.what_if.specs.Told.{other_text}
 use Rattle.gdb_monitor.specs.Moves.{IsDecision, decided_text}
 use Rattle.gdb_monitor.specs.Ordering.{AreBoth}
-use Rattle.gdb_monitor.specs.Texts.{no_instr_text}
+use Rattle.race_answers.specs.Missing.{no_instr_text}
 
 -- `other C:N C:N`: how each core ends if at the decision the second instruction goes first, and the words that differ
 pub record IsOtherTold (a : Findings) (at next : Instr) (told : List ℕ) : Type 0 where

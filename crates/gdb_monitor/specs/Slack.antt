@@ -9,7 +9,8 @@ use Rattle.cut_replay.specs.ClosedCuts.{count_in}
 use Rattle.debug_place.specs.Places.{Placed, cut_at}
 use Rattle.gdb_monitor.specs.declared.moves.Extreme.TheVariants.{Earliest, Latest}
 use Rattle.gdb_monitor.specs.Moves.{IsExtreme}
-use Rattle.gdb_monitor.specs.Texts.{line, no_core_text}
+use Rattle.gdb_commands.specs.Lines.{line}
+use Rattle.gdb_monitor.specs.Texts.{no_core_text}
 
 -- a core's counts in the least cut, in the greatest, and here
 abbrev pub slack_row : (least greatest here : Cut) → (core : ℕ) → List ℕ

@@ -1,23 +1,15 @@
 -- What is told of a place.
-use Rattle.std.specs.Prelude.{ℕ, List, [], ◌∷◌, ◌++◌, take, codes, decimal}
-use Rattle.std.specs.List.{flat_map}
+use Rattle.std.specs.Prelude.{ℕ, List, ◌++◌, take, codes, decimal}
 use Rattle.rtr_types.specs.declared.cut.Cut.{Cut}
-use Rattle.rtr_types.specs.declared.instr.Instr.{Instr}
 use Rattle.debug_place.specs.Places.{Placed, cut_at}
-
--- a line: its text and one line feed
-abbrev pub line : List ℕ → List ℕ
-line text = text ++ 10 ∷ []
+use Rattle.gdb_commands.specs.Lines.{counts_text, line}
 
 -- how many instructions of each core a cut has
-abbrev pub count_text : ℕ → List ℕ
-count_text n = codes " " ++ decimal n
-
-abbrev pub counts_text : Cut → List ℕ
-counts_text cut = flat_map count_text (take cut.cores cut.counts)
+abbrev pub cut_counts : Cut → List ℕ
+cut_counts cut = counts_text (take cut.cores cut.counts)
 
 abbrev pub cut_text : Cut → List ℕ
-cut_text cut = line (codes "cut" ++ counts_text cut)
+cut_text cut = line (codes "cut" ++ cut_counts cut)
 
 -- where the place is
 abbrev pub here_text : Placed → List ℕ
@@ -25,12 +17,9 @@ here_text place = cut_text (cut_at place)
 
 -- the cut that was asked for isn't closed; this one is the least that is, and contains it
 abbrev pub open_text : Cut → List ℕ
-open_text hull = line (codes "rtr_gdb: not closed; the least closed cut that contains it is" ++ counts_text hull)
+open_text hull = line (codes "rtr_gdb: not closed; the least closed cut that contains it is" ++ cut_counts hull)
 
 -- ---- what isn't there
-
-abbrev pub no_instr_text : Instr → List ℕ
-no_instr_text at = line (codes "rtr_gdb: no instruction " ++ decimal at.core ++ codes ":" ++ decimal at.count)
 
 abbrev pub no_core_text : (core : ℕ) → List ℕ
 no_core_text core = line (codes "rtr_gdb: no core " ++ decimal core)

@@ -4,8 +4,8 @@ use Rattle.std.specs.List.{flat_map, range_with_len}
 use Rattle.rv_core.specs.declared.core_state.Core.{Core}
 use Rattle.replay_core.specs.Play.{core_at}
 use Rattle.debug_place.specs.Places.{Placed}
-use Rattle.gdb_monitor.specs.Instrs.{hex_word}
-use Rattle.gdb_monitor.specs.Texts.{line}
+use Rattle.race_answers.specs.Instrs.{hex_word}
+use Rattle.gdb_commands.specs.Lines.{line}
 
 -- how many instructions of how many a core has retired, and its pc
 abbrev pub core_row : (core total : ℕ) → Core → List ℕ

@@ -1,12 +1,14 @@
 //! Back to the last write of a word.
 ghost use Rattle.std.specs.Prelude.{◌≡◌, IfOk, OnErr};
 ghost use Rattle.debug_place.specs.Places.{IsKept};
-ghost use Rattle.gdb_monitor.specs.Moves.{GoesBefore, GoesToLast, IsOf};
+ghost use Rattle.gdb_moves.specs.Sights.{IsOf};
+ghost use Rattle.gdb_monitor.specs.Moves.{GoesBefore, GoesToLast};
 
 use crate::moves::go;
-use crate::texts::{Told, line, no_instr};
 use cut_replay::{cut_without, has_instr};
 use debug_place::Place;
+use gdb_commands::{Told, line};
+use race_answers::no_instr;
 use race_queries::last_write;
 use replay_audit::Audited;
 use rtr_types::Instr;

@@ -2,7 +2,8 @@
 ghost use Rattle.std.specs.Prelude.{◌≡◌, IfOk};
 ghost use Rattle.gdb_monitor.specs.Leading.{can_lead, lead_text, lead_told};
 
-use crate::texts::{bytes_of, line, no_core};
+use crate::texts::no_core;
+use gdb_commands::{bytes_of, line};
 use rtr_types::Items;
 use std::alloc::{AllocError, Global};
 

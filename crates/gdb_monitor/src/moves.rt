@@ -4,13 +4,16 @@ ghost use Rattle.race_log.specs.Validity.{Valid};
 ghost use Rattle.cut_replay.specs.ClosedCuts.{IsClosed, IsCutOf};
 ghost use Rattle.debug_place.specs.Places.{IsKept, cut_at};
 ghost use Rattle.gdb_monitor.specs.Moves.{AreCounts, Comes, GoesAround, GoesIfClosed, GoesTo, GoesToCut, IsExtreme};
-ghost use Rattle.gdb_monitor.specs.Moves.{BothComeNext, GoesToDecision, IsOf, cut_with_counts};
+ghost use Rattle.gdb_moves.specs.Sights.{IsOf};
+ghost use Rattle.gdb_monitor.specs.Moves.{BothComeNext, GoesToDecision, cut_with_counts};
 ghost use Rattle.race_cuts.specs.OpenCuts.{ComesNext};
 
-use crate::texts::{Told, cut_text, line, no_core, no_counts, no_instr, open_text};
+use crate::texts::{cut_text, no_core, no_counts, open_text};
 use cut_moves::{earliest, hull, latest};
 use cut_replay::{cut_with, cut_without, has_instr};
 use debug_place::Place;
+use gdb_commands::{Told, line};
+use race_answers::no_instr;
 use race_log::Recording;
 use replay_audit::Audited;
 use rtr_types::{CORES_MAX, Cut, Instr};

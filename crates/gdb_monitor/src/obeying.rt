@@ -1,48 +1,54 @@
 //! What each command does.
-ghost use Rattle.std.specs.Prelude.{◌≡◌, IfOk, OnErr};
+ghost use Rattle.std.specs.Prelude.{◌≡◌, IfOk, OnErr, OnOk};
 ghost use Rattle.debug_place.specs.Places.{IsKept};
-ghost use Rattle.gdb_monitor.specs.Moves.{IsOf};
+ghost use Rattle.gdb_moves.specs.Sights.{IsOf};
+ghost use Rattle.gdb_monitor.specs.Marking.{marks_after};
 ghost use Rattle.gdb_monitor.specs.Obeying.{Asks, AuditTells, Obeys};
 
-use crate::about::info_told;
-use crate::asking::{history_told, readers_told, writer_told};
-use crate::commands::Command;
-use crate::conflicts::conflicts_told;
-use crate::decisions_told::decisions_told;
-use crate::edges::edges_told;
-use crate::forms::unmeant_told;
 use crate::lasts::go_to_last;
 use crate::leading::lead_told;
+use crate::marking::{go_to_mark, mark_here};
 use crate::moves::{Extreme, go_around, go_to, go_to_cut, go_to_decision};
 use crate::ordering::order_told;
 use crate::other_way::other_told;
 use crate::slack::slack_told;
 use crate::texts::cut_text;
-use crate::waits_told::why_told;
 use crate::whens::when_told;
+use cut_marks::Marks;
 use debug_place::Place;
+use gdb_commands::{Command, unmeant_told};
+use race_answers::{
+    conflicts_told, decisions_told, edges_told, history_told, info_told, readers_told, why_told,
+    writer_told,
+};
 use replay_audit::Audited;
 use rtr_types::{Cut, Items};
 use std::alloc::{AllocError, Global};
 
 /// Does what a command asks for at a place of this audited recording, and answers what is told. If an instruction, a
 /// core or a cut isn't there, the answer says so. Of a text that is no command it says how the command goes, or which
-/// there are. A refusal, which comes for want of memory alone, leaves the place as it was.
+/// there are. A refusal, which comes for want of memory alone, leaves place and marks as they were.
 pub fn obey(
     alloc: Global,
     audited: &Audited,
     place: &mut Place,
+    marks: &mut Marks,
     command: &Command,
 ) -> Result<Items<u8>, AllocError>
     requires { IsOf audited.now place.old }
     ensures kept { IsKept place.old place.new }
-    ensures ok { IfOk result (Obeys command.now place.old place.new) }
+    ensures ok { IfOk result (Obeys command.now marks.old place.old place.new) }
     ensures err { OnErr result (place.new ≡ place.old) }
+    ensures marks { OnOk result (marks.new ≡ marks_after command.now place.old marks.old) }
+    ensures unmarked { OnErr result (marks.new ≡ marks.old) }
 {
     match command {
         Command::Cut => cut_text(alloc, &place.cut()),
         Command::GoTo(at) => go_to(alloc, audited, place, *at),
         Command::GoToCut(counts) => go_to_cut(alloc, audited, place, counts.as_slice()),
+        Command::GoToMark(name) => go_to_mark(alloc, audited, place, marks, name.as_slice()),
+        Command::Mark(name) => mark_here(alloc, place, marks, name.as_slice()),
+        Command::Marks => marks.told(alloc),
         Command::Earliest(core) => go_around(alloc, audited, place, Extreme::Earliest, *core),
         Command::Latest(core) => go_around(alloc, audited, place, Extreme::Latest, *core),
         Command::Edges(_) => ask(alloc, audited, place, command),

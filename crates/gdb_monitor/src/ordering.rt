@@ -1,12 +1,13 @@
 //! Which of two instructions comes first.
 ghost use Rattle.std.specs.Prelude.{◌≡◌, IfOk};
-ghost use Rattle.gdb_monitor.specs.Moves.{IsOf};
+ghost use Rattle.gdb_moves.specs.Sights.{IsOf};
 ghost use Rattle.gdb_monitor.specs.Ordering.{AreBoth, IsOrder, IsOrderTold};
-ghost use Rattle.gdb_monitor.specs.Texts.{line};
+ghost use Rattle.gdb_commands.specs.Lines.{line};
 
-use crate::texts::{line, no_instr};
 use cut_replay::has_instr;
 use debug_place::Place;
+use gdb_commands::line;
+use race_answers::no_instr;
 use race_queries::leads_to;
 use replay_audit::Audited;
 use rtr_types::{Instr, Items};

@@ -3,8 +3,9 @@ ghost use Rattle.std.specs.Prelude.{IfOk};
 ghost use Rattle.gdb_monitor.specs.OtherWay.{IsOtherTold};
 
 use crate::moves::both_come_next;
-use crate::texts::{Told, line, no_instr};
 use cut_replay::{cut_without, has_instr};
+use gdb_commands::{Told, line};
+use race_answers::no_instr;
 use replay_audit::Audited;
 use rtr_types::Instr;
 use std::alloc::Global;

@@ -1,12 +1,13 @@
 //! How far cores may move while one stays.
 ghost use Rattle.std.specs.Prelude.{◌≡◌, ◌++◌, IfOk, OnOk, string_bytes};
 ghost use Rattle.cut_replay.specs.ClosedCuts.{count_in};
-ghost use Rattle.gdb_monitor.specs.Moves.{IsOf};
+ghost use Rattle.gdb_moves.specs.Sights.{IsOf};
 ghost use Rattle.gdb_monitor.specs.Slack.{IsSlackTold, slack_row, slack_rows};
 
 use crate::moves::Extreme;
-use crate::texts::{Put, Told, bytes_of, no_core};
+use crate::texts::no_core;
 use debug_place::Place;
+use gdb_commands::{Put, Told, bytes_of};
 use replay_audit::Audited;
 use rtr_types::Cut;
 use std::alloc::Global;

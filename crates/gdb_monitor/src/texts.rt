@@ -1,33 +1,10 @@
 //! What is told of a place.
 ghost use Rattle.std.specs.Prelude.{◌≡◌, ◌++◌, IfOk, OnOk, string_bytes};
-ghost use Rattle.gdb_monitor.specs.Texts.{counts_text, cut_text, line, no_core_text, no_counts_text, no_instr_text};
-ghost use Rattle.gdb_monitor.specs.Texts.{open_text};
+ghost use Rattle.gdb_monitor.specs.Texts.{cut_counts, cut_text, no_core_text, no_counts_text, open_text};
 
-use rtr_types::{Cut, Instr, Items};
-use std::alloc::{AllocError, Global};
-
-/// What a command is answered.
-pub(crate) type Told = Result<Items<u8>, AllocError>;
-
-/// That a part of a text was put.
-pub(crate) type Put = Result<(), AllocError>;
-
-/// A text's bytes.
-pub(crate) fn bytes_of(text: String) -> Items<u8>
-    ensures { result ≡ string_bytes text }
-{
-    Items::from_vec(text.into_bytes())
-}
-
-/// A line of this text.
-pub(crate) fn line(alloc: Global, words: &str) -> Told
-    ensures { IfOk result (λ text. text ≡ line words.now) }
-{
-    let mut text = Vec::new(alloc);
-    text.extend_from_slice(words.as_bytes())?;
-    text.push(b'\n')?;
-    Ok(Items::from_vec(text))
-}
+use gdb_commands::{Put, Told, bytes_of, line, put_counts};
+use rtr_types::Cut;
+use std::alloc::Global;
 
 /// A cut.
 pub(crate) fn cut_text(alloc: Global, cut: &Cut) -> Told
@@ -35,7 +12,7 @@ pub(crate) fn cut_text(alloc: Global, cut: &Cut) -> Told
 {
     let mut text = String::new(alloc);
     write!(text, "cut")?;
-    put_counts(&mut text, cut)?;
+    put_cut(&mut text, cut)?;
     writeln!(text)?;
     Ok(bytes_of(text))
 }
@@ -49,31 +26,17 @@ pub(crate) fn open_text(alloc: Global, hull: &Cut) -> Told
         text,
         "rtr_gdb: not closed; the least closed cut that contains it is"
     )?;
-    put_counts(&mut text, hull)?;
+    put_cut(&mut text, hull)?;
     writeln!(text)?;
     Ok(bytes_of(text))
 }
 
 /// Puts the counts of a cut, each behind a space.
-fn put_counts(text: &mut String, cut: &Cut) -> Put
-    ensures { OnOk result (string_bytes text.new ≡ string_bytes text.old ++ counts_text cut.now) }
+fn put_cut(text: &mut String, cut: &Cut) -> Put
+    ensures { OnOk result (string_bytes text.new ≡ string_bytes text.old ++ cut_counts cut.now) }
 {
     let cores = cut.counts.len().min(cut.cores.into());
-    for count in &cut.counts[..cores] {
-        write!(text, " {count}")?;
-    }
-    Ok(())
-}
-
-/// That the recording hasn't this instruction.
-pub(crate) fn no_instr(alloc: Global, at: Instr) -> Told
-    ensures { IfOk result (λ text. text ≡ no_instr_text at) }
-{
-    let core = at.core;
-    let count = at.count;
-    let mut text = String::new(alloc);
-    writeln!(text, "rtr_gdb: no instruction {core}:{count}")?;
-    Ok(bytes_of(text))
+    put_counts(text, &cut.counts[..cores])
 }
 
 /// That the recording hasn't this core.

@@ -1,11 +1,11 @@
 //! Where each core is.
 ghost use Rattle.std.specs.Prelude.{◌≡◌, ◌<◌, ◌++◌, IfOk, OnOk, slice_index, string_bytes};
-ghost use Rattle.gdb_monitor.specs.Moves.{IsOf};
+ghost use Rattle.gdb_moves.specs.Sights.{IsOf};
 ghost use Rattle.gdb_monitor.specs.Whens.{core_row, when_row, when_text};
 
-use crate::instrs::put_word;
-use crate::texts::{Put, Told, bytes_of};
 use debug_place::Place;
+use gdb_commands::{Put, Told, bytes_of};
+use race_answers::put_word;
 use replay_audit::Audited;
 use rv_core::Core;
 use std::alloc::Global;

@@ -1,12 +1,3 @@
-pub mod OnWays
-pub mod WaitLemmas
-pub mod WaitsMore
 pub mod SetLemmas
-pub mod AheadLemmas
-pub mod TurnLemmas
-pub mod BackLemmas
 pub mod FrontLemmas
-pub mod RowsMore
-pub mod EndLemmas
 pub mod StillLemmas
-pub mod WaitTexts

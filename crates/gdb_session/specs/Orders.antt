@@ -1,17 +1,18 @@
 -- Which move a packet orders.
-use Rattle.std.specs.Prelude.{ℕ, zero, suc, ◌<◌, ◌&&◌, Bool, true, false, is_some, nat_eq, not, List, [], ◌∷◌}
+use Rattle.std.specs.Prelude.{ℕ, zero, suc, ◌&&◌, Bool, true, false, is_some, nat_eq, not, List, [], ◌∷◌}
 use Rattle.std.specs.Prelude.{Option, Some, None, unwrap_or, if◌then◌else◌}
 use Rattle.std.specs.List.{list_all}
-use Rattle.std.specs.Option.{option_or}
+use Rattle.std.specs.Option.{option_map, option_or}
 use Rattle.rtr_types.specs.CoreSets.{has, no_cores, with_core}
 use Rattle.rtr_types.specs.declared.core_set.CoreSet.{CoreSet}
 use Rattle.gdb_packets.specs.declared.asks.Action.{Action}
 use Rattle.gdb_packets.specs.declared.asks.Thread.{Thread}
 use Rattle.gdb_packets.specs.declared.asks.Thread.TheVariants.{All, Any, Core}
-use Rattle.gdb_session.specs.declared.direction.Direction.{Direction}
-use Rattle.gdb_session.specs.declared.direction.Direction.TheVariants.{Forward, Back}
-use Rattle.gdb_session.specs.declared.orders.Order.{Order}
-use Rattle.gdb_session.specs.declared.orders.Order.TheVariants.{Rest, Step, Go, GoWith}
+use Rattle.gdb_moves.specs.declared.direction.Direction.{Direction}
+use Rattle.gdb_moves.specs.declared.direction.Direction.TheVariants.{Forward, Back}
+use Rattle.gdb_moves.specs.declared.order.Order.{Order}
+use Rattle.gdb_moves.specs.declared.order.Order.TheVariants.{Rest, Step, StepIn, Go, GoWith}
+use Rattle.gdb_moves.specs.declared.ranges.Range.{Range}
 use Rattle.gdb_session.specs.declared.wishes.Wishes.{Wishes}
 use Rattle.gdb_session.specs.Wishes.{core_of, is_there}
 
@@ -112,6 +113,19 @@ resume_order wishes cores actions =
     if wishes.interrupted then Some (Rest (unwrap_or (named actions cores) wishes.looked)) else
     go_order wishes cores actions (lowest_where (steps actions) cores)
 
+-- a step forwards goes on in the range
+abbrev pub stepping_on : Range → Order → Order
+stepping_on range (Step Forward core heard) = StepIn core heard range
+stepping_on range order = order
+
+-- if there is one
+abbrev pub in_range : Option Range → Order → Order
+in_range None order = order
+in_range (Some range) order = stepping_on range order
+
+abbrev pub ranged_order : Option Range → Wishes → (cores : ℕ) → List Action → Option Order
+ranged_order range wishes cores actions = option_map (in_range range) (resume_order wishes cores actions)
+
 -- the core that goes back, or that is looked at where all do
 abbrev pub mover : Wishes → ℕ
 mover wishes = unwrap_or wishes.moving wishes.looked
@@ -133,10 +147,3 @@ back_by (Some core) wishes cores = GoWith Back core (only core) (only core)
 abbrev pub go_back_order : Wishes → (cores : ℕ) → Order
 go_back_order wishes cores =
     if wishes.interrupted then Rest (mover wishes) else back_by wishes.moving wishes cores
-
--- the core that an order names is there
-abbrev pub IsWithin : Order → (cores : ℕ) → Type 0
-IsWithin (Rest core) cores = core < cores
-IsWithin (Step direction core heard) cores = core < cores
-IsWithin (Go direction core heard) cores = core < cores
-IsWithin (GoWith direction core movers heard) cores = core < cores

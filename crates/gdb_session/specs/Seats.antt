@@ -1,12 +1,13 @@
--- What a session shows: where it stands in the run, what the debugger has asked for, and the points that are set.
+-- What a session shows: where it stands in the run, what the debugger has asked for, the points that are set, and
+-- the cuts that are marked.
 use Rattle.std.specs.Prelude.{◌≡◌, ℕ, true, false, List, [], None}
 use Rattle.image_mem.specs.Contents.{Contents}
-use Rattle.replay_core.specs.Plans.{recorded_image}
 use Rattle.replay_audit.specs.Audits.{Findings}
 use Rattle.cut_replay.specs.ClosedCuts.{count_in}
 use Rattle.debug_place.specs.Places.{Placed, cut_at}
-use Rattle.gdb_monitor.specs.Moves.{IsOf}
-use Rattle.gdb_session.specs.declared.points.Point.{Point}
+use Rattle.cut_marks.specs.declared.marks.Mark.{Mark}
+use Rattle.gdb_moves.specs.declared.points.Point.{Point}
+use Rattle.gdb_moves.specs.Sights.{Sees}
 use Rattle.gdb_session.specs.declared.wishes.Wishes.{Wishes}
 use Rattle.gdb_session.specs.Wishes.{Fit}
 
@@ -14,15 +15,11 @@ pub record Seat : Type 0 where
   pub place : Placed
   pub wishes : Wishes
   pub points : List Point
+  pub marks : List Mark
 
 -- the seat of these parts
-abbrev pub seat_of : Placed → Wishes → List Point → Seat
-seat_of place wishes points = record { place = place; wishes = wishes; points = points }
-
--- the place is one of this audited recording, and this is its image
-pub record Sees (a : Findings) (image : Contents) (place : Placed) : Type 0 where
-  pub run : IsOf a place
-  pub image_is : image ≡ recorded_image place.recording
+abbrev pub seat_of : Placed → Wishes → List Point → List Mark → Seat
+seat_of place wishes points marks = record { place = place; wishes = wishes; points = points; marks = marks }
 
 -- the parts of a session belong together
 pub record Sits (a : Findings) (image : Contents) (seat : Seat) : Type 0 where
@@ -31,7 +28,7 @@ pub record Sits (a : Findings) (image : Contents) (seat : Seat) : Type 0 where
 
 -- before anything was asked for: core 0 is looked at, and was told
 abbrev pub first_wishes : Wishes
-first_wishes = record { looked = 0; told = 0; moving = None; lead = None; interrupted = false }
+first_wishes = record { looked = 0; told = 0; moving = None; lead = None; interrupted = false; extended = false }
 
 -- a session begins before the first instruction
 pub record Begins (a : Findings) (seat : Seat) : Type 0 where
@@ -40,6 +37,7 @@ pub record Begins (a : Findings) (seat : Seat) : Type 0 where
   pub nothing : (core : ℕ) → count_in (cut_at seat.place) core ≡ 0
   pub wishes : seat.wishes ≡ first_wishes
   pub points : seat.points ≡ []
+  pub marks : seat.marks ≡ []
 
 -- an interrupt came
 abbrev pub interrupted : Seat → Seat

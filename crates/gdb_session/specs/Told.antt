@@ -10,11 +10,11 @@ use Rattle.gdb_packets.specs.declared.replies.Stop as stops
 use Rattle.gdb_packets.specs.declared.replies.Why.TheVariants.{Nothing}
 use Rattle.debug_place.specs.Places.{Placed}
 use Rattle.gdb_session.specs.declared.wishes.Wishes.{Wishes}
-use Rattle.gdb_session.specs.Memory.{memory_reply}
-use Rattle.gdb_session.specs.Parts.{part_reply}
-use Rattle.gdb_session.specs.Registers.{register_reply, registers_reply}
-use Rattle.gdb_session.specs.Target.{target_text}
-use Rattle.gdb_session.specs.Threads.{thread_text, threads_text}
+use Rattle.gdb_places.specs.Memory.{memory_reply}
+use Rattle.gdb_places.specs.Parts.{part_reply}
+use Rattle.gdb_places.specs.Registers.{register_reply, registers_reply}
+use Rattle.gdb_places.specs.Target.{target_text}
+use Rattle.gdb_places.specs.Threads.{thread_text, threads_text}
 use Rattle.gdb_session.specs.Wishes.{core_of, is_there}
 
 -- the stop that is told where nothing has moved
@@ -44,7 +44,6 @@ place_reply place core _ = reply.Unknown
 
 -- the answers that say nothing of the place
 abbrev pub word_reply : Plain → Reply
-word_reply plain.ResumeKinds = reply.ResumeKinds
 word_reply plain.ThreadsRest = reply.ThreadsRest
 word_reply plain.Features = reply.Features
 word_reply plain.Attached = reply.Attached

@@ -5,8 +5,8 @@ use Rattle.gdb_packets.specs.declared.asks.Plain.TheVariants as plain
 use Rattle.gdb_packets.specs.declared.asks.Thread.{Thread}
 use Rattle.gdb_packets.specs.declared.asks.Thread.TheVariants.{All, Any, Core}
 use Rattle.gdb_monitor.specs.Leading.{can_lead}
-use Rattle.gdb_monitor.specs.declared.commands.Command.{Command}
-use Rattle.gdb_monitor.specs.declared.commands.Command.TheVariants.{Lead}
+use Rattle.gdb_commands.specs.declared.commands.Command.{Command}
+use Rattle.gdb_commands.specs.declared.commands.Command.TheVariants.{Lead}
 use Rattle.gdb_session.specs.declared.wishes.Wishes.{Wishes}
 
 -- the cores that wishes name are there
@@ -60,3 +60,7 @@ led_by wishes core = record wishes { lead = core }
 abbrev pub commanded_wishes : Wishes → Command → (cores : ℕ) → Wishes
 commanded_wishes wishes (Lead core) cores = if can_lead core cores then led_by wishes core else wishes
 commanded_wishes wishes _ cores = wishes
+
+-- and where the session is to outlive the program
+abbrev pub outliving : Wishes → Wishes
+outliving wishes = record wishes { extended = true }

@@ -1,30 +1,17 @@
 //! Which move a packet orders.
 ghost use Rattle.std.specs.Prelude.{◌≡◌, ◌<◌, ◌≤◌, IfSome};
 ghost use Rattle.rtr_types.specs.declared.TheConstants.{CORES_MAX};
-ghost use Rattle.gdb_session.specs.Orders.{IsWithin, acts, all_go, all_on, are_there, asked_of, every_core};
+ghost use Rattle.gdb_moves.specs.Moves.{IsWithin};
+ghost use Rattle.gdb_session.specs.Orders.{acts, all_go, all_on, are_there, asked_of, every_core};
 ghost use Rattle.gdb_session.specs.Orders.{go_back_order, heard_of, is_asked, lower_of, lowest_where, mover, movers_of};
 ghost use Rattle.gdb_session.specs.Orders.{named, names, only};
-ghost use Rattle.gdb_session.specs.Orders.{resume_order, some_order, step_back_order, steps};
+ghost use Rattle.gdb_session.specs.Orders.{in_range, stepping_on, ranged_order, resume_order, some_order, step_back_order, steps};
 ghost use Rattle.gdb_session.specs.Wishes.{Fit};
 
-use crate::direction::Direction;
 use crate::wishes::{Wishes, core_of, is_there};
+use gdb_moves::{Direction, Order, Range};
 use gdb_packets::{Action, Thread};
 use rtr_types::CoreSet;
-
-/// A move.
-#[derive(Clone, Copy)]
-pub(crate) enum Order {
-    /// None, since it was interrupted; this core is told.
-    Rest(u8),
-    /// A step of this core; those of the set are heard.
-    Step(Direction, u8, CoreSet),
-    /// All cores go on, and those of the set are heard; where nothing lies ahead this one is told.
-    Go(Direction, u8, CoreSet),
-    /// Only the cores of the first set go on; those of the second are heard, and where nothing lies ahead this core is
-    /// told.
-    GoWith(Direction, u8, CoreSet, CoreSet),
-}
 
 /// Whether the name means the core.
 fn names(thread: Thread, core: u8) -> bool
@@ -190,7 +177,7 @@ fn some_order(wishes: Wishes, heard: CoreSet, lowest: Option<u8>, cores: u8) -> 
 }
 
 /// The move that actions order; none where they name a thread that isn't there, or no core is to move.
-pub(crate) fn resume_order(wishes: Wishes, cores: u8, actions: &[Action]) -> Option<Order>
+fn resume_order(wishes: Wishes, cores: u8, actions: &[Action]) -> Option<Order>
     requires fit { Fit wishes cores }
     requires few { cores ≤ CORES_MAX }
     ensures order { result ≡ resume_order wishes cores actions.now }
@@ -210,6 +197,52 @@ pub(crate) fn resume_order(wishes: Wishes, cores: u8, actions: &[Action]) -> Opt
         }
         None => some_order(wishes, heard, lowest_asked(actions, cores, false), cores),
     }
+}
+
+/// A step forwards goes on in the range, if there is one.
+fn in_range(range: Option<Range>, order: Order, cores: u8) -> Order
+    requires { IsWithin order cores }
+    ensures order { result ≡ in_range range order }
+    ensures within { IsWithin result cores }
+{
+    match range {
+        None => order,
+        Some(range) => stepping_on(range, order, cores),
+    }
+}
+
+/// A step forwards goes on in the range.
+fn stepping_on(range: Range, order: Order, cores: u8) -> Order
+    requires { IsWithin order cores }
+    ensures order { result ≡ stepping_on range order }
+    ensures within { IsWithin result cores }
+{
+    match order {
+        Order::Step(direction, core, heard) => match direction {
+            Direction::Forward => Order::StepIn(core, heard, range),
+            Direction::Back => order,
+        },
+        Order::Rest(_) => order,
+        Order::StepIn(_, _, _) => order,
+        Order::Go(_, _, _) => order,
+        Order::GoWith(_, _, _, _) => order,
+    }
+}
+
+/// The move that actions order whose step goes on in the range, if there is one.
+pub(crate) fn ranged_order(
+    range: Option<Range>,
+    wishes: Wishes,
+    cores: u8,
+    actions: &[Action],
+) -> Option<Order>
+    requires fit { Fit wishes cores }
+    requires few { cores ≤ CORES_MAX }
+    ensures order { result ≡ ranged_order range wishes cores actions.now }
+    ensures within { IfSome result (λ order. IsWithin order cores) }
+{
+    let order = resume_order(wishes, cores, actions)?;
+    Some(in_range(range, order, cores))
 }
 
 /// The core that goes back, or that is looked at where all do.

@@ -2,22 +2,28 @@
 ghost use Rattle.std.specs.Prelude.{◌≡◌, ◌∷◌, [], IfOk, IfSome, OnOk};
 ghost use Rattle.debug_place.specs.Places.{IsKept, Stands, cut_at};
 ghost use Rattle.gdb_packets.specs.Replies.{spelled};
-ghost use Rattle.gdb_session.specs.Answers.{AnswersPacket, AnswersPlain, AnswersWith, MovesBy, next_after};
-ghost use Rattle.gdb_session.specs.Orders.{IsWithin};
-ghost use Rattle.gdb_session.specs.Points.{takes, with_point};
-ghost use Rattle.gdb_session.specs.Seats.{Begins, Sees, Sits, interrupted, seat_of};
+ghost use Rattle.gdb_session.specs.Answers.{Answers, AnswersAgain, AnswersPacket, AnswersPlain, AnswersWith, MovesBy};
+ghost use Rattle.gdb_session.specs.Answers.{next_after};
+ghost use Rattle.gdb_session.specs.Extended.{AnswersExtended, Outlives, TellsRun};
+ghost use Rattle.gdb_session.specs.Ranged.{asked_in};
+ghost use Rattle.gdb_moves.specs.Moves.{IsWithin};
+ghost use Rattle.gdb_moves.specs.Points.{takes, with_point};
+ghost use Rattle.gdb_moves.specs.Sights.{Sees};
+ghost use Rattle.gdb_session.specs.Seats.{Begins, Sits, interrupted, seat_of};
 ghost use Rattle.gdb_session.specs.Told.{still_reply, there_reply};
 ghost use Rattle.gdb_session.specs.Wishes.{Fit, wishes_after};
 
-use crate::answer::{one, silent};
+use crate::answer::{kinds, one, silent};
 use crate::commanded::commanded;
-use crate::moves::obey;
-use crate::orders::{Order, go_back_order, resume_order, step_back_order};
-use crate::points::{Point, clear_point, point_of, set_point};
+use crate::extended::{Extended, begun_payloads, extended_of};
+use crate::orders::{go_back_order, ranged_order, step_back_order};
+use crate::ranged::asked_in;
 use crate::told::{still_reply, there_reply};
-use crate::wishes::{Wishes, told_wishes, wishes_after};
+use crate::wishes::{Wishes, outliving, told_wishes, wishes_after};
+use cut_marks::Marks;
 use debug_place::Place;
-use gdb_packets::{Ask, Plain, Reply, ask_of};
+use gdb_moves::{Order, Point, Range, begin_again, clear_point, obey, point_of, set_point};
+use gdb_packets::{Ask, Plain, Reply};
 use gdb_server::{Answer, Next, Partner};
 use image_mem::Image;
 use replay_audit::Audited;
@@ -26,13 +32,14 @@ use std::alloc::{AllocError, Global};
 use std::marker::Model;
 
 /// A debugger's session on an audited recording: where it stands in the run, which is always a cut that is closed under
-/// the audit's log, and what the debugger has asked for.
+/// the audit's log, what the debugger has asked for, and the cuts that its user has marked.
 pub struct Session<'a> {
     audited: &'a Audited,
     image: Image,
     place: Place<'a>,
     wishes: Wishes,
     points: Items<Point>,
+    marks: Marks,
 }
 
 impl Drop for Session<'_> {
@@ -43,6 +50,7 @@ impl Drop for Session<'_> {
             place: _place,
             wishes: _wishes,
             points: _points,
+            marks: _marks,
         } = self;
     }
 }
@@ -52,9 +60,9 @@ impl<'a> Model for Session<'a> {
 
     ghost Value = { Seat };
 
-    ghost view = { λ a. seat_of a.place a.wishes a.points };
+    ghost view = { λ a. seat_of a.place a.wishes a.points a.marks };
 
-    ghost invariant = { λ a. Sits a.audited.now a.image (seat_of a.place a.wishes a.points) };
+    ghost invariant = { λ a. Sits a.audited.now a.image (seat_of a.place a.wishes a.points a.marks) };
 }
 
 impl<'a> Session<'a> {
@@ -78,8 +86,10 @@ impl<'a> Session<'a> {
                 moving: None,
                 lead: None,
                 interrupted: false,
+                extended: false,
             },
             points: Items::new(alloc),
+            marks: Marks::new(alloc),
         })
     }
 
@@ -104,12 +114,10 @@ impl Partner for Session<'_> {
         ensures recording { self.new.place.recording ≡ self.old.place.recording }
         ensures which { self.new.place.which ≡ self.old.place.which }
     {
-        let ask = ask_of(alloc, packet)?;
-        let payloads = self.answered(alloc, &ask)?;
-        Ok(Answer {
-            payloads,
-            next: next_after(&ask),
-        })
+        match extended_of(packet) {
+            Some(asked) => self.answer_again(alloc, asked),
+            None => self.answer_ranged(alloc, packet),
+        }
     }
 
     /// An interrupt came. The next move is left out, unless the debugger asks for the threads before.
@@ -121,10 +129,11 @@ impl Partner for Session<'_> {
 }
 
 /// What is to be done behind an answer.
-fn next_after(ask: &Ask) -> Next
-    ensures { result ≡ next_after ask.now }
+fn next_after(wishes: Wishes, ask: &Ask) -> Next
+    ensures { result ≡ next_after wishes ask.now }
 {
     match ask {
+        Ask::Plain(Plain::Kill) if wishes.extended => Next::Listen,
         Ask::Plain(Plain::Detach | Plain::Kill | Plain::Quit) => Next::End,
         Ask::Plain(Plain::StopAcks) => Next::StopAcks,
         _ => Next::Listen,
@@ -132,16 +141,88 @@ fn next_after(ask: &Ask) -> Next
 }
 
 impl Session<'_> {
-    /// The payloads that a packet is answered.
-    fn answered(&mut self, alloc: Global, ask: &Ask) -> Result<Items<Items<u8>>, AllocError>
+    /// The answer to what may run the program again.
+    fn answer_again(&mut self, alloc: Global, asked: Extended) -> Result<Answer, AllocError>
         ensures kept { IsKept self.old.place self.new.place }
-        ensures answers { IfOk result (AnswersWith ask.now self.old self.new) }
+        ensures answers { IfOk result (AnswersAgain self.old asked self.new) }
+    {
+        let payloads = self.answered_again(alloc, asked)?;
+        Ok(Answer {
+            payloads,
+            next: Next::Listen,
+        })
+    }
+
+    /// Its payloads.
+    fn answered_again(
+        &mut self,
+        alloc: Global,
+        asked: Extended,
+    ) -> Result<Items<Items<u8>>, AllocError>
+        ensures kept { IsKept self.old.place self.new.place }
+        ensures answers { IfOk result (AnswersExtended asked self.old self.new) }
+    {
+        match asked {
+            Extended::Stay => self.outlive(alloc),
+            Extended::Restart => self.run_again(alloc, Extended::Restart),
+            Extended::Run => self.run_again(alloc, Extended::Run),
+        }
+    }
+
+    /// The session outlives the program from here on.
+    fn outlive(&mut self, alloc: Global) -> Result<Items<Items<u8>>, AllocError>
+        ensures kept { IsKept self.old.place self.new.place }
+        ensures outlives { IfOk result (Outlives self.old self.new) }
+    {
+        let payloads = one(alloc, &Reply::Done)?;
+        self.wishes = outliving(self.wishes, self.place.cores());
+        Ok(payloads)
+    }
+
+    /// The program runs again: the place comes to the beginning.
+    fn run_again(&mut self, alloc: Global, asked: Extended) -> Result<Items<Items<u8>>, AllocError>
+        ensures kept { IsKept self.old.place self.new.place }
+        ensures runs { IfOk result (TellsRun asked self.old self.new) }
+    {
+        // A valid recording has at least one core.
+        let _ = self.audited.recording();
+        let payloads = begun_payloads(alloc, asked)?;
+        begin_again(alloc, self.audited, &mut self.place)?;
+        self.wishes = told_wishes(self.wishes, 0, self.place.cores());
+        Ok(payloads)
+    }
+
+    /// The answer to any other packet.
+    fn answer_ranged(&mut self, alloc: Global, packet: &[u8]) -> Result<Answer, AllocError>
+        ensures kept { IsKept self.old.place self.new.place }
+        ensures answers { IfOk result (Answers self.old (asked_in packet.now) self.new) }
+    {
+        let asked = asked_in(alloc, packet)?;
+        let next = next_after(self.wishes, &asked.ask);
+        let payloads = self.answered(alloc, asked.range, &asked.ask)?;
+        Ok(Answer { payloads, next })
+    }
+
+    /// The payloads that a packet is answered.
+    fn answered(
+        &mut self,
+        alloc: Global,
+        range: Option<Range>,
+        ask: &Ask,
+    ) -> Result<Items<Items<u8>>, AllocError>
+        ensures kept { IsKept self.old.place self.new.place }
+        ensures answers { IfOk result (AnswersWith range ask.now self.old self.new) }
     {
         match ask {
             Ask::Resume(actions) => {
                 // A valid recording has no more cores than there may be.
                 let _ = self.audited.recording();
-                let order = resume_order(self.wishes, self.place.cores(), actions.as_slice());
+                let order = ranged_order(
+                    range,
+                    self.wishes,
+                    self.place.cores(),
+                    actions.as_slice(),
+                );
                 self.moved(alloc, order)
             }
             Ask::Plain(plain) => self.answered_plain(alloc, *plain),
@@ -149,6 +230,7 @@ impl Session<'_> {
                 alloc,
                 self.audited,
                 &mut self.place,
+                &mut self.marks,
                 &mut self.wishes,
                 text.as_slice(),
             ),
@@ -181,6 +263,7 @@ impl Session<'_> {
                 one(alloc, &Reply::Done)
             }
             Plain::Quit => Ok(silent(alloc)),
+            Plain::ResumeKinds => kinds(alloc),
             _ => answered_still(
                 alloc,
                 self.audited,

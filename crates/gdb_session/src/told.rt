@@ -1,18 +1,16 @@
 //! What is told of a place, without moving.
 ghost use Rattle.std.specs.Prelude.{◌≡◌, ◌<◌, IfOk};
 ghost use Rattle.replay_core.specs.Plans.{recorded_image};
-ghost use Rattle.gdb_session.specs.Seats.{Sees};
+ghost use Rattle.gdb_moves.specs.Sights.{Sees};
 ghost use Rattle.gdb_session.specs.Told.{place_reply, still_reply, there_reply, thread_reply, told_stop, word_reply};
 ghost use Rattle.gdb_session.specs.Wishes.{Fit};
 
-use crate::memory::memory_reply;
-use crate::parts::part_reply;
-use crate::registers::{register_reply, registers_reply};
-use crate::target::TARGET;
-use crate::threads::{thread_text, threads_text};
 use crate::wishes::{Wishes, core_of, is_there};
 use debug_place::Place;
 use gdb_packets::{Plain, Reply, Signal, Stop, Thread, Why};
+use gdb_places::{
+    TARGET, memory_reply, part_reply, register_reply, registers_reply, thread_text, threads_text,
+};
 use image_mem::Image;
 use replay_audit::Audited;
 use rtr_types::Items;
@@ -57,7 +55,7 @@ pub(crate) fn still_reply(
 }
 
 /// The stop that is told where there was none: of the core that was told last.
-fn told_stop(core: u8) -> Stop
+pub(crate) fn told_stop(core: u8) -> Stop
     ensures { result ≡ told_stop core }
 {
     Stop {
@@ -122,7 +120,6 @@ fn word_reply(plain: Plain) -> Reply
     ensures { result ≡ word_reply plain }
 {
     match plain {
-        Plain::ResumeKinds => Reply::ResumeKinds,
         Plain::ThreadsRest => Reply::ThreadsRest,
         Plain::Features => Reply::Features,
         Plain::Attached => Reply::Attached,

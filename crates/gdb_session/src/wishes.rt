@@ -2,9 +2,10 @@
 ghost use Rattle.std.specs.Prelude.{◌≡◌, ◌<◌, true, IfSome};
 ghost use Rattle.gdb_monitor.specs.Leading.{can_lead};
 ghost use Rattle.gdb_session.specs.Wishes.{Fit, commanded_wishes, core_of, is_there, led_by, looks_at, moves_with};
-ghost use Rattle.gdb_session.specs.Wishes.{told_wishes, wishes_after};
+ghost use Rattle.gdb_session.specs.Wishes.{outliving, told_wishes, wishes_after};
 
-use gdb_monitor::{Command, can_lead};
+use gdb_commands::Command;
+use gdb_monitor::can_lead;
 use gdb_packets::{Plain, Thread};
 
 /// What the debugger has asked for that lasts, and what it was told last. Cores are counted from 0.
@@ -20,6 +21,8 @@ pub struct Wishes {
     pub lead: Option<u8>,
     /// Whether the next move is to be left out, since it was interrupted.
     pub interrupted: bool,
+    /// Whether the session outlives the program.
+    pub extended: bool,
 }
 
 /// The core that a thread's name means, if it is one of so many.
@@ -100,6 +103,7 @@ pub(crate) fn told_wishes(wishes: Wishes, core: u8, cores: u8) -> Wishes
         moving: wishes.moving,
         lead: wishes.lead,
         interrupted: false,
+        extended: wishes.extended,
     }
 }
 
@@ -125,4 +129,15 @@ pub(crate) fn commanded_wishes(wishes: Wishes, command: &Command, cores: u8) -> 
         Command::Lead(core) if can_lead(*core, cores) => led_by(wishes, *core, cores),
         _ => wishes,
     }
+}
+
+/// The wishes from which on the session outlives the program.
+pub(crate) fn outliving(wishes: Wishes, cores: u8) -> Wishes
+    requires { Fit wishes cores }
+    ensures wishes { result ≡ outliving wishes }
+    ensures fit { Fit result cores }
+{
+    let mut wishes = wishes;
+    wishes.extended = true;
+    wishes
 }

@@ -1,6 +1,6 @@
 -- A run that is shown is the run under its choices, and what is found of a run made small.
 use Rattle.std.proofs.Common.{◌≡◌, ◌∙◌, refl, sym, ap, subst, ℕ, List, [], ◌++◌, true, Option, Some, None, Result}
-use Rattle.std.proofs.Common.{Ok, Err, IfOk, false, inl, inr, string_bytes}
+use Rattle.std.proofs.Common.{Ok, Err, IfOk, false, inl, string_bytes}
 use Rattle.schedule_pick.specs.Choices.{Choices}
 use Rattle.state_text.specs.declared.exit.Exit.TheVariants.{Done}
 use Rattle.turn_lists.specs.Turns.{IsLeastInSteps}
@@ -19,6 +19,7 @@ use Rattle.hunt_cli.specs.Inputs.{words_of}
 use Rattle.hunt_cli.specs.Kinds.{Setting, named_choices, turns_choices}
 use Rattle.hunt_cli.specs.OwnTurns.{turns_named}
 use Rattle.hunt_cli.specs.RunEnds.{IsRunUnder, RunEnd, end_in}
+use Rattle.hunt_cli.proofs.OwnRuns.{whole-shown}
 
 module _ (setup : Setup) (s : Setting) (demand : Demand) (turns : Option (List Turn)) (choices : Choices) (r : RunEnd)
     (run : IsRunUnder s choices r) where
@@ -67,5 +68,6 @@ pub plain-found : {E : Type 0} (setup : Setup) (s : Setting) (name : RunName) (d
     → IfOk result (λ a. string_bytes a.report ≡ []) → IfOk result (λ a. a.exit ≡ As Done)
     → IfOk result (λ a. FindsSmall setup s name demand a.out.items (string_bytes a.report) a.exit)
 plain-found setup s name demand breaks whole (Ok a) shown told done =
-    small-found setup s name demand a.out.items (string_bytes a.report) a.exit breaks (inr (whole, shown)) told done
+    small-found setup s name demand a.out.items (string_bytes a.report) a.exit breaks
+    (whole-shown setup s name demand [] a.out.items breaks whole shown) told done
 plain-found setup s name demand breaks whole (Err e) shown told done = tt

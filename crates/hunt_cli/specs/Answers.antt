@@ -8,6 +8,7 @@ use Rattle.state_text.specs.Exits.{fault_line}
 use Rattle.state_text.specs.declared.exit.Exit.{Exit}
 use Rattle.state_text.specs.declared.exit.Exit.TheVariants as exits
 use Rattle.rtr_cli.specs.Answers.{IsRead, Tells}
+use Rattle.rtr_cli.specs.Completeness.{HasLeft, IsFaultless}
 use Rattle.rtr_cli.specs.Inputs.{loaded}
 use Rattle.hunt_words.specs.declared.hunt.Hunt.{Hunt}
 use Rattle.hunt_words.specs.declared.hunt.Setup.{Setup}
@@ -83,6 +84,18 @@ pub record TellsFaults (exit : HuntExit) (read read' written written' : ℕ) : T
   pub no_read_fault : (exit ≡ As exits.ReadFault) ⊎ (read' ≡ read)
   pub write_fault : exit ≡ As exits.WriteFault → HasRisen written written'
   pub no_write_fault : (exit ≡ As exits.WriteFault) ⊎ (written' ≡ written)
+
+-- what was found was given, or memory ran out
+abbrev pub EndsWell : HuntExit → Type 0
+EndsWell exit = (exit ≡ As exits.Done) ⊎ (exit ≡ Breaks) ⊎ (exit ≡ Whole) ⊎ (exit ≡ As exits.OutOfMemory)
+
+-- Where the input is this image, no larger than the hunt takes, all that is found is given, unless memory runs out or a
+-- stream fails.
+abbrev pub GivesWhole : Hunt → (input bytes : List ℕ) → HuntExit → (left : Option (List ℕ)) →
+    (read read' written written' : ℕ) → Type 0
+GivesWhole hunt input bytes exit left read read' written written' =
+    HasLeft (Some (bytes_max (setup_in hunt))) left input → loaded (as_run (setup_in hunt)) input ≡ Ok bytes →
+    IsFaultless read read' → IsFaultless written written' → EndsWell exit
 
 -- Words that ask for nothing end at Usage, unless memory runs out, and are told so; neither input nor output is
 -- touched.

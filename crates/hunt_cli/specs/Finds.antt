@@ -6,7 +6,7 @@ use Rattle.schedule_pick.specs.Choices.{Choices, choices_of}
 use Rattle.tool_words.specs.declared.command.RunWords.{RunWords}
 use Rattle.turn_lists.specs.declared.actor.Turn.{Turn}
 use Rattle.turn_lists.specs.Turns.{IsLeastInSteps}
-use Rattle.turn_policies.specs.Named.{numbered_by}
+use Rattle.turn_policies.specs.Named.{is_by_seed, numbered_by}
 use Rattle.turn_policies.specs.declared.named.Named.{Named}
 use Rattle.end_claims.specs.declared.claim.Demand.{Demand}
 use Rattle.end_claims.specs.declared.claim.Demand.TheVariants.{Expect, Never, Same}
@@ -116,11 +116,17 @@ abbrev pub IsMadeSmall : (breaks : List Turn → Bool) → List Turn → Option 
 IsMadeSmall breaks turns None = breaks turns ≡ false
 IsMadeSmall breaks turns (Some least) = IsLeastInSteps breaks least
 
--- the run of this name is shown made small, or as it is, where its own turns don't break the demand
+-- the run is made by a seed alone, in which no policy picks
+abbrev pub is_seeded : RunName → Bool
+is_seeded (names.Numbered by number) = is_by_seed (numbered_by by number)
+is_seeded (names.Turns turns) = false
+
+-- The run of this name is shown made small. Only a run by a seed may be shown as it is, where the turns of its accesses
+-- don't break the demand.
 abbrev pub IsShownByTurns : Setup → Setting → RunName → Demand → (first : List ℕ) → (out : List ℕ) → Type 0
 IsShownByTurns setup s run demand first out =
     IsShownSmall setup s demand first out
-    ⊎ ((turns_break s demand first (turns_named s run) ≡ false)
+    ⊎ ((is_seeded run ≡ true) × (turns_break s demand first (turns_named s run) ≡ false)
     × IsShown setup s demand None (named_choices s run) out)
 
 -- ---- by the verbs

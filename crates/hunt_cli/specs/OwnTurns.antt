@@ -13,12 +13,13 @@ use Rattle.turn_lists.specs.declared.actor.Actor.{Actor}
 use Rattle.turn_lists.specs.declared.actor.Actor.TheVariants.{Buffer, Core}
 use Rattle.turn_lists.specs.declared.actor.Turn.{Turn}
 use Rattle.turn_policies.specs.Named.{numbered_by}
+use Rattle.turn_policies.specs.PickedTurns.{turns_of_picks}
 use Rattle.turn_policies.specs.declared.named.Numbered.{Numbered}
 use Rattle.turn_policies.specs.declared.named.Numbered.TheVariants.{Few, Ranked, Seed, Walk}
 use Rattle.run_accesses.specs.Accesses.{accesses_of}
 use Rattle.run_accesses.specs.TsoAccesses.{tso_accesses_of}
 use Rattle.hunt_runs.specs.Picked.{picks_numbered}
-use Rattle.small_turns.specs.Acts.{turns_made, turns_of}
+use Rattle.small_turns.specs.Acts.{turns_made}
 use Rattle.small_turns.specs.declared.acts.Act.{Act}
 use Rattle.hunt_words.specs.declared.hunt.RunName.{RunName}
 use Rattle.hunt_words.specs.declared.hunt.RunName.TheVariants as names
@@ -52,13 +53,13 @@ picks_made s number =
     picks_numbered (course s) (picks s) number (length (numbered_choices s number).bytes) s.params.cores
     (s.kind.most_steps s.params)
 
--- The turns of the run of a number: those that the number means by `few`; by a policy that picks, those that its picks
--- make; and by a seed, which picks nobody, those in which the accesses were made.
+-- The turns of the run of a number: those that the number means by `few`; by a policy that picks, those in which it
+-- picks; and by a seed, which picks nobody, those in which the accesses were made.
 abbrev pub turns_numbered : Setting → Numbered → List Turn
 turns_numbered s (Seed n) = turns_under s (numbered_choices s (Seed n))
 turns_numbered s (Few n) = few (picks s).each n
-turns_numbered s (Walk n) = turns_of (picks_made s (Walk n))
-turns_numbered s (Ranked depth n) = turns_of (picks_made s (Ranked depth n))
+turns_numbered s (Walk n) = turns_of_picks (picks_made s (Walk n))
+turns_numbered s (Ranked depth n) = turns_of_picks (picks_made s (Ranked depth n))
 
 -- the turns of the run of this name
 abbrev pub turns_named : Setting → RunName → List Turn

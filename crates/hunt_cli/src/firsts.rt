@@ -203,6 +203,8 @@ fn found<M: HuntedMachine>(
         asked.setup.params asked.bytes.now) }
     requires values { first.now ≡ firsts (setting_on (kind_with M.seen_at M.changes_at M.outcome M.most_steps M.buffers)
         asked.setup.params asked.bytes.now) asked.runs asked.demand.now }
+    requires breaks { number_breaks (setting_on (kind_with M.seen_at M.changes_at M.outcome M.most_steps M.buffers)
+        asked.setup.params asked.bytes.now) asked.runs.by (Some asked.demand.now) first.now number ≡ true }
     ensures out { IfOk result (λ a. (shown : List ℕ) × IsFoundAs asked.entry.plain asked.entry.setup (setting_on
         (kind_with
         M.seen_at M.changes_at M.outcome M.most_steps M.buffers) asked.entry.setup.params asked.entry.bytes.now)
@@ -230,6 +232,8 @@ fn put_found<M: HuntedMachine>(
         asked.setup.params asked.bytes.now) }
     requires values { first.now ≡ firsts (setting_on (kind_with M.seen_at M.changes_at M.outcome M.most_steps M.buffers)
         asked.setup.params asked.bytes.now) asked.runs asked.demand.now }
+    requires breaks { number_breaks (setting_on (kind_with M.seen_at M.changes_at M.outcome M.most_steps M.buffers)
+        asked.setup.params asked.bytes.now) asked.runs.by (Some asked.demand.now) first.now number ≡ true }
     ensures { OnOk result (IsPut (string_bytes text.old) (string_bytes text.new) (IsFoundAs asked.entry.plain
         asked.entry.setup (setting_on (kind_with M.seen_at M.changes_at M.outcome M.most_steps M.buffers)
         asked.entry.setup.params asked.entry.bytes.now) asked.entry.runs asked.entry.demand.now number)) }

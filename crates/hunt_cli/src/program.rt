@@ -14,7 +14,7 @@ use crate::exits::HuntExit;
 use crate::tool::run_hunt;
 use crate::watched::Watched;
 use command_line::{Question, asked};
-use hunt_uses::{table, usage_told};
+use hunt_texts::{table, usage_told};
 use rtr_cli::{arguments, tell};
 use rtr_io::{Sink, Source, StdSink, StdSource, WriteFault, write_all};
 use run_ranges::Pace;

@@ -3,7 +3,7 @@ ghost use Rattle.std.specs.Prelude.{◌≡◌, ◌*◌, ◌≤◌, IfOk, length}
 ghost use Rattle.rtr_types.specs.Parameters.{Fits};
 ghost use Rattle.run_steps.specs.Ways.{IsSetUp};
 ghost use Rattle.turn_policies.specs.Named.{numbered_by};
-ghost use Rattle.small_turns.specs.Acts.{turns_of};
+ghost use Rattle.turn_policies.specs.PickedTurns.{turns_of_picks};
 ghost use Rattle.hunt_runs.specs.Picked.{picks_numbered};
 ghost use Rattle.hunt_cli.specs.Kinds.{course, kind_with, named_choices, numbered_choices, picks, setting_in};
 ghost use Rattle.hunt_cli.specs.Kinds.{setting_on, turns_choices};
@@ -16,10 +16,9 @@ use hunt_runs::{
 };
 use hunt_words::RunName;
 use rtr_types::{Items, Params};
-use small_turns::turns_of;
 use std::alloc::{AllocError, Global};
 use turn_lists::Turn;
-use turn_policies::{Named, Numbered};
+use turn_policies::{Named, Numbered, turns_of_picks};
 
 /// What was counted in the straight run of the image of these bytes. The only refusal is want of memory.
 pub(crate) fn counted<M: HuntedMachine>(
@@ -92,12 +91,12 @@ pub(crate) fn picked_turns<M: HuntedMachine>(
     requires counts { counted.now ≡ picks (setting_on (kind_with M.seen_at M.changes_at M.outcome M.most_steps
         M.buffers) params bytes.now) }
     ensures { IfOk result (λ turns. let s = setting_on (kind_with M.seen_at M.changes_at M.outcome M.most_steps
-        M.buffers) params bytes.now in turns ≡ turns_of (picks_numbered (course s) (picks s) number room params.cores
-        (M.most_steps params))) }
+        M.buffers) params bytes.now in turns ≡ turns_of_picks (picks_numbered (course s) (picks s) number room
+        params.cores (M.most_steps params))) }
 {
     let opening = machine::<M>(alloc, bytes, params)?;
     let actors = picks_numbered(alloc, opening, params, counted, number, room)?;
-    turns_of(alloc, actors.as_slice())
+    turns_of_picks(alloc, actors.as_slice())
 }
 
 /// The run of a policy with this number, of the image of these bytes, of whose straight run these are the counts. The

@@ -3,7 +3,7 @@ ghost use Rattle.std.specs.Prelude.{◌≡◌, ◌*◌, ◌≤◌, IfOk, OnOk, S
 ghost use Rattle.rtr_types.specs.Parameters.{Fits};
 ghost use Rattle.schedule_pick.specs.Choices.{choices_of};
 ghost use Rattle.end_claims.specs.Demands.{is_demanded_within};
-ghost use Rattle.small_turns.specs.Acts.{turns_of};
+ghost use Rattle.turn_policies.specs.PickedTurns.{turns_of_picks};
 ghost use Rattle.small_turns.specs.Small.{IsSmall};
 ghost use Rattle.hunt_texts.specs.Reports.{whole_report};
 ghost use Rattle.state_text.specs.declared.exit.Exit.TheVariants.{Done};
@@ -163,8 +163,8 @@ impl<'a> SmallOf<'a> {
             self.setup.params self.bytes.now in IsRunUnder s (numbered_choices s number) run }
         ensures { IfOk result (λ found. let s = setting_on (kind_with M.seen_at M.changes_at M.outcome M.most_steps
             M.buffers) self.entry.setup.params self.entry.bytes.now in
-            IsMadeSmall (turns_break s self.entry.demand.now self.entry.first.now) (turns_of (picks_made s number))
-            found) }
+            IsMadeSmall (turns_break s self.entry.demand.now self.entry.first.now)
+            (turns_of_picks (picks_made s number)) found) }
     {
         let noted = run.noted();
         match self.from_run(alloc, run)? {

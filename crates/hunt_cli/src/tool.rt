@@ -9,7 +9,7 @@ ghost use Rattle.rtr_cli.specs.Answers.{IsRead, Tells};
 ghost use Rattle.rtr_cli.specs.Inputs.{loaded};
 ghost use Rattle.hunt_words.specs.Meaning.{meaning};
 ghost use Rattle.hunt_words.specs.declared.hunt.Hunt.{Hunt};
-ghost use Rattle.hunt_cli.specs.Answers.{HuntAnswers, IsGiven, IsIdle, IsRefused, TellsFaults};
+ghost use Rattle.hunt_cli.specs.Answers.{GivesWhole, HuntAnswers, IsGiven, IsIdle, IsRefused, TellsFaults};
 ghost use Rattle.hunt_cli.specs.declared.exits.HuntExit.TheVariants.{As};
 ghost use Rattle.rtr_types.specs.Parameters.{Fits};
 ghost use Rattle.hunt_words.specs.Fitting.{AreFewThreads, IsFitting};
@@ -39,7 +39,8 @@ use tso_core::BufferedMachine;
 /// it ended. `words` leaves out the program's name.
 ///
 /// At `Breaks` of `first` the run that is named is the first of the range that breaks the demand, and at `Done` none of
-/// it does. Where the run is told in turns, these break the demand and are least in steps. At `Done` and `Breaks` of
+/// it does. The run is told in turns, unless it is asked for as it is, or is one by a seed whose accesses, as turns,
+/// don't break the demand: the turns break the demand and are least in steps. At `Done` and `Breaks` of
 /// `table` each row counts the runs of the range that end so, and names the least of them. At `Whole` the run that was
 /// given doesn't break the demand. The line for `rtr` records just the run that is shown (`lines_mean_their_runs` of
 /// `hunt_words`), and what `record` gives is what `rtr` gives by that line. The whole output is made before a byte is
@@ -84,6 +85,11 @@ pub fn run_hunt<R: Threads + Sync, P: Pace, I: Source, O: Sink, E: Sink>(
     // Faults of the input and the output are told apart by their counts.
     ensures faults { TellsFaults result (I.faults input.old) (I.faults input.new) (O.faults output.old)
         (O.faults output.new) }
+
+    // Of an image all that is found is given, unless memory runs out or a stream fails.
+    ensures complete { (hunt : Hunt) (given bytes : List ℕ) → meaning (map string_bytes words.now) ≡ Some hunt →
+        GivesWhole hunt given bytes result (I.left input.old) (I.faults input.old) (I.faults input.new)
+        (O.faults output.old) (O.faults output.new) }
 {
     match meaning(alloc, words) {
         Ok(Some(hunt)) => hunted(rt, alloc, pace, hunt, input, output, report),
@@ -115,6 +121,8 @@ fn hunted<R: Threads + Sync, P: Pace, I: Source, O: Sink, E: Sink>(
     }) }
     ensures faults { TellsFaults result (I.faults input.old) (I.faults input.new) (O.faults output.old)
         (O.faults output.new) }
+    ensures complete { (given bytes : List ℕ) → GivesWhole hunt given bytes result (I.left input.old)
+        (I.faults input.old) (I.faults input.new) (O.faults output.old) (O.faults output.new) }
 {
     let bytes = match taken(alloc, &setup_in(&hunt), input) {
         Ok(bytes) => bytes,

@@ -1,5 +1,5 @@
 //! Lines of words that ask for nothing, and what is told of them.
-use hunt_uses::usage_told;
+use hunt_texts::usage_told;
 use hunt_words::fault;
 use row_texts::words;
 use std::test::Fail;

@@ -4,6 +4,7 @@ mod CoreSets
 mod Decisions
 pub mod EndViews
 mod PickCounts
+pub mod PickedRuns
 mod PlainMarks
 mod PlainRuns
 mod RunCourses

@@ -42,14 +42,17 @@ pub fn lead<M: HuntedMachine, P: Policy>(
     policy: P,
 ) -> Made<Led<M, P>>
     requires { IsSetUp (M.image machine) params }
-    ensures choices { IfOk result (λ led. led.choices ≡ (run_by (course_of M.seen_at M.changes_at (M.image machine) params)
-        P.policy policy params.cores (M.most_steps params)).choices) }
-    ensures policy { IfOk result (λ led. led.policy ≡ (run_by (course_of M.seen_at M.changes_at (M.image machine) params) P.policy
-        policy params.cores (M.most_steps params)).directed.policy) }
-    ensures enabled { IfOk result (λ led. EachEnabled (course_of M.seen_at M.changes_at (M.image machine) params) led.choices) }
+    ensures choices { IfOk result (λ led. led.choices
+        ≡ (run_by (course_of M.seen_at M.changes_at (M.image machine) params) P.policy policy params.cores
+        (M.most_steps params)).choices) }
+    ensures policy { IfOk result (λ led. led.policy
+        ≡ (run_by (course_of M.seen_at M.changes_at (M.image machine) params) P.policy policy params.cores
+        (M.most_steps params)).directed.policy) }
+    ensures enabled { IfOk result (λ led. EachEnabled (course_of M.seen_at M.changes_at (M.image machine) params)
+        led.choices) }
     ensures ended { IfOk result (λ led. M.ended led.machine ≡ true) }
-    ensures comes_to { IfOk result (λ led. (seed : ℕ) → EndsAs (M.cores led.machine) (M.words led.machine) (M.image machine).words
-        (M.outcome (M.image machine) params (choices_of led.choices seed))) }
+    ensures comes_to { IfOk result (λ led. (seed : ℕ) → EndsAs (M.cores led.machine) (M.words led.machine)
+        (M.image machine).words (M.outcome (M.image machine) params (choices_of led.choices seed))) }
     ensures cores { IfOk result (λ led. length (M.cores led.machine) ≡ params.cores) }
     ensures image { IfOk result (λ led. M.image led.machine ≡ M.image machine) }
 {

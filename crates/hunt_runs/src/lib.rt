@@ -11,7 +11,8 @@
 //! whatever seed follows them (`comes_to`). `run_of_turns` and `run_numbered` do so of a list of turns and of a
 //! number: by `few`, `walk`, ranks or a seed (`choices`, `comes_to`). `straight_counts` counts the picks of the
 //! straight run (`counted`). `AtEnd` asks the end's cores and words. `picks_numbered` makes the
-//! run of a number again and answers whom it picks.
+//! run of a number again and answers whom it picks, and the turns of these picks make just that run
+//! (`picks_make_the_run`).
 #![tactic(auto)]
 
 mod buffered;
@@ -33,4 +34,4 @@ pub use ended::AtEnd;
 pub use led::{Led, lead};
 pub use machine::HuntedMachine;
 pub use numbered::{Counted, Counting, Ended, run_numbered, run_of_turns, straight_counts};
-pub use picked::picks_numbered;
+pub use picked::{picks_make_the_run, picks_numbered};

@@ -165,8 +165,8 @@ pub fn run_numbered<M: HuntedMachine>(
         ≡ choices_numbered (course_of M.seen_at M.changes_at (M.image machine) params) counted.now numbered params.cores
         (M.most_steps params)) }
     ensures ended { IfOk result (λ ended. M.ended ended.machine ≡ true) }
-    ensures comes_to { IfOk result (λ ended. EndsAs (M.cores ended.machine) (M.words ended.machine) (M.image machine).words
-        (M.outcome (M.image machine) params (choices_of ended.choices ended.seed))) }
+    ensures comes_to { IfOk result (λ ended. EndsAs (M.cores ended.machine) (M.words ended.machine)
+        (M.image machine).words (M.outcome (M.image machine) params (choices_of ended.choices ended.seed))) }
     ensures cores { IfOk result (λ ended. length (M.cores ended.machine) ≡ params.cores) }
     ensures image { IfOk result (λ ended. M.image ended.machine ≡ M.image machine) }
 {
@@ -193,10 +193,11 @@ pub fn run_of_turns<M: HuntedMachine>(
 ) -> Made<Ended<M>>
     requires { IsSetUp (M.image machine) params }
     ensures choices { IfOk result (λ ended. choices_of ended.choices ended.seed
-        ≡ choices_by_turns (course_of M.seen_at M.changes_at (M.image machine) params) turns params.cores (M.most_steps params)) }
+        ≡ choices_by_turns (course_of M.seen_at M.changes_at (M.image machine) params) turns params.cores
+        (M.most_steps params)) }
     ensures ended { IfOk result (λ ended. M.ended ended.machine ≡ true) }
-    ensures comes_to { IfOk result (λ ended. EndsAs (M.cores ended.machine) (M.words ended.machine) (M.image machine).words
-        (M.outcome (M.image machine) params (choices_of ended.choices ended.seed))) }
+    ensures comes_to { IfOk result (λ ended. EndsAs (M.cores ended.machine) (M.words ended.machine)
+        (M.image machine).words (M.outcome (M.image machine) params (choices_of ended.choices ended.seed))) }
     ensures cores { IfOk result (λ ended. length (M.cores ended.machine) ≡ params.cores) }
     ensures image { IfOk result (λ ended. M.image ended.machine ≡ M.image machine) }
 {
@@ -215,8 +216,8 @@ fn run_led<M: HuntedMachine, P: Policy>(
         ≡ choices_of_run (course_of M.seen_at M.changes_at (M.image machine) params) P.policy policy params.cores
         (M.most_steps params)) }
     ensures ended { IfOk result (λ ended. M.ended ended.machine ≡ true) }
-    ensures comes_to { IfOk result (λ ended. EndsAs (M.cores ended.machine) (M.words ended.machine) (M.image machine).words
-        (M.outcome (M.image machine) params (choices_of ended.choices ended.seed))) }
+    ensures comes_to { IfOk result (λ ended. EndsAs (M.cores ended.machine) (M.words ended.machine)
+        (M.image machine).words (M.outcome (M.image machine) params (choices_of ended.choices ended.seed))) }
     ensures cores { IfOk result (λ ended. length (M.cores ended.machine) ≡ params.cores) }
     ensures image { IfOk result (λ ended. M.image ended.machine ≡ M.image machine) }
 {
@@ -243,8 +244,8 @@ fn run_of_seed<M: HuntedMachine>(
     requires { IsSetUp (M.image machine) params }
     ensures choices { IfOk result (λ ended. choices_of ended.choices ended.seed ≡ choices_of [] seed) }
     ensures ended { IfOk result (λ ended. M.ended ended.machine ≡ true) }
-    ensures comes_to { IfOk result (λ ended. EndsAs (M.cores ended.machine) (M.words ended.machine) (M.image machine).words
-        (M.outcome (M.image machine) params (choices_of ended.choices ended.seed))) }
+    ensures comes_to { IfOk result (λ ended. EndsAs (M.cores ended.machine) (M.words ended.machine)
+        (M.image machine).words (M.outcome (M.image machine) params (choices_of ended.choices ended.seed))) }
     ensures cores { IfOk result (λ ended. length (M.cores ended.machine) ≡ params.cores) }
     ensures image { IfOk result (λ ended. M.image ended.machine ≡ M.image machine) }
 {

@@ -1,9 +1,12 @@
 //! Whom the run of a number picks.
-ghost use Rattle.std.specs.Prelude.{◌≡◌, IfOk};
+ghost use Rattle.std.specs.Prelude.{◌≡◌, ℕ, IfOk, false};
 ghost use Rattle.run_steps.specs.Ways.{IsSetUp};
-ghost use Rattle.hunt_runs.specs.Courses.{course_of};
+ghost use Rattle.turn_policies.specs.Named.{is_by_seed};
+ghost use Rattle.turn_policies.specs.declared.named.Numbered.{Numbered};
+ghost use Rattle.hunt_runs.specs.Counted.{Picks};
+ghost use Rattle.hunt_runs.specs.Courses.{Course, course_of};
 ghost use Rattle.hunt_runs.specs.Numbering.{straight_picks};
-ghost use Rattle.hunt_runs.specs.Picked.{picks_numbered, picks_of_run};
+ghost use Rattle.hunt_runs.specs.Picked.{PicksMakeTheRun, picks_numbered, picks_of_run};
 
 use crate::led::{Led, lead};
 use crate::machine::HuntedMachine;
@@ -66,3 +69,9 @@ fn picks_led<M: HuntedMachine, P: Policy>(
     } = led;
     Ok(policy.into_picks())
 }
+
+/// The turns in which the run of a number picks make just this run: a law. No policy picks in a run by a seed.
+pub fn picks_make_the_run()
+    ensures { (course : Course) (picks : Picks) (number : Numbered) (cores most : ℕ) → is_by_seed number ≡ false
+        → PicksMakeTheRun course picks number cores most }
+{}

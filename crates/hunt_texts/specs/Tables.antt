@@ -13,7 +13,8 @@ mark broken = if broken == 0 then codes " :>" else codes " *>"
 -- how many runs end so, whether they break the claim, how they end, and the least of them
 abbrev pub row_line : List Place → Row → List ℕ
 row_line places row =
-    decimal row.count ++ mark row.broken ++ answers places row.values ++ codes " run " ++ decimal row.least ++ codes "\n"
+    decimal row.count ++ mark row.broken ++ answers places row.values ++ codes " run " ++ decimal row.least
+    ++ codes "\n"
 
 abbrev pub row_lines : List Place → List Row → List ℕ
 row_lines places rows = flat_map (row_line places) rows

@@ -15,7 +15,6 @@ mod names;
 mod numerals;
 mod open;
 mod options;
-mod pieces;
 mod reading;
 mod refusals;
 mod stops;

@@ -10,7 +10,7 @@ ghost use Rattle.hunt_words.specs.Values.{number_or, policy_named, policy_or, ra
 ghost use Rattle.hunt_words.specs.Values.{words_or};
 
 use crate::given::{Given, text_at};
-use crate::pieces::{behind, parted};
+use end_claims::{behind, parted};
 use rtr_types::Items;
 use std::alloc::{AllocError, Global};
 use tool_words::{WORDS_DEFAULT, number_between, whole_blocks};

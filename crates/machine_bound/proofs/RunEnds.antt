@@ -28,7 +28,7 @@ use Rattle.machine_invariant.specs.Holds.{MachineHolds}
 use Rattle.machine_invariant.proofs.StartInvariant.{chosen_enabled, holds_run}
 use Rattle.machine_invariant.proofs.ChoiceStates.{cores_stay, each_after}
 use Rattle.machine_invariant.proofs.StepFrame.{step_cores}
-use Rattle.machine_progress.proofs.Stuck.{some_move}
+use Rattle.machine_invariant.proofs.Stuck.{some_move}
 use Rattle.machine_bound.specs.Ends.{most_steps, end_of}
 use Rattle.machine_bound.proofs.PortEarns.{done_base}
 use Rattle.machine_bound.proofs.Payments.{earns}

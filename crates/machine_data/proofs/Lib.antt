@@ -5,3 +5,4 @@ pub mod Recalls
 pub mod WordSteps
 pub mod Final
 pub mod Remembers
+pub mod OneMore

@@ -10,6 +10,7 @@ ghost use Rattle.msi_state.specs.Runs.{accesses, run};
 ghost use Rattle.msi_state.specs.States.{State, all_done, state_start};
 ghost use Rattle.msi_state.specs.Steps.{enabled, event, step};
 ghost use Rattle.msi_state.specs.declared.moves.Move.{Move};
+ghost use Rattle.machine_data.specs.OneMore.{AccessLeavesLaw};
 
 use access_times::{Carry, Rider};
 
@@ -56,4 +57,10 @@ pub fn the_end_has_the_memory<R: Rider, K: Carry>()
 pub fn final_memory_law()
     ensures { RunsLeaveLast run all_done (final_word none_riding none_carrying) (final_memory none_riding none_carrying)
         accesses }
+{}
+
+/// An access that finds what the earlier ones left in its word leaves the memory as they did, but for that word where
+/// it writes: there it leaves its value after.
+pub fn one_access_more()
+    ensures { AccessLeavesLaw }
 {}

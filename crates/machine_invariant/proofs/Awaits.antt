@@ -12,7 +12,7 @@ use Rattle.rtr_types.specs.declared.access.Kind.{Kind}
 use Rattle.image_mem.specs.Contents.{Contents}
 use Rattle.rv_core.specs.declared.core_state.Core.{Core}
 use Rattle.rv_core.specs.Steps.{need, is_done, access_of as need_access}
-use Rattle.msi_cache.specs.Lines.{waits}
+use Rattle.msi_memory.specs.Acts.{waits}
 use Rattle.msi_memory.specs.declared.port.Port.{Port}
 use Rattle.msi_memory.specs.Acts.{TakeRequest, TakeResponse, TakeMessage, allows, data_next}
 use Rattle.msi_memory.specs.Memories.{port_at}

@@ -8,7 +8,7 @@ use Rattle.rv_core.specs.declared.core_state.Core.{Core}
 use Rattle.rv_core.specs.declared.core_state.Need.{Need}
 use Rattle.rv_core.specs.States.{starting}
 use Rattle.rv_core.specs.Steps.{need, is_done, access_of as need_access}
-use Rattle.msi_cache.specs.Lines.{waits}
+use Rattle.msi_memory.specs.Acts.{waits}
 use Rattle.msi_memory.specs.Memories.{port_at}
 use Rattle.msi_laws.specs.Moving.{links_empty}
 use Rattle.msi_state.specs.States.{State, core_at, all_done}

@@ -7,3 +7,6 @@ pub mod ChoiceStates
 pub mod StartInvariant
 pub mod InvariantPromise
 pub mod DoneCores
+pub mod MoveGrounds
+pub mod Stuck
+pub mod DoneMachine

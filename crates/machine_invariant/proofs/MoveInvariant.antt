@@ -15,7 +15,7 @@ use Rattle.rv_core.specs.declared.core_state.Core.{Core}
 use Rattle.rv_core.specs.Steps.{need, after, is_done, access_of as need_access}
 use Rattle.rv_core.proofs.LawLemmas.{number_law, count_law, limit_law, room_law, within_law}
 use Rattle.rv_core.proofs.OpLemmas.{access_goes}
-use Rattle.msi_cache.specs.Lines.{waits}
+use Rattle.msi_memory.specs.Acts.{waits}
 use Rattle.msi_directory.specs.Blocks.{block_count}
 use Rattle.msi_memory.specs.declared.port.Port.{Port}
 use Rattle.msi_memory.specs.Acts.{Want, TakeRequest, TakeResponse, TakeMessage, can, can_all}

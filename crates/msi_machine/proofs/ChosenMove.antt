@@ -7,7 +7,7 @@ use Rattle.msi_state.specs.Moves.{candidates}
 use Rattle.msi_state.specs.States.{Machinery, State, all_done}
 use Rattle.msi_state.specs.Steps.{enabled, moves}
 use Rattle.machine_invariant.specs.Holds.{MachineHolds}
-use Rattle.machine_progress.proofs.Stuck.{some_move}
+use Rattle.machine_invariant.proofs.Stuck.{some_move}
 use Rattle.move_marks.proofs.NumberedMoves.{numbered, numbered_passes}
 use Rattle.msi_machine.specs.Steppings.{IsTaken}
 

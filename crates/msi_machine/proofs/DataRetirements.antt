@@ -25,7 +25,7 @@ use Rattle.msi_state.specs.Rests.{may_access}
 use Rattle.msi_state.specs.States.{State, core_at}
 use Rattle.msi_state.specs.Steps.{enabled, event}
 use Rattle.machine_invariant.specs.Holds.{MachineHolds}
-use Rattle.machine_progress.proofs.MoveGrounds.{rows_there}
+use Rattle.machine_invariant.proofs.MoveGrounds.{rows_there}
 use Rattle.msi_machine.specs.Delivering.{MessagesRetire, retires_with}
 use Rattle.move_marks.proofs.AnswerMarks.{below_is, false_true, right_of}
 

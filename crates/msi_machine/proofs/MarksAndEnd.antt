@@ -19,7 +19,7 @@ use Rattle.msi_state.specs.Steps.{enabled, step}
 use Rattle.machine_invariant.specs.Holds.{MachineHolds}
 use Rattle.machine_invariant.proofs.DoneCores.{links_left}
 use Rattle.machine_invariant.proofs.StepFrame.{step_ports}
-use Rattle.machine_progress.proofs.DoneMachine.{moves_left}
+use Rattle.machine_invariant.proofs.DoneMachine.{moves_left}
 use Rattle.msi_machine.specs.declared.marks.Marks.{Marks}
 use Rattle.msi_machine.specs.declared.standing.Standing.{Standing}
 use Rattle.msi_machine.specs.Marks.{AllMarked, marked}

@@ -18,7 +18,8 @@ use Rattle.msi_cache.specs.declared.messages.Response.{Response}
 use Rattle.msi_cache.specs.declared.messages.Request.{Request}
 use Rattle.msi_cache.specs.Messages.{block_of, request_block}
 use Rattle.msi_cache.specs.Lines.{line_for, lines_put, lines_riding, lines_after, lines_asking, asks, answer}
-use Rattle.msi_cache.specs.Lines.{is_allowed, waits}
+use Rattle.msi_cache.specs.Lines.{is_allowed}
+pub use Rattle.msi_cache.specs.Lines.{waits}
 use Rattle.msi_directory.specs.declared.entry.HomeAnswer.{HomeAnswer}
 use Rattle.msi_directory.specs.declared.entry.Entry.{Entry}
 use Rattle.msi_directory.specs.Table.{is_free}

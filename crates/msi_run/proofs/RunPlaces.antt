@@ -1,5 +1,5 @@
 -- Where a machine stands in the run that it makes.
-use Rattle.std.proofs.Common.{◌≡◌, ◌∙◌, ap, ℕ, ◌<◌, List, Some, length, arith, false, sym, subst}
+use Rattle.std.proofs.Common.{◌≡◌, ap, ℕ, ◌<◌, List, length, arith, false, sym, subst}
 use Rattle.std.specs.Prelude.{All, IsTrue}
 use Rattle.std.proofs.lemmas.List.Elements.{All-from_get_or, All-weaker}
 use Rattle.std.proofs.lemmas.List.FromFn.{length-map-range_with_len}
@@ -14,15 +14,14 @@ use Rattle.rv_core.specs.States.{starting}
 use Rattle.rv_core.specs.Steps.{is_done, need}
 use Rattle.rv_core.specs.declared.core_state.Core.{Core}
 use Rattle.rv_core.specs.declared.outcome.LoadNote.{LoadNote}
-use Rattle.schedule_pick.specs.Choices.{Choices, choice_at, choices_after}
+use Rattle.schedule_pick.specs.Choices.{Choices, choice_at}
 use Rattle.load_lists.specs.Lists.{LoadRooms}
 use Rattle.msi_state.specs.Events.{Event, Nothing, Retires, Accesses, Tells, next_instr}
-use Rattle.msi_state.specs.Runs.{accesses, chosen, loads_of, plain_step}
-use Rattle.msi_state.specs.States.{PlainState, State}
+use Rattle.msi_state.specs.Runs.{accesses, loads_of}
+use Rattle.msi_state.specs.States.{State}
 use Rattle.msi_state.specs.Steps.{AcceptsNext}
-use Rattle.msi_state.specs.declared.moves.Move.{Move}
 use Rattle.machine_plain.specs.Plain.{plain}
-use Rattle.run_outcome.proofs.RunPlaces.{Steps, numbered}
+use Rattle.run_outcome.proofs.RunPlaces.{numbered}
 use Rattle.run_outcome.specs.Loads.{lists_told}
 use Rattle.run_outcome.specs.Outcomes.{StandsAt}
 use Rattle.run_steps.specs.Clerks.{Accepts, ToldLocal, ToldTouch}
@@ -65,9 +64,3 @@ accepts_next {R} {K} image params schedule t s loads rest c fits stands same roo
       roomy = roomy;
     })
     s.cores (all_numbered image params schedule t s loads rest fits stands)
-
--- the step that is taken by the next choice
-pub steps_by : {s s' : PlainState} {rest rest' : Choices} {m : Move} {choice : ℕ} → choice ≡ choice_at rest 0 →
-    chosen s choice ≡ Some m → s' ≡ plain_step s m → rest' ≡ choices_after rest → Steps s s' rest rest' m
-steps_by {s} {s'} {rest} {rest'} {m} {choice} number taken state left =
-    record { taken = ap (chosen s) (sym number) ∙ taken; state = state; left = left }

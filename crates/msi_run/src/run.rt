@@ -1,7 +1,7 @@
 //! The run of an image.
 ghost use Rattle.std.specs.Prelude.{◌≡◌, IfOk};
 ghost use Rattle.run_steps.specs.Ways.{IsSetUp};
-ghost use Rattle.machine_bound.specs.Ends.{end_of};
+ghost use Rattle.run_outcome.specs.Outcomes.{end_of};
 ghost use Rattle.machine_plain.specs.Plain.{plain};
 ghost use Rattle.msi_state.specs.Runs.{IsRunEnd};
 ghost use Rattle.run_outcome.specs.Outcomes.{StandsAt, outcome_of};

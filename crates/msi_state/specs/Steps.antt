@@ -13,7 +13,7 @@ use Rattle.rtr_types.specs.declared.access.Kind.{Kind}
 use Rattle.rtr_types.specs.declared.instr.Instr.{Instr}
 use Rattle.rv_core.specs.declared.core_state.Core.{Core}
 use Rattle.rv_core.specs.Steps.{need, after, is_done, access_of as need_access}
-use Rattle.msi_cache.specs.Lines.{waits}
+use Rattle.msi_memory.specs.Acts.{waits}
 use Rattle.msi_memory.specs.declared.port.Port.{Port}
 use Rattle.msi_memory.specs.Acts.{Act, Want, Touch, Retire, TakeRequest, TakeResponse, TakeMessage, can, after_acts}
 use Rattle.msi_memory.specs.Memories.{port_at}

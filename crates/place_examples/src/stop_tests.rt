@@ -1,10 +1,11 @@
 //! Ways on which a test stops a place.
-ghost use Rattle.std.specs.Prelude.{IfOk, IfSome, nat_eq};
+ghost use Rattle.std.specs.Prelude.{IfOk, IfSome, false, nat_eq};
+ghost use Rattle.std.proofs.Common.{refl};
 ghost use Rattle.cut_replay.specs.ClosedCuts.{IsClosed};
 ghost use Rattle.replay_core.specs.Play.{core_at};
 
 use crate::handed_over::{counts, handed_over};
-use cut_index::Standing;
+use cut_index::Next;
 use cut_replay::{cut_with, has_instr};
 use debug_place::{Place, Stops};
 use replay_audit::Audited;
@@ -19,8 +20,20 @@ struct Breakpoint(u32);
 impl Stops for Breakpoint {
     ghost stops = { λ point plan state core. nat_eq (core_at state core).pc point.0 };
 
-    fn stops(&self, standing: &Standing, core: u8) -> bool {
-        standing.pc(core) == self.0
+    ghost hits = { λ point. record { each = λ core next. nat_eq next.pc point.0; last = λ core. false } };
+
+    ghost own = { λ point plan state core. refl };
+
+    fn hits(&self, _core: u8, next: Next) -> bool {
+        next.pc == self.0
+    }
+
+    fn stops_last(&self, _core: u8) -> bool {
+        false
+    }
+
+    fn passes_all(&self, _core: u8) -> bool {
+        false
     }
 }
 

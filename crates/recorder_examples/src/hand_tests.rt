@@ -1,8 +1,8 @@
 //! Runs whose accesses were worked out by hand, with the least set of each.
 ghost use Rattle.std.specs.Prelude.{◌≤◌};
 
+use crate::keeper::image_of;
 use crate::settings::{HANDED_OVER, IN_TURN, leaves, load, params_of, schedule_of};
-use known_examples::image_of;
 use race_log::Recording;
 use recorder::{Recorded, record_run};
 use rv_core::LoadNote;

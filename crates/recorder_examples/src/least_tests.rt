@@ -2,9 +2,9 @@
 ghost use Rattle.std.specs.Prelude.{◌≡◌, IfOk};
 ghost use Rattle.conflict_edge.specs.Conflicts.{are_after, do_counts_rise};
 
+use crate::keeper::{Told, image_of, told_in_run};
 use conflict_edge::{ACCESSES_MAX, least_of};
 use image_mem::Image;
-use known_examples::{Told, image_of, told_in_run};
 use race_log::Recording;
 use recorder::record_run;
 use rtr_types::{Access, CORES_MAX, Edge, Instr, Params, pair_count, pair_of};

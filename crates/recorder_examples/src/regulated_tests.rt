@@ -1,7 +1,7 @@
 //! Runs of all cores, whose recorded vectors are those of a slow program, which is written from the
 //! definition over what is known at each retirement.
+use crate::keeper::Told;
 use crate::least_tests::{PARAMS, SEEDS, image, told_under};
-use known_examples::Told;
 use race_log::Recording;
 use recorder::record_run;
 use rtr_types::{CORES_MAX, pair_count, pair_of};

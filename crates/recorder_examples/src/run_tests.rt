@@ -1,8 +1,8 @@
 //! Runs that were worked out by hand.
 ghost use Rattle.std.specs.Prelude.{◌≤◌};
 
+use crate::keeper::image_of;
 use crate::settings::{HANDED_OVER, IN_TURN, leaves, load, params_of, schedule_of};
-use known_examples::image_of;
 use msi_run::{Ran, run_image};
 use rv_core::LoadNote;
 use std::alloc::Global;

@@ -159,8 +159,8 @@ impl Trail {
         ensures { OnOk result (Watches self.old access self.new) }
     {
         let clock = self.clocks.by_number(access.at, number);
-        self.found = find(
-            self.found,
+        find(
+            &mut self.found,
             &self.marks,
             self.listed,
             self.accesses.as_slice(),
@@ -190,26 +190,26 @@ impl Watch for Trail {
     ghost keeps_accepting = { watch_keeps_accepting };
 }
 
-/// The first two accesses that are unordered, with one access more: the first that were found stay.
+/// Finds the first two accesses that are unordered, with one access more. Those that were found stay, and then nothing
+/// is written.
 #[inline(always)]
 fn find(
-    found: Option<Unordered>,
+    found: &mut Option<Unordered>,
     marks: &Marks,
     listed: bool,
     accesses: &[Access],
     access: &Access,
     clock: &ClockOf,
-) -> Option<Unordered>
+)
     requires { IsTrue listed → (b : SomeAccess) → StandsIn accesses.now b → b.at.core < CORES_MAX }
-    ensures { FoundNext listed found marks.now accesses.now access.now clock.now result }
+    ensures { FoundNext listed found.old marks.now accesses.now access.now clock.now found.new }
 {
     match found {
-        Some(pair) => Some(pair),
+        Some(_) => {}
         None => {
-            if marks.are_covered(access, clock) {
-                return None;
+            if !marks.are_covered(access, clock) {
+                *found = first_open(listed, accesses, access, clock);
             }
-            first_open(listed, accesses, access, clock)
         }
     }
 }

@@ -22,7 +22,8 @@ use Rattle.replay_core.specs.Plans.{Plan, plan_of}
 use Rattle.replay_core.specs.Play.{instr}
 use Rattle.replay_core.specs.declared.coming.Coming.{Coming}
 use Rattle.replay_core.specs.Sources.{AreSources, listed}
-use Rattle.replay_core.specs.Coming.{IsFirstInto, IsNextInto, IsSource, IsSourceIn, IsStillNext, Leads, IsComing}
+use Rattle.replay_core.specs.Coming.{IsFirstInto, IsNextInto, IsPut, IsSource, IsSourceIn, IsStillNext, IsTaken}
+use Rattle.replay_core.specs.Coming.{IsComing, Leads, PassesCore}
 use Rattle.replay_core.specs.Coming.{AreComing, edge_of}
 use Rattle.replay_core.specs.Coming.{coming_at, no_coming}
 use Rattle.replay_core.proofs.InstructionSources.{SourcedTo, sourced_some, sourced_none, sourced_own}
@@ -152,6 +153,32 @@ module _ (which : Which) (r : Recording) (valid : Valid r) where
   source_by of at o None next s = no_source of at o next (s.none refl)
   source_by of at o (Some a) next s =
       source_here of at (a, at.count) (subst (IsNextInto (log_edges which r) of at) (s.found a refl) next) refl
+
+  -- what is known leads to a later instruction
+  pub stays_passes : (k m : Coming) (of : ℕ) (at : Instr) (s : List ℕ) →
+      IsNextInto (log_edges which r) of (instr at.core k.from) (edge_of k of) → k.from ≤ at.count →
+      IfSome (edge_of k of) (λ e. at.count < e.1) → IsPut k of (edge_of k of) m →
+      PassesCore (log_edges which r) at of s k s m
+  stays_passes k m of at s known from later put = record {
+    source = None;
+    next = edge_of k of;
+    source_is = no_source of at (edge_of k of) here (apart_by (edge_of k of) later);
+    next_is = still_next of at (edge_of k of) here (apart_by (edge_of k of) later);
+    taken = refl;
+    put = put;
+  }
+    where
+      still_by : (o : Option (ℕ × ℕ)) → IfSome o (λ e. at.count < e.1) → IfSome o (λ e. at.count ≤ e.1)
+      still_by None h = tt
+      still_by (Some e) h = omega arith
+
+      apart_by : (o : Option (ℕ × ℕ)) → IfSome o (λ e. at.count < e.1) → IfSome o (λ e. e.1 ≢ at.count)
+      apart_by None h = tt
+      apart_by (Some e) h = λ same. omega arith
+
+      here : IsNextInto (log_edges which r) of at (edge_of k of)
+      here = known_next k of at (edge_of k of) known
+          (record { known = from; edge_is = refl; still = still_by (edge_of k of) later })
 
   -- ---- each core in turn
 
@@ -285,19 +312,6 @@ pub record PassedTo (edges : List Edge) (y : Instr) (n : ℕ) (s : List ℕ) (ol
   pub from : k.from ≡ old.from
   pub rest : (i : ℕ) → n ≤ i → edge_of k i ≡ edge_of old i
   pub looked : LookedTo edges y n s (with_from (y.count + 1) k)
-
--- core n's source is put in, if it has one
-abbrev pub IsTaken : Option ℕ → ℕ → (s t : List ℕ) → Type 0
-IsTaken None n s t = t ≡ s
-IsTaken (Some a) n s t = (slice_index t n ≡ a) × ((i : ℕ) → i ≢ n → slice_index t i ≡ slice_index s i)
-
--- the edge from core n is put in
-pub record IsPut (k : Coming) (n : ℕ) (e : Option (ℕ × ℕ)) (m : Coming) : Type 0 where
-  pub from : m.from ≡ k.from
-  pub at : edge_of m n ≡ e
-  pub others : (i : ℕ) → i ≢ n → edge_of m i ≡ edge_of k i
-  pub before : m.due ≤ k.due
-  pub due : IfSome e (λ x. m.due ≤ x.1)
 
 abbrev LooksOwn : List Edge → Type 0
 LooksOwn edges = (y : Instr) (n : ℕ) (s : List ℕ) (k : Coming) → LookedTo edges y n s k → n ≡ y.core →

@@ -1,5 +1,6 @@
 -- Which edges of a log come next.
-use Rattle.std.specs.Prelude.{◌≡◌, ◌≢◌, ℕ, ◌-◌, ◌<◌, ◌≤◌, List, [], length, slice_index_or, Option, Some, None, IfSome}
+use Rattle.std.specs.Prelude.{◌≡◌, ◌≢◌, ℕ, ◌+◌, ◌-◌, ◌<◌, ◌≤◌, List, [], length, slice_index, slice_index_or, Option, Some}
+use Rattle.std.specs.Prelude.{None, IfSome}
 use Rattle.std.specs.List.{Contains}
 use Rattle.rtr_types.specs.declared.instr.Instr.{Instr}
 use Rattle.rtr_types.specs.declared.instr.Edge.{Edge}
@@ -104,3 +105,28 @@ pub record AreComing (which : Which) (r : Recording) (list : List Coming) : Type
   pub valid : Valid r
   pub all : length list ≡ r.params.cores
   pub each : (c : ℕ) → c < r.params.cores → IsComing (log_edges which r) c r.params.cores (coming_at list c)
+
+-- ---- what is found of an instruction on one core
+
+-- core n's source is put in, if it has one
+abbrev pub IsTaken : Option ℕ → ℕ → (s t : List ℕ) → Type 0
+IsTaken None n s t = t ≡ s
+IsTaken (Some a) n s t = (slice_index t n ≡ a) × ((i : ℕ) → i ≢ n → slice_index t i ≡ slice_index s i)
+
+-- the edge from core n is put in
+pub record IsPut (k : Coming) (n : ℕ) (e : Option (ℕ × ℕ)) (m : Coming) : Type 0 where
+  pub from : m.from ≡ k.from
+  pub at : edge_of m n ≡ e
+  pub others : (i : ℕ) → i ≢ n → edge_of m i ≡ edge_of k i
+  pub before : m.due ≤ k.due
+  pub due : IfSome e (λ x. m.due ≤ x.1)
+
+-- core n's source of y is put in, and its next edge to a later instruction
+pub record PassesCore (edges : List Edge) (y : Instr) (n : ℕ) (s : List ℕ) (k : Coming) (t : List ℕ) (m : Coming)
+    : Type 0 where
+  pub source : Option ℕ
+  pub next : Option (ℕ × ℕ)
+  pub source_is : IsSource edges n y source
+  pub next_is : IsNextInto edges n (instr y.core (y.count + 1)) next
+  pub taken : IsTaken source n s t
+  pub put : IsPut k n next m

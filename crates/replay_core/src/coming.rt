@@ -1,5 +1,6 @@
 //! The logged sources of instructions that are asked for one after the other.
-ghost use Rattle.std.specs.Prelude.{◌≡◌, ◌≢◌, ◌<◌, ◌≤◌, ◌+◌, ◌-◌, ◌^◌, ℕ, IfOk, IfSome, IsTrue, length};
+ghost use Rattle.std.specs.Prelude.{◌≡◌, ◌≢◌, ◌<◌, ◌≤◌, ◌+◌, ◌-◌, ◌^◌, ℕ, IfOk, IfSome, IsTrue, false};
+ghost use Rattle.std.specs.Prelude.{length};
 ghost use Rattle.std.specs.Prelude.{None as NoneThere};
 ghost use Rattle.rtr_types.specs.declared.TheConstants.{CORES_MAX};
 ghost use Rattle.rtr_types.specs.declared.pairs.Which.{Which};
@@ -11,7 +12,8 @@ ghost use Rattle.rtr_types.specs.Pairs.{IsPair};
 ghost use Rattle.race_log.specs.Sources.{log_edges};
 ghost use Rattle.race_log.specs.Validity.{Valid};
 ghost use Rattle.replay_core.specs.Sources.{AreSources, sources_in};
-ghost use Rattle.replay_core.specs.Coming.{IsComing, IsNextInto, IsSource, IsSourceIn, IsStillNext, edge_of};
+ghost use Rattle.replay_core.specs.Coming.{IsComing, IsNextInto, IsPut, IsSource, IsSourceIn, IsStillNext, IsTaken};
+ghost use Rattle.replay_core.specs.Coming.{PassesCore, edge_of};
 
 use crate::next_edge::{Log, next_edge};
 use clock_core::Clock;
@@ -88,9 +90,19 @@ impl Coming {
         self.from <= count && count < self.due
     }
 
-    /// The first count from this one on to which an edge may lead.
+    /// The first count from this one on to which an edge may lead. Instructions with counts before it have no sources.
     #[inline(always)]
-    fn free_to(&self, count: u32) -> u32
+    pub fn free_to(&self, count: u32) -> u32
+        ensures { (which : Which) (r : Recording) (core n : ℕ) → Valid r →
+            IsComing (log_edges which r) core r.params.cores self.now → count ≤ n → n < result →
+            AreSources (log_edges which r) (instr core n) no_counts }
+    {
+        self.early_to(count)
+    }
+
+    /// So by what is known of the edges.
+    #[inline(always)]
+    fn early_to(&self, count: u32) -> u32
         ensures { (n : ℕ) → count ≤ n → n < result → (self.now.from ≤ n) × (n < self.now.due) }
     {
         if self.from <= count { self.due } else { count }
@@ -147,17 +159,57 @@ impl Coming {
         self.due = u32::MAX;
         for of in 0..log.recording.params.cores {
             if of != at.core {
-                let mut place = self.places[of as usize];
-                let Step { source, next } = self.step(log, of, at, &mut place);
-                self.put(of, next, place);
-                match source {
-                    Some(count) => found.set(of, count),
-                    None => {}
-                }
+                self.pass_core(log, of, at, &mut found);
             }
         }
         self.from = at.count + 1;
         found
+    }
+
+    /// Finds the instruction's source on a core, and goes on to the core's next edge to a later instruction. Mostly
+    /// the edge that is known leads to one: then it stays.
+    #[inline(always)]
+    fn pass_core(&mut self, log: Log, of: u8, at: Instr, found: &mut Clock)
+        requires valid { Valid log.recording.now }
+        requires pair { IsPair log.recording.now.params.cores of at.core }
+        requires count { at.count < 2 ^ 32 - 1 }
+        requires coming { IsNextInto (log_edges log.which log.recording.now) of (instr at.core self.old.from)
+            (edge_of self.old of) }
+        ensures { PassesCore (log_edges log.entry.which log.entry.recording.now) at of found.old self.old found.new
+            self.new }
+    {
+        if self.stays(of, at.count) {
+            return;
+        }
+        let mut place = self.places[of as usize];
+        let Step { source, next } = self.step(log, of, at, &mut place);
+        self.put(of, next, place);
+        take(found, of, source);
+    }
+
+    /// Whether the next edge from a core is known to lead to a later instruction than the one with this count, or
+    /// there is known to be none. It stays, and is due.
+    #[inline(always)]
+    fn stays(&mut self, of: u8, count: u32) -> bool
+        requires { of < CORES_MAX }
+        ensures other { result ≡ false → self.new ≡ self.old }
+        ensures known { IsTrue result → self.old.from ≤ count }
+        ensures later { IsTrue result → IfSome (edge_of self.old of) (λ e. count < e.1) }
+        ensures put { IsTrue result → IsPut self.old of (edge_of self.old of) self.new }
+    {
+        if count < self.from {
+            return false;
+        }
+        match self.edges[of as usize] {
+            Some((_, target)) => {
+                if target <= count {
+                    return false;
+                }
+                self.due = self.due.min(target);
+                true
+            }
+            None => true,
+        }
     }
 
     /// The instruction's source on a core, and the core's next edge to a later instruction, with the guess.
@@ -277,6 +329,19 @@ fn clear(sources: &mut Option<Clock>)
 {
     if sources.is_some() {
         *sources = None;
+    }
+}
+
+/// Puts in a source on a core, if there is one.
+#[tactic(auto, using(crate::proofs::AwaitedEdges::taken_some, crate::proofs::AwaitedEdges::taken_none))]
+#[inline(always)]
+fn take(found: &mut Clock, of: u8, source: Option<u32>)
+    requires { of < CORES_MAX }
+    ensures { IsTaken source of found.old found.new }
+{
+    match source {
+        Some(count) => found.set(of, count),
+        None => {}
     }
 }
 

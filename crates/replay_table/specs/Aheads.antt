@@ -1,6 +1,9 @@
 -- What a core that runs ahead of its executed count has done.
-use Rattle.std.specs.Prelude.{ℕ}
+use Rattle.std.specs.Prelude.{◌≡◌, ℕ, zero, suc}
+use Rattle.image_mem.specs.Contents.{Contents}
 use Rattle.rv_core.specs.declared.core_state.Core.{Core}
+use Rattle.rv_core.specs.declared.core_state.Need.TheVariants.{Local}
+use Rattle.rv_core.specs.Steps.{need, after}
 use Rattle.replay_core.specs.Plans.{Plan}
 use Rattle.replay_audit.specs.Laws.{IsDue, IsAhead}
 
@@ -11,3 +14,8 @@ Due p f k = IsDue p f k.id k
 -- the second core is the first after n local instructions, each of which was due
 abbrev pub Ahead : Plan → (ℕ → ℕ) → ℕ → Core → Core → Type 0
 Ahead p f n k at = IsAhead p f k.id n k at
+
+-- the second core is the first after n local instructions
+abbrev pub AreLocal : Contents → (n : ℕ) → Core → Core → Type 0
+AreLocal image zero k a = a ≡ k
+AreLocal image (suc n) k a = (mid : Core) × AreLocal image n k mid × (need image mid ≡ Local) × (a ≡ after image mid 0)

@@ -3,7 +3,7 @@
 //! The rule says that some order stands, and no history is kept of which. A store of a part of a word is a load and
 //! then a compare-exchange, and so is an atomic memory operation. The exchange isn't tried again: if the recording is
 //! determinate, it never fails. A seat looks up its next instruction and its logged sources once. A core that runs
-//! local instructions takes no step.
+//! local instructions takes no step: it goes on in one run, up to an access, a count or an edge (`locals`).
 //!
 //! Proved: each seat call names its one step of the table by a relation, and what the rule tells of it. `make` deals
 //! each core a seat that has done, seen and holds nothing. The opening memory with done counts of 0 keeps the table's
@@ -18,8 +18,10 @@
 
 mod close;
 mod closed;
+mod gate;
 mod job;
 pub mod laws;
+mod locals;
 mod parts;
 mod past;
 mod raced;
@@ -31,6 +33,7 @@ mod view;
 
 pub use close::CloseFault;
 pub use closed::Closed;
+pub use gate::{Gate, OpenGate};
 pub use job::Job;
 pub use raced::Raced;
 pub use rules::{

@@ -1,12 +1,16 @@
 //! What a core has done.
-ghost use Rattle.std.specs.Prelude.{◌≡◌, [], IsTrue, OnOk, false};
+ghost use Rattle.std.specs.Prelude.{◌≡◌, ◌<◌, ◌≤◌, ℕ, [], IsTrue, OnOk, false};
 ghost use Rattle.rv_core.specs.Steps.{need, after, wrote, is_done, instruction_at};
+ghost use Rattle.replay_table.specs.Aheads.{AreLocal};
 ghost use Rattle.replay_table.specs.Seats.{Notes};
 
+use crate::gate::Gate;
+use crate::locals::NoWord;
+use core_runs::Ran;
 use image_mem::Image;
 use replay_audit::Touch;
 use rtr_types::{Instr, Kind};
-use rv_core::{Core, LoadNote};
+use rv_core::{Core, LoadNote, Program};
 use rv_decode::Op;
 use std::alloc::{AllocError, Global};
 use std::marker::Model;
@@ -88,6 +92,31 @@ impl Past {
         ensures value { result ≡ wrote image.now self.old.core old }
     {
         self.core.finish_op(image, op, old)
+    }
+
+    /// Local instructions of the core retire up to this count, which is at most its limit, as long as the next one is
+    /// local. The gate is passed before each. Answers whether the count wasn't reached.
+    #[inline(always)]
+    pub(crate) fn run<G: Gate>(&mut self, program: &Program, until: u32, gate: &G) -> bool
+        requires up { self.old.core.count < until }
+        requires limit { until ≤ self.old.core.limit }
+        ensures core { (n : ℕ) × AreLocal program.now n self.old.core self.new.core }
+        ensures within { self.new.core.count ≤ until }
+        ensures sooner { IsTrue result → self.new.core.count < until }
+        ensures whole { result ≡ false → self.new.core.count ≡ until }
+        ensures loads { self.new.loads ≡ self.old.loads }
+        ensures touched { self.new.touched ≡ self.old.touched }
+        ensures room { self.new.roomy ≡ self.old.roomy }
+    {
+        let mut reach = NoWord {
+            words: program.image().words(),
+            gate,
+        };
+        let ran = core_runs::run(&mut self.core, program, until, &mut reach, &mut ());
+        match ran {
+            Ran::Whole => false,
+            Ran::Done | Ran::Refused => true,
+        }
     }
 
     /// The core has become this one.

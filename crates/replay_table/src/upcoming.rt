@@ -1,4 +1,13 @@
 //! What a seat keeps of its core's next instruction.
+ghost use Rattle.std.specs.Prelude.{◌<◌, ◌≤◌, ◌+◌, ℕ};
+ghost use Rattle.rtr_types.specs.declared.pairs.Which.{Which};
+ghost use Rattle.clock_core.specs.Counts.{no_counts};
+ghost use Rattle.race_log.specs.declared.recording.Recording.{Recording};
+ghost use Rattle.race_log.specs.Sources.{log_edges};
+ghost use Rattle.race_log.specs.Validity.{Valid};
+ghost use Rattle.replay_core.specs.Play.{instr};
+ghost use Rattle.replay_core.specs.Sources.{AreSources};
+ghost use Rattle.rv_core.specs.declared.core_state.Core.{Core};
 ghost use Rattle.replay_table.specs.Seats.{CanBegin, CanLook, IsUpcoming};
 
 use clock_core::Clock;
@@ -38,6 +47,18 @@ impl Upcoming {
         };
         upcoming.advance(recording, which, program, core);
         upcoming
+    }
+
+    /// Up to which count a core that has come to this one may go on beyond its next instruction without a look at
+    /// sources.
+    #[inline(always)]
+    pub(crate) fn free_to(&self, count: u32) -> u32
+        ensures { (which : Which) (r : Recording) (k : Core) (n : ℕ) → Valid r → IsUpcoming which r k self.now →
+            count + 1 < n → n ≤ result → AreSources (log_edges which r) (instr k.id n) no_counts }
+    {
+        self.coming
+            .free_to(count.saturating_add(2))
+            .saturating_sub(1)
     }
 
     /// Goes on to the core's next instruction.

@@ -14,12 +14,13 @@ use Rattle.replay_core.specs.Play.{core_at, played}
 use Rattle.replay_table.specs.declared.raced.Raced.{Raced}
 use Rattle.replay_table.specs.declared.view.Own.{Own}
 use Rattle.replay_table.specs.declared.view.View.{View}
-use Rattle.replay_table.specs.Aheads.{Due}
+use Rattle.replay_table.specs.Aheads.{Ahead, Due}
 use Rattle.replay_table.specs.Rule.{seen_of, Reached}
 use Rattle.replay_table.specs.Kinds.{SeesDone, LoadsWord, HoldsWord, StoresWord, PublishesCount, alone_with}
 use Rattle.replay_table.specs.Kinds.{exchanged, retired}
 use Rattle.replay_table.specs.Told.{ToldPublish}
 use Rattle.replay_table.specs.Seats.{Sitting, AtRest, Exchanged}
+use Rattle.replay_table.proofs.Aheads.{ahead_adds, ahead_id}
 use Rattle.replay_core.specs.Orders.{counts, nought}
 use Rattle.replay_threads.specs.Turns.{Continues, Looks, FallsShort, HasRaced, IsReached, Publishes}
 use Rattle.replay_audit.specs.Determinate.{IsDeterminate}
@@ -68,6 +69,18 @@ pub local_retires : (image : Contents) (x y : Sitting) → y.table_id ≡ x.tabl
 local_retires image x y table core view =
     retires image 0 x y table core
     (record { polls = ap (λ (v : View). v.polls) view; failed = ap (λ (v : View). v.failed) view })
+
+-- local instructions in one go
+pub locals_go_on : (p : Plan) (f : ℕ → ℕ) (n : ℕ) (x y : Sitting) → y.table_id ≡ x.table_id
+    → Ahead p f n x.core y.core → y.view ≡ x.view → Continues x y
+locals_go_on p f n x y table ahead view =
+    let more = ahead_adds p f n x.core y.core ahead in record {
+      table = table;
+      core = ahead_id p f n x.core y.core ahead;
+      count = omega arith;
+      polls = λ c. let e = ap (λ (v : View). slice_index v.polls c) view in omega arith;
+      failed = let e = ap (λ (v : View). v.failed) view in omega arith;
+    }
 
 pub load_retires : (p : Plan) (image : Contents) (word value : ℕ) (x y : Sitting) → y.table_id ≡ x.table_id
     → y.core ≡ after image x.core value →

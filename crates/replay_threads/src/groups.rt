@@ -8,10 +8,9 @@ ghost use Rattle.replay_threads.specs.declared.groups.Stand.TheVariants.{Ended a
 ghost use Rattle.replay_threads.specs.declared.groups.Stand.TheVariants.{Waiting as OneWaits, OutOfMemory as NoMemory};
 ghost use Rattle.replay_threads.specs.Groups.{AllAt, IsGivenTo, IsOpenAt, Turned, stand_of, workers_at};
 
-use crate::gate::Gate;
 use crate::turns::Turn;
 use crate::worker::Worker;
-use replay_table::{Job, ReplayTable};
+use replay_table::{Gate, Job, ReplayTable};
 use std::alloc::{AllocError, Global};
 use std::marker::Model;
 use std::thread;

@@ -8,13 +8,12 @@ ghost use Rattle.replay_table.specs.Seats.{Finished};
 ghost use Rattle.replay_threads.specs.Groups.{AllAt, AllDone, AreAt, AreGrouped, AreInOrder};
 ghost use Rattle.replay_threads.specs.Joints.{IsJointOf};
 
-use crate::gate::Gate;
 use crate::groups::{Group, give, no_groups, take_last};
 use crate::rounds::rounds;
 use crate::worker::Worker;
 use race_log::Recording;
 use replay_table::laws::an_end_was_played;
-use replay_table::{Closed, CoreSeat, Job, ReplayTable};
+use replay_table::{Closed, CoreSeat, Gate, Job, ReplayTable};
 use rtr_types::Which;
 use std::alloc::{AllocError, Global};
 use std::marker::Brand;

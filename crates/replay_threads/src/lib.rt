@@ -1,9 +1,10 @@
 //! The replay on several threads: a worker for each core, and rounds in which each takes a turn at a table that all
 //! share.
 //!
-//! A worker publishes its count where the log lets another core wait for it, at the end of its turn, and 1,024
-//! instructions after it last did. A turn gives up after 64 loads in a row that brought nothing new. A group's round
-//! ends after 256 idle passes in a row, after each of which it yields. No clause says that turns ran at the same time.
+//! A worker's local instructions go in runs. It publishes its count where the log lets another core wait for it, at the
+//! end of its turn, and 1,024 instructions after it last did. A turn gives up after 64 loads in a row that brought
+//! nothing new. A group's round ends after 256 idle passes in a row, after each of which it yields. No clause says that
+//! turns ran at the same time.
 //!
 //! Proved: if it returns, `replay_parallel` answers `Ran` exactly where the recording is determinate by the log, and
 //! `Unsure` exactly where it isn't. This holds for 1 to 8 threads and any gate. `Ran` has a closed table whose outcome
@@ -13,7 +14,6 @@
 //! order with the accesses of its play (`RanOut`, field `ended`).
 #![tactic(auto)]
 
-mod gate;
 mod groups;
 mod joint;
 mod rounds;
@@ -22,7 +22,7 @@ mod waits;
 mod wanted;
 mod worker;
 
-pub use gate::{Gate, OpenGate};
 pub use joint::{Joint, replay_parallel};
+pub use replay_table::{Gate, OpenGate};
 pub use turns::Turn;
 pub use worker::Worker;

@@ -3,9 +3,8 @@ ghost use Rattle.std.specs.Prelude.{◌≡◌, All, IfOk, IsTrue, false};
 ghost use Rattle.replay_audit.specs.Determinate.{IsDeterminate};
 ghost use Rattle.replay_threads.specs.Groups.{AllAt, AllDone, AreKept};
 
-use crate::gate::Gate;
 use crate::groups::{Group, Stand, one_round, stand_of_all};
-use replay_table::{Job, ReplayTable};
+use replay_table::{Gate, Job, ReplayTable};
 use std::alloc::AllocError;
 use std::sync::Wait;
 use std::thread::Threads;

@@ -1,5 +1,5 @@
 //! A worker's turn: its core runs by what the table gives.
-ghost use Rattle.std.specs.Prelude.{◌≡◌, ◌<◌, ◌+◌, false, IfNone, IfOk, IfSome, IsTrue, slice_index};
+ghost use Rattle.std.specs.Prelude.{◌≡◌, ◌<◌, ◌≤◌, ◌+◌, false, IfNone, IfOk, IfSome, IsTrue, slice_index};
 ghost use Rattle.rv_core.specs.Needs.{is_writing};
 ghost use Rattle.rv_core.specs.Steps.{need as need_of_core, is_whole};
 ghost use Rattle.race_log.specs.Validity.{Valid};
@@ -9,11 +9,10 @@ ghost use Rattle.replay_table.specs.Rule.{seen_of};
 ghost use Rattle.replay_table.specs.Seats.{AtRest};
 ghost use Rattle.replay_threads.specs.Turns.{Continues, EndsBy, IsReached};
 
-use crate::gate::Gate;
 use crate::waits::{publish, wait};
 use crate::wanted::Wanted;
 use race_log::Recording;
-use replay_table::{CoreSeat, Job, ReplayTable};
+use replay_table::{CoreSeat, Gate, Job, ReplayTable};
 use rtr_types::{Instr, Which};
 use rv_core::Need;
 use std::alloc::AllocError;
@@ -53,7 +52,8 @@ pub(crate) fn run<J: Job, G: Gate>(
     ensures ends { IfOk result (λ turn. EndsBy J.which J.recording seat.old turn seat.new) }
 {
     while seat.core().count() < total {
-        if let Some(end) = one(seat, total, table, gate)? {
+        let until = wanted.until(total);
+        if let Some(end) = go_on(seat, until, total, table, gate)? {
             publish(seat, table);
             return Ok(end);
         }
@@ -66,10 +66,11 @@ pub(crate) fn run<J: Job, G: Gate>(
     Ok(Turn::Ended)
 }
 
-/// One instruction more, if the turn doesn't end before it.
+/// One instruction more, and local ones up to this count before it, if the turn doesn't end before it.
 #[tactic(auto, using(crate::proofs::TurnEnds::goes_then, crate::proofs::TurnEnds::ends_sooner))]
-fn one<J: Job, G: Gate>(
+fn go_on<J: Job, G: Gate>(
     seat: &mut CoreSeat<J>,
+    until: u32,
     total: u32,
     table: &ReplayTable<J>,
     gate: &G,
@@ -78,27 +79,42 @@ fn one<J: Job, G: Gate>(
     requires table { seat.old.table_id ≡ table.now }
     requires total { total ≡ slice_index J.recording.totals seat.old.core.id }
     requires below { seat.old.core.count < total }
+    requires until { until ≤ total }
     ensures goes_on { Continues seat.old seat.new }
-    ensures more { IfOk result (λ end. IfNone end (seat.new.core.count ≡ seat.old.core.count + 1)) }
+    ensures more { IfOk result (λ end. IfNone end (seat.old.core.count < seat.new.core.count)) }
     ensures ends { IfOk result (λ end. IfSome end (λ turn. EndsBy J.which J.recording seat.old turn seat.new)) }
 {
     if let Some(of) = wait(seat, table) {
         return Ok(Some(Turn::Waiting { of }));
     }
+    if !run_locals(seat, until, table, gate) {
+        return Ok(None);
+    }
     seat.make_room()?;
-    Ok(retire(seat, total, table, gate))
+    Ok(retire(seat, table, gate))
+}
+
+/// Local instructions up to this count, without a step of the table. Answers whether the next one is ready.
+fn run_locals<J: Job, G: Gate>(
+    seat: &mut CoreSeat<J>,
+    until: u32,
+    table: &ReplayTable<J>,
+    gate: &G,
+) -> bool
+    requires table { seat.old.table_id ≡ table.now }
+    requires due { Due (plan_of J.which J.recording) (seen_of seat.old.view) seat.old.core }
+    requires until { until ≤ slice_index J.recording.totals seat.old.core.id }
+    ensures goes_on { Continues seat.old seat.new }
+    ensures ready { IsTrue result → Due (plan_of J.which J.recording) (seen_of seat.new.view) seat.new.core }
+    ensures more { result ≡ false → seat.old.core.count < seat.new.core.count }
+{
+    table.locals(seat, until, gate)
 }
 
 /// The next instruction, which is due, unless the program is done or the write loses its word.
-fn retire<J: Job, G: Gate>(
-    seat: &mut CoreSeat<J>,
-    total: u32,
-    table: &ReplayTable<J>,
-    gate: &G,
-) -> Option<Turn>
+fn retire<J: Job, G: Gate>(seat: &mut CoreSeat<J>, table: &ReplayTable<J>, gate: &G) -> Option<Turn>
     requires valid { Valid J.recording }
     requires table { seat.old.table_id ≡ table.now }
-    requires below { seat.old.core.count < total }
     requires due { Due (plan_of J.which J.recording) (seen_of seat.old.view) seat.old.core }
     requires room { IsTrue seat.old.roomy }
     ensures goes_on { Continues seat.old seat.new }

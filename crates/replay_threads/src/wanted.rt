@@ -1,5 +1,5 @@
 //! Which of a core's counts other cores wait for.
-ghost use Rattle.std.specs.Prelude.{◌<◌};
+ghost use Rattle.std.specs.Prelude.{◌<◌, ◌≤◌};
 ghost use Rattle.race_log.specs.Validity.{Valid};
 
 use race_log::Recording;
@@ -13,11 +13,12 @@ const PLACES: usize = CORES_MAX as usize;
 const PUBLISHED_AFTER: u32 = 1024;
 
 /// The next count at which a core is to be published: that of the next edge from it to another core, or one not
-/// too far on. For each other core `places` has where that edge stands in the pair's list, or its vector. When a
-/// core is published changes no result.
+/// too far on. For each other core `next` has the count of the next edge to it that was looked up, and `places` where
+/// that edge stands in the pair's list, or its vector. When a core is published changes no result.
 #[derive(Clone, Copy)]
 pub(crate) struct Wanted {
     due: u32,
+    next: [u32; PLACES],
     places: [usize; PLACES],
 }
 
@@ -26,6 +27,7 @@ impl Wanted {
     pub(crate) fn new() -> Wanted {
         Wanted {
             due: 0,
+            next: [0; PLACES],
             places: [0; PLACES],
         }
     }
@@ -34,6 +36,14 @@ impl Wanted {
     #[inline(always)]
     pub(crate) fn is_due(&self, count: u32) -> bool {
         count >= self.due
+    }
+
+    /// The count at which a core that is below its total is to be published, or the total.
+    #[inline(always)]
+    pub(crate) fn until(&self, total: u32) -> u32
+        ensures { result ≤ total }
+    {
+        self.due.min(total)
     }
 
     /// Goes on to the first count above this one, at which the core is published.
@@ -45,14 +55,12 @@ impl Wanted {
         let mut due = count.saturating_add(PUBLISHED_AFTER);
         for to in 0..recording.params.cores {
             if to != core {
-                let pair = pair_at(recording.params.cores, core, to);
-                due = due.min(next_source(
-                    recording,
-                    which,
-                    pair,
-                    count,
-                    &mut self.places[to as usize],
-                ));
+                if self.next[to as usize] <= count {
+                    let pair = pair_at(recording.params.cores, core, to);
+                    let place = &mut self.places[to as usize];
+                    self.next[to as usize] = next_source(recording, which, pair, count, place);
+                }
+                due = due.min(self.next[to as usize]);
             }
         }
         self.due = due;

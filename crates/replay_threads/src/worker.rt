@@ -4,11 +4,10 @@ ghost use Rattle.race_log.specs.Validity.{Valid};
 ghost use Rattle.replay_table.specs.Seats.{AtRest};
 ghost use Rattle.replay_threads.specs.Turns.{Continues, EndsBy, HasEnded, IsReached};
 
-use crate::gate::Gate;
 use crate::turns::{Turn, run};
 use crate::wanted::Wanted;
 use race_log::Recording;
-use replay_table::{CoreSeat, Job, ReplayTable};
+use replay_table::{CoreSeat, Gate, Job, ReplayTable};
 use rtr_types::Which;
 use std::alloc::AllocError;
 use std::marker::Model;

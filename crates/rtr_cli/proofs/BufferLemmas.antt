@@ -16,7 +16,7 @@ use Rattle.tso_codec.specs.Validity.{IsTso, plain_of}
 use Rattle.tso_replay.specs.Replays.{TsoRefuses, TsoReplays, tso_given, tso_plan}
 use Rattle.replay_audit.proofs.PlaySizes.{valued_fits}
 use Rattle.tso_replay.proofs.ToldReplays.{ordered_agree}
-use Rattle.told_plays.proofs.Replays.{least_replays}
+use Rattle.tso_recordings.proofs.Replays.{least_replays}
 use Rattle.rtr_cli.specs.Buffers.{IsTsoReplayed, TsoEnds, TsoStops, exit_of_replay, tso_outcome}
 use Rattle.rtr_cli.specs.Completeness.{IsOfBuffers}
 

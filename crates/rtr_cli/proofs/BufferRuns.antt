@@ -14,23 +14,21 @@ use Rattle.tool_words.specs.declared.command.RunWords.{RunWords}
 use Rattle.tool_words.specs.declared.command.Command.TheVariants.{TsoRecord, TsoReplay, TsoRun}
 use Rattle.tso_recordings.specs.Schedules.{tso_recording_of}
 use Rattle.tso_recordings.proofs.LoggedLoads.{logged_law}
-use Rattle.tso_recordings.proofs.Schedules.{held as run_held, replayed as run_replayed}
-use Rattle.tso_bound.specs.Ends.{end_of}
-use Rattle.tso_bound.proofs.RunEnds.{end_done}
+use Rattle.tso_recordings.proofs.Schedules.{held as run_held, replayed as run_replayed, told_held}
+use Rattle.tso_recordings.specs.Schedules.{end_of}
 use Rattle.tso_codec.specs.declared.recording.TsoRecording.{TsoRecording}
 use Rattle.tso_codec.specs.Reading.{tso_at}
 use Rattle.tso_codec.specs.Spelling.{tso_spelling}
 use Rattle.tso_codec.specs.Validity.{plain_of}
 use Rattle.tso_codec.proofs.RecordingLaws.{spelled_is_read}
-use Rattle.told_plays.specs.Replays.{IsToldRun}
-use Rattle.tso_outcome.specs.Outcomes.{tso_outcome_of}
-use Rattle.tso_outcome.proofs.RunPlaces.{run_ends_so}
+use Rattle.tso_recordings.specs.Replays.{IsToldRun}
+use Rattle.tso_recordings.specs.Follows.{tso_outcome_of}
+use Rattle.tso_recordings.proofs.Schedules.{run_ends_so}
 use Rattle.tso_recordings.specs.Recordings.{CanRun}
-use Rattle.tso_recordings.proofs.ReplayedRuns.{run_told_so}
 use Rattle.tso_replay.specs.Replays.{tso_given, tso_plan}
 use Rattle.replay_audit.proofs.PlaySizes.{valued_fits}
 use Rattle.tso_state.specs.Runs.{all_told}
-use Rattle.tso_words.proofs.ByteWords.{opens_small}
+use Rattle.tso_recordings.proofs.Valid.{opens_small}
 use Rattle.rtr_cli.specs.Inputs.{SpellsSome, image_of}
 use Rattle.rtr_cli.specs.Buffers.{tso_outcome, tso_replay_lines}
 use Rattle.rtr_cli.specs.Commands.{Makes}
@@ -65,11 +63,7 @@ module _ (params : Params) (bytes : List ℕ) (schedule : Choices) (can : CanRun
       (all_told (image_of params bytes) params (choice_at schedule)
       (end_of (image_of params bytes) params (choice_at schedule)))
       (tso_outcome_of (image_of params bytes) params schedule)
-  unfolding tso_recording_of tso_outcome_of
-  told = run_told_so (image_of params bytes) params (choice_at schedule)
-      (end_of (image_of params bytes) params (choice_at schedule)) can
-      (end_done (image_of params bytes) params (choice_at schedule)
-      (record { cores = can.fits.cores; limit = omega (arith, can.fits.limit) }))
+  told = told_held (image_of params bytes) params schedule can
 
   pub of_run : IsOfBuffers (tso_recording_of (image_of params bytes) params schedule)
   of_run = record {

@@ -10,7 +10,7 @@ use Rattle.schedule_pick.specs.Choices.{Choices, choice_at, choices_of}
 use Rattle.log_codec.specs.Reading.{whole_at}
 use Rattle.log_codec.specs.Spelling.{spelling}
 use Rattle.race_log.specs.declared.recording.Recording.{Recording}
-use Rattle.machine_bound.proofs.RunEnds.{run_ends}
+use Rattle.run_outcome.proofs.RunPlaces.{run_ends}
 use Rattle.run_outcome.specs.Outcomes.{outcome_of}
 use Rattle.run_records.specs.Recordings.{recording_of}
 use Rattle.replay_audit.specs.Audits.{AuditRefuses, Findings, IsAuditOf}

@@ -13,14 +13,14 @@ use Rattle.replay_audit.specs.declared.audit_fault.AuditFault.{AuditFault}
 use Rattle.replay_audit.specs.declared.audit_fault.AuditFault.TheVariants as faults
 use Rattle.tso_recordings.specs.Schedules.{tso_recording_of}
 use Rattle.tso_codec.specs.declared.recording.TsoRecording.{TsoRecording}
-use Rattle.tso_outcome.specs.Outcomes.{tso_outcome_of}
+use Rattle.tso_recordings.specs.Follows.{tso_outcome_of}
 use Rattle.tso_codec.specs.Spelling.{tso_spelling}
 use Rattle.tso_codec.specs.Validity.{plain_of}
 use Rattle.tso_replay.specs.Laws.{AllAgree, OrdersConflicts, ReplaysTold}
 use Rattle.tso_replay.specs.Replays.{TsoRefuses, tso_given, tso_plan}
 use Rattle.tso_state.specs.Events.{Told}
-use Rattle.told_plays.specs.Replays.{IsToldRun}
-use Rattle.told_plays.specs.Tells.{cores_told}
+use Rattle.tso_recordings.specs.Replays.{IsToldRun}
+use Rattle.tso_recordings.specs.Tells.{cores_told}
 use Rattle.state_text.specs.declared.exit.Exit.{Exit}
 use Rattle.state_text.specs.declared.exit.Exit.TheVariants as exits
 use Rattle.state_text.specs.States.{state_lines}

@@ -29,7 +29,7 @@ use Rattle.tso_codec.specs.declared.recording.TsoRecording.{TsoRecording}
 use Rattle.tso_codec.specs.Reading.{tso_at}
 use Rattle.tso_codec.specs.Validity.{IsTso}
 use Rattle.tso_state.specs.Events.{Told}
-use Rattle.told_plays.specs.Replays.{IsToldRun}
+use Rattle.tso_recordings.specs.Replays.{IsToldRun}
 use Rattle.vector_reduce.specs.declared.thinned.Thinned.{Thinned}
 use Rattle.vector_reduce.specs.Answers.{AreFew, IsThinningOf}
 use Rattle.vector_reduce.specs.Reading.{thinned_at}

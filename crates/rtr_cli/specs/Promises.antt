@@ -14,7 +14,7 @@ use Rattle.replay_audit.specs.Determinate.{IsDeterminate}
 use Rattle.tso_recordings.specs.Logged.{AreLogged}
 use Rattle.tso_recordings.specs.Follows.{ReplaysTsoRun}
 use Rattle.tso_recordings.specs.Schedules.{IsHeld}
-use Rattle.tso_outcome.specs.Outcomes.{RunEnds as TsoRunEnds}
+use Rattle.tso_recordings.specs.Follows.{RunEnds as TsoRunEnds}
 use Rattle.tso_codec.specs.Reading.{tso_at}
 use Rattle.tso_codec.specs.Spelling.{tso_spelling}
 use Rattle.vector_reduce.specs.Answers.{IsAccepted}

@@ -5,7 +5,7 @@ use Rattle.image_elf.specs.declared.elf_fault.ElfFault.{ElfFault}
 use Rattle.image_mem.specs.Contents.{Contents}
 use Rattle.rv_core.specs.declared.outcome.Outcome.{Outcome}
 use Rattle.schedule_pick.specs.Choices.{choices_of}
-use Rattle.machine_bound.specs.Ends.{end_of}
+use Rattle.run_outcome.specs.Outcomes.{end_of}
 use Rattle.msi_state.specs.Runs.{IsRunEnd}
 use Rattle.run_outcome.specs.Outcomes.{outcome_of}
 use Rattle.race_log.specs.declared.recording.Recording.{Recording}

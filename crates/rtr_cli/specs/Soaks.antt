@@ -39,15 +39,25 @@ retired_count r = sum_by (λ t. t) r.totals
 abbrev pub vector_count : Recording → ℕ
 vector_count r = sum_by length r.regulated
 
--- the program and how many cores ran it, the instructions retired, the sizes of both logs, and the changed words
-abbrev pub soak_lines : Shape → (number : ℕ) → Recording → (changed : ℕ) → List ℕ
-soak_lines shape number r changed =
-    line (codes "shape " ++ shape_name shape ++ codes " number " ++ decimal number ++ codes " cores "
-    ++ decimal r.params.cores)
-    ++ line (codes "retired " ++ decimal (retired_count r))
-    ++ line (codes "reduced " ++ decimal (edge_count_of Reduced r))
+-- the program and how many cores ran it
+abbrev pub program_line : Shape → (number cores : ℕ) → List ℕ
+program_line shape number cores =
+    line (codes "shape " ++ shape_name shape ++ codes " number " ++ decimal number ++ codes " cores " ++ decimal cores)
+
+abbrev pub retired_line : Recording → List ℕ
+retired_line r = line (codes "retired " ++ decimal (retired_count r))
+
+-- the sizes of both logs
+abbrev pub log_lines : Recording → List ℕ
+log_lines r =
+    line (codes "reduced " ++ decimal (edge_count_of Reduced r))
     ++ line (codes "regulated " ++ decimal (vector_count r) ++ codes " vectors " ++ decimal (edge_count_of Regulated r)
     ++ codes " edges")
+
+-- the program, the instructions retired, the logs, and the changed words
+abbrev pub soak_lines : Shape → (number : ℕ) → Recording → (changed : ℕ) → List ℕ
+soak_lines shape number r changed =
+    program_line shape number r.params.cores ++ retired_line r ++ log_lines r
     ++ line (codes "changed " ++ decimal changed ++ codes " words")
 
 -- what `soak` prints: the recording of the run of the generated image without choice bytes, and how many words of

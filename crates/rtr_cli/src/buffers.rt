@@ -5,7 +5,7 @@ ghost use Rattle.rtr_types.specs.Parameters.{Fits};
 ghost use Rattle.state_text.specs.States.{IsOutcomeOf, state_lines};
 ghost use Rattle.tool_words.specs.declared.command.Command.TheVariants.{TsoRecord, TsoRun};
 ghost use Rattle.tso_codec.specs.Validity.{IsTso, plain_of};
-ghost use Rattle.tso_outcome.specs.Outcomes.{tso_outcome_of};
+ghost use Rattle.tso_recordings.specs.Follows.{tso_outcome_of};
 ghost use Rattle.rtr_cli.specs.Inputs.{image_of};
 ghost use Rattle.rtr_cli.specs.Buffers.{IsTsoReplayed, TsoEnds, exit_of_replay, tso_replay_lines};
 ghost use Rattle.rtr_cli.specs.Commands.{Makes};

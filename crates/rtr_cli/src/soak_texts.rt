@@ -2,7 +2,7 @@
 ghost use Rattle.std.specs.Prelude.{◌≡◌, ◌<◌, ◌≤◌, ◌^◌, ◌++◌, IfOk, OnOk, length, string_bytes, sum_by};
 ghost use Rattle.race_log.specs.Validity.{Valid};
 ghost use Rattle.state_text.specs.Pieces.{line};
-ghost use Rattle.rtr_cli.specs.Soaks.{changed_count, shape_name, soak_lines};
+ghost use Rattle.rtr_cli.specs.Soaks.{changed_count, log_lines, program_line, retired_line, shape_name, soak_lines};
 
 use image_mem::Image;
 use race_log::Recording;
@@ -25,19 +25,40 @@ pub fn soak_text(
     requires { Valid recording.now }
     ensures { IfOk result (λ text. text.items ≡ soak_lines shape number recording.now changed) }
 {
+    let mut text = String::new(alloc);
+    put_program(&mut text, shape, number, recording.params.cores)?;
+    put_retired(&mut text, recording)?;
+    put_logs(&mut text, recording)?;
+    writeln!(text, "changed {changed} words")?;
+    Ok(text.into_bytes())
+}
+
+/// Puts the line of the program and of how many cores ran it.
+fn put_program(text: &mut String, shape: Shape, number: u64, cores: u8) -> Result<(), AllocError>
+    ensures { OnOk result (string_bytes text.new ≡ string_bytes text.old ++ program_line shape number cores) }
+{
     let shape = shape_name(shape);
-    let cores = recording.params.cores;
+    writeln!(text, "shape {shape} number {number} cores {cores}")
+}
+
+/// Puts the line of the instructions that all cores retired.
+fn put_retired(text: &mut String, recording: &Recording) -> Result<(), AllocError>
+    ensures { OnOk result (string_bytes text.new ≡ string_bytes text.old ++ retired_line recording.now) }
+{
     let retired = sum_of(recording.totals.as_slice());
+    writeln!(text, "retired {retired}")
+}
+
+/// Puts the lines of both logs.
+fn put_logs(text: &mut String, recording: &Recording) -> Result<(), AllocError>
+    requires { Valid recording.now }
+    ensures { OnOk result (string_bytes text.new ≡ string_bytes text.old ++ log_lines recording.now) }
+{
     let reduced = recording.edge_count(Which::Reduced);
     let vectors = vector_count(recording.regulated.as_slice());
     let edges = recording.edge_count(Which::Regulated);
-    let mut text = String::new(alloc);
-    writeln!(text, "shape {shape} number {number} cores {cores}")?;
-    writeln!(text, "retired {retired}")?;
     writeln!(text, "reduced {reduced}")?;
-    writeln!(text, "regulated {vectors} vectors {edges} edges")?;
-    writeln!(text, "changed {changed} words")?;
-    Ok(text.into_bytes())
+    writeln!(text, "regulated {vectors} vectors {edges} edges")
 }
 
 /// The word for a shape.

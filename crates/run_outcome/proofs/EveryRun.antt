@@ -5,8 +5,8 @@ use Rattle.machine_bound.proofs.RunEnds.{InRange, end_in_time, run_ends}
 use Rattle.machine_bound.specs.Ends.{end_of}
 use Rattle.machine_data.proofs.Remembers.{each_finds_last, final_values}
 use Rattle.machine_invariant.proofs.DoneCores.{links_left}
-use Rattle.machine_progress.proofs.MoveGrounds.{rows_there, rooms_there}
-use Rattle.machine_progress.proofs.Stuck.{some_move}
+use Rattle.machine_invariant.proofs.MoveGrounds.{rows_there, rooms_there}
+use Rattle.machine_invariant.proofs.Stuck.{some_move}
 use Rattle.machine_invariant.proofs.StartInvariant.{holds_run}
 use Rattle.msi_laws.specs.Holds.{block_in}
 use Rattle.msi_laws.proofs.KindsShown.{blocks_hold}

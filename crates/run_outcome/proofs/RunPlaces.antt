@@ -22,7 +22,7 @@ use Rattle.rv_core.specs.States.{starting}
 use Rattle.rv_core.specs.declared.outcome.Outcome.{Outcome}
 use Rattle.msi_state.specs.FinalMemory.{final_memory}
 use Rattle.machine_bound.specs.Ends.{end_of}
-use Rattle.machine_bound.proofs.RunEnds.{run_ends}
+pub use Rattle.machine_bound.proofs.RunEnds.{run_ends}
 use Rattle.machine_bound.proofs.Firsts.{one_first}
 use Rattle.machine_plain.proofs.Shows.{plain_done}
 use Rattle.machine_invariant.specs.Holds.{MachineHolds}
@@ -70,6 +70,12 @@ pub record Steps (s s' : PlainState) (rest rest' : Choices) (m : Move) : Type 0 
   pub taken : chosen s (choice_at rest 0) ≡ Some m
   pub state : s' ≡ plain_step s m
   pub left : rest' ≡ choices_after rest
+
+-- the step that is taken by the next choice
+pub steps_by : {s s' : PlainState} {rest rest' : Choices} {m : Move} {choice : ℕ} → choice ≡ choice_at rest 0 →
+    chosen s choice ≡ Some m → s' ≡ plain_step s m → rest' ≡ choices_after rest → Steps s s' rest rest' m
+steps_by {s} {s'} {rest} {rest'} {m} {choice} number taken state left =
+    record { taken = ap (chosen s) (sym number) ∙ taken; state = state; left = left }
 
 -- it is the one that the run takes
 taken_there : (image : Contents) (params : Params) (schedule : Choices) (t : ℕ) (s s' : PlainState)

@@ -9,7 +9,7 @@ use Rattle.rv_core.specs.declared.outcome.LoadNote.{LoadNote}
 use Rattle.rv_core.specs.declared.outcome.Outcome.{Outcome}
 use Rattle.schedule_pick.specs.Choices.{Choices, choice_at}
 use Rattle.schedule_pick.specs.Standing.{StandsIn}
-use Rattle.machine_bound.specs.Ends.{end_of}
+pub use Rattle.machine_bound.specs.Ends.{end_of}
 use Rattle.msi_state.specs.States.{PlainState, all_done}
 use Rattle.msi_state.specs.Runs.{accesses, loads_of, outcome_at, run}
 

@@ -4,10 +4,10 @@ ghost use Rattle.run_ranges.specs.Batches.{batch_after};
 ghost use Rattle.run_ranges.specs.declared.batches.TheConstants.{RUNS_MAX};
 
 /// A round that takes fewer milliseconds is short.
-const SHORT: u64 = 20;
+const SHORT: u64 = 100;
 
 /// A round that takes more milliseconds is long.
-const LONG: u64 = 40;
+const LONG: u64 = 200;
 
 /// The most runs of a batch.
 const RUNS_MAX: u64 = 1_048_576;
@@ -28,8 +28,8 @@ impl Batch {
         Batch { runs: 1 }
     }
 
-    /// That of the next round, where one with this took so many milliseconds: after fewer than 20 twice as many runs,
-    /// after more than 40 half as many.
+    /// That of the next round, where one with this took so many milliseconds: after fewer than 100 twice as many
+    /// runs, after more than 200 half as many.
     pub fn after(self, millis: u64) -> Batch
         ensures { result.runs ≡ batch_after self.runs millis }
     {

@@ -21,7 +21,7 @@ use Rattle.machine_known.specs.Events.{happening_at}
 use Rattle.machine_known.specs.RunHistory.{IsHistoryOf, carrying_at}
 use Rattle.machine_known.proofs.RunNotes.{KnowsRun, run_known_next, run_known_start}
 use Rattle.machine_known.proofs.KnownRuns.{run_orderly_law, run_plain}
-use Rattle.machine_progress.proofs.Stuck.{some_move}
+use Rattle.machine_invariant.proofs.Stuck.{some_move}
 use Rattle.machine_invariant.proofs.StartInvariant.{holds_run}
 use Rattle.msi_state.specs.Runs.{chosen, chosen_of, plain_moves, run}
 use Rattle.msi_state.specs.States.{PlainState, all_done}

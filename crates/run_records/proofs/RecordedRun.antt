@@ -17,7 +17,7 @@ use Rattle.machine_bound.proofs.RunEnds.{run_ends}
 use Rattle.machine_plain.proofs.ForgetfulSteps.{plain_event as forgets_event, plain_step as forgets_step}
 use Rattle.machine_plain.proofs.SameMoves.{plain_moves as same_moves}
 use Rattle.machine_plain.proofs.Shows.{plain_start}
-use Rattle.machine_progress.proofs.Stuck.{some_move}
+use Rattle.machine_invariant.proofs.Stuck.{some_move}
 use Rattle.machine_invariant.specs.Holds.{MachineHolds}
 use Rattle.machine_invariant.proofs.StartInvariant.{chosen_at, holds_run, holds_start}
 use Rattle.machine_invariant.proofs.MoveInvariant.{holds_kept}

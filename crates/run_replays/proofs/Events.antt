@@ -26,7 +26,7 @@ use Rattle.run_outcome.proofs.CoreMoves.{Retiring, Accessing, CoresAfter}
 use Rattle.run_replays.specs.Loads.{loads_by_core}
 use Rattle.run_replays.specs.Orders.{cores_of}
 use Rattle.run_replays.proofs.Loads.{loads_noted}
-use Rattle.memory_left.proofs.Memory.{words_more}
+use Rattle.machine_data.proofs.OneMore.{words_more}
 
 -- ---- a place by what its instruction uses
 

@@ -67,12 +67,26 @@ pub static PLACES: [Told; 25] = [
     told!(" cut " => "cut 0 0 33 0\n"),
 ];
 
+/// Cuts with names: one is given twice, and means the later cut.
+pub static MARKED: [Told; 10] = [
+    told!("marks" => "no mark\n"),
+    told!("mark here" => "cut 32 26 32 26\n"),
+    told!("goto 1:174" => "cut 165 174 157 159\n"),
+    told!("mark there" => "cut 165 174 157 159\n"),
+    told!("goto here" => "cut 32 26 32 26\n"),
+    told!("marks" => "here: 32 26 32 26\nthere: 165 174 157 159\n"),
+    told!("earliest 2" => "cut 0 0 32 0\n"),
+    told!("mark here" => "cut 0 0 32 0\n"),
+    told!("marks" => "there: 165 174 157 159\nhere: 0 0 32 0\n"),
+    told!("goto there" => "cut 165 174 157 159\n"),
+];
+
 /// What is told behind the name of a command that isn't known.
 macro_rules! unknown {
     ($command:literal, $name:literal) => {
         told!($command => concat!("rtr_gdb: no command '", $name,
-            "'; monitor takes cut, when, goto, earliest, latest, last, decision, other, lead, slack, why, edges, ",
-            "order, conflicts, writer, readers, history, decisions and info\n"))
+            "'; monitor takes cut, when, goto, mark, marks, earliest, latest, last, decision, other, lead, slack, ",
+            "why, edges, order, conflicts, writer, readers, history, decisions and info\n"))
     };
 }
 
@@ -91,14 +105,19 @@ macro_rules! lacks {
 }
 
 /// Commands that aren't known, or that name what isn't there.
-pub static REFUSED: [Told; 41] = [
+pub static REFUSED: [Told; 46] = [
     unknown!("", ""),
     unknown!("nonsense 1", "nonsense"),
     goes!("cut 1" => "cut"),
     told!("goto" => "rtr_gdb: no such counts: goto takes one for each core, at most its total\n"),
     told!("goto 1 2 3" => "rtr_gdb: no such counts: goto takes one for each core, at most its total\n"),
     told!("goto 1 1 200 1" => "rtr_gdb: no such counts: goto takes one for each core, at most its total\n"),
-    goes!("goto 00:1" => "goto C:N or goto N N .."),
+    goes!("goto x y" => "goto C:N, goto N N .. or goto NAME"),
+    told!("goto 00:1" => "rtr_gdb: no mark '00:1'; goto takes C:N, N N .. or the name of a mark\n"),
+    goes!("mark 5" => "mark NAME, a name that is no C:N and no count"),
+    goes!("mark 1:5" => "mark NAME, a name that is no C:N and no count"),
+    goes!("mark" => "mark NAME, a name that is no C:N and no count"),
+    goes!("marks 1" => "marks"),
     lacks!("goto 4:1" => "4:1"),
     lacks!("goto 0:0" => "0:0"),
     lacks!("goto 0:243" => "0:243"),

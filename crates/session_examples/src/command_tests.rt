@@ -1,9 +1,9 @@
 //! Commands of a debugger's user.
-use crate::command_rows::{PLACES, REFUSED, RUN, Told};
+use crate::command_rows::{MARKED, PLACES, REFUSED, RUN, Told};
 use crate::handed_over::{handed_over, many_loads};
 use crate::lock::lock;
 use crate::rows::plays;
-use gdb_monitor::payloads_of;
+use gdb_commands::payloads_of;
 use gdb_server::Partner;
 use gdb_session::Session;
 use rtr_types::Items;
@@ -46,6 +46,15 @@ fn commands_go_and_tell_where(rt: HostRuntime) -> Result<(), Fail> {
     let mut session = Session::begin(rt.alloc(), &audited)?;
     assert!(rt; goes_on(rt.alloc(), &mut session)?);
     assert_eq!(rt; first_wrong(rt.alloc(), &mut session, &PLACES)?, "none");
+    Ok(())
+}
+
+#[test]
+fn marks_are_come_back_to(rt: HostRuntime) -> Result<(), Fail> {
+    let audited = lock(rt.alloc())?;
+    let mut session = Session::begin(rt.alloc(), &audited)?;
+    assert!(rt; goes_on(rt.alloc(), &mut session)?);
+    assert_eq!(rt; first_wrong(rt.alloc(), &mut session, &MARKED)?, "none");
     Ok(())
 }
 

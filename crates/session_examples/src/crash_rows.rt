@@ -68,7 +68,7 @@ l<?xml version=\"1.0\"?><threads><thread id=\"1\" core=\"0\" name=\"core 0\">ret
 > qSymbol::
 <
 > vCont?
-< vCont;c;C;s;S
+< vCont;c;C;s;S;r
 > vCont;c
 < T0bthread:2;
 > g

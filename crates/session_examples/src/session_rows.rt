@@ -173,7 +173,7 @@ pub const STILL: &str = "\
 < E01
 > vCont;s:3
 < E01
-> vCont;r0,4:1
+> vCont;r0,4
 < E01
 > vCont;
 < E01
@@ -207,5 +207,5 @@ pub const STILL: &str = "\
 <
 > s
 <
-> vRun;a
+> vAttach;a
 <";

@@ -2,7 +2,10 @@
 use crate::handed_over::{handed_over, one_break};
 use crate::rows::{first_wrong, plays};
 use crate::session_rows::{BREAK, BREAKS, STEPS, STILL, WATCHES};
-use crate::turn_rows::{BACK_ALONE, LEADS, ONE_CORE, OTHERS_BACK, TOLD, UNASKED, UNHEARD};
+use crate::turn_rows::{
+    BACK_ALONE, LEADS, ONE_CORE, OTHERS_BACK, RANGE_STOPS, RANGES, RUNS_AGAIN, TOLD, UNASKED,
+    UNHEARD,
+};
 use gdb_server::{Next, Partner};
 use gdb_session::Session;
 use std::alloc::{AllocError, Global};
@@ -41,6 +44,15 @@ fn each_session_of_some_cores_is_answered_so(rt: HostRuntime) -> Result<(), Fail
     Ok(())
 }
 
+// A core steps on in a range of addresses; and the program runs again.
+#[test]
+fn each_session_of_ranges_and_runs_is_answered_so(rt: HostRuntime) -> Result<(), Fail> {
+    for text in [RANGES, RANGE_STOPS, RUNS_AGAIN] {
+        assert_eq!(rt; first_wrong_of(rt.alloc(), text)?, None);
+    }
+    Ok(())
+}
+
 /// What is to be done behind the packet, and how many payloads it is answered.
 fn done(alloc: Global, session: &mut Session, packet: &str) -> Result<(Next, usize), AllocError> {
     let answer = session.answer(alloc, packet.as_bytes())?;
@@ -53,9 +65,11 @@ fn a_session_ends_where_it_is_asked_to(rt: HostRuntime) -> Result<(), Fail> {
     let mut session = Session::begin(rt.alloc(), &audited)?;
     for (packet, wanted) in [
         ("QStartNoAckMode", (Next::StopAcks, 1)),
-        ("!", (Next::Listen, 1)),
-        ("D;1", (Next::End, 1)),
         ("vKill;1", (Next::End, 1)),
+        ("!", (Next::Listen, 1)),
+        ("vKill;1", (Next::Listen, 1)),
+        ("R00", (Next::Listen, 0)),
+        ("D;1", (Next::End, 1)),
         ("k", (Next::End, 0)),
     ] {
         assert!(rt;

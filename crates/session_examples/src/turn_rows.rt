@@ -171,3 +171,79 @@ pub const LEADS: &str = "\
 < T05thread:1;replaylog:end;
 > qThreadExtraInfo,1
 < 726574697265642035206f6620352c2065786974";
+
+/// Core 0 steps on while it stands below c, and then up to the end, where core 1 comes along; with a range that it
+/// isn't in it takes one step. Without a range or a thread the packet is refused.
+pub const RANGES: &str = "\
+> vCont?
+< vCont;c;C;s;S;r
+> vCont;r8,c:1;c
+< T05thread:1;
+> qThreadExtraInfo,1
+< 726574697265642031206f662035
+> vCont;r0,c:1;c
+< T05thread:1;
+> qThreadExtraInfo,1
+< 726574697265642033206f6620352c20776169747320666f7220313a33
+> vCont;r0:1
+< E01
+> vCont;r0,4
+< E01
+> vCont;rx,4:1
+< E01
+> vCont;r0,100:3
+< E01
+> vCont;r0,100:1;c
+< T05thread:1;
+> qThreadExtraInfo,1
+< 726574697265642035206f6620352c2065786974
+> vCont;r0,100:1;c
+< T05thread:1;replaylog:end;";
+
+/// Within the range it stops at a breakpoint, and before an access that is watched; core 1 stops behind its load.
+pub const RANGE_STOPS: &str = "\
+> Z0,4,4
+< OK
+> vCont;r0,100:1;c
+< T05thread:1;
+> qThreadExtraInfo,1
+< 726574697265642031206f662035
+> Z2,40,4
+< OK
+> vCont;r0,100:1;c
+< T05thread:1;watch:40;
+> qThreadExtraInfo,1
+< 726574697265642032206f662035
+> z2,40,4
+< OK
+> vCont;r0,18:2
+< T05thread:2;
+> qThreadExtraInfo,1
+< 726574697265642033206f6620352c20776169747320666f7220313a33
+> qThreadExtraInfo,2
+< 726574697265642032206f662034";
+
+/// The program runs again from the beginning, whatever stands in the way; points and names stay.
+pub const RUNS_AGAIN: &str = "\
+> !
+< OK
+> vCont;c
+< T05thread:1;replaylog:end;
+> Z0,4,4
+< OK
+> qRcmd,6d61726b20656e64
+< 637574203520340a
+> Hg2
+< OK
+> vRun;
+< T05thread:1;
+> qC
+< QC1
+> qThreadExtraInfo,1
+< 726574697265642030206f662035
+> qThreadExtraInfo,2
+< 726574697265642030206f662034
+> vCont;c
+< T05thread:1;swbreak:;
+> qRcmd,676f746f20656e64
+< 637574203520340a";

@@ -1,14 +1,14 @@
 -- Acts in lines and before places: one place on, and one act more.
 use Rattle.std.proofs.Common.{◌≡◌, ◌∙◌, refl, sym, ap, ℕ, zero, suc, ◌+◌, ◌*◌, ◌-◌, ◌<◌, ◌≤◌, Bool, true, false}
 use Rattle.std.proofs.Common.{List, [], ◌∷◌, ◌++◌, cond, arith, length, get_or, set, take}
-use Rattle.std.specs.Prelude.{count_by, replicate, sum_by}
+use Rattle.std.specs.Prelude.{replicate, sum_by}
 use Rattle.std.proofs.lemmas.List.{take_more}
 use Rattle.std.proofs.lemmas.List.Folds.{sum_by-replicate}
 use Rattle.std.proofs.lemmas.List.Sums.{sum_by-append, sum_by_push}
 use Rattle.turn_lists.specs.Actors.{is_same}
 use Rattle.turn_lists.specs.declared.actor.Actor.{Actor}
 use Rattle.turn_lists.specs.declared.actor.Turn.{Turn}
-use Rattle.small_turns.specs.Acts.{acts_of, single_turn}
+use Rattle.small_turns.specs.Acts.{acts_of, made_by, single_turn}
 use Rattle.small_turns.specs.Orders.{held, reached}
 use Rattle.small_turns.specs.declared.acts.Act.{Act}
 use Rattle.small_turns.specs.declared.lines.Line.{Line}
@@ -70,14 +70,14 @@ held_push a (line ∷ lines) new none = omega (arith, held_push a lines new none
 
 -- acts of one actor put behind an order
 count_acts : (a b : Actor) (order : List Turn) (n : ℕ) →
-    count_by (λ (t : Turn). is_same a t.actor) (order ++ replicate n (single_turn b))
-    ≡ count_by (λ (t : Turn). is_same a t.actor) order + if_so (is_same a b) n
+    made_by a (order ++ replicate n (single_turn b))
+    ≡ made_by a order + if_so (is_same a b) n
 count_acts a b order n =
     sum_by-append one order (replicate n (single_turn b))
     ∙ ap (λ (m : ℕ). sum_by one order + m) (sum_by-replicate one n (single_turn b) ∙ times (is_same a b))
   where
     one : Turn → ℕ
-    one t = cond (is_same a t.actor) 1 0
+    one t = cond (is_same a t.actor) t.count 0
 
     times : (c : Bool) → n * cond c 1 0 ≡ if_so c n
     times true = omega arith
@@ -99,10 +99,9 @@ one_act a old lines k d new acts i e h within same long keeps is so =
 pub order_more : (a : Actor) (lines : List Line) (places : List ℕ) (k to : ℕ) (d : Line) (order more : List Turn) →
     k < length lines → length places ≡ length lines → get_or places k 0 ≤ to →
     more ≡ order ++ replicate (to - get_or places k 0) (single_turn (get_or lines k d).actor) →
-    count_by (λ (t : Turn). is_same a t.actor) order ≡ reached a lines places →
-    count_by (λ (t : Turn). is_same a t.actor) more ≡ reached a lines (set places k to)
+    made_by a order ≡ reached a lines places → made_by a more ≡ reached a lines (set places k to)
 order_more a lines places k to d order more h long up is so =
-    ap (count_by (λ (t : Turn). is_same a t.actor)) is
+    ap (made_by a) is
     ∙ count_acts a (get_or lines k d).actor order (to - get_or places k 0)
     ∙ ap (λ (n : ℕ). n + if_so (is_same a (get_or lines k d).actor) (to - get_or places k 0)) so
     ∙ sym (reached_set a lines places k to d h long up)

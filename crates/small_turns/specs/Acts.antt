@@ -1,5 +1,5 @@
 -- The turns that the acts of a run make.
-use Rattle.std.specs.Prelude.{◌≡◌, ℕ, List, count_by, map}
+use Rattle.std.specs.Prelude.{◌≡◌, ℕ, List, cond, count_by, map, sum_by}
 use Rattle.turn_lists.specs.Actors.{is_same}
 use Rattle.turn_lists.specs.Turns.{joined}
 use Rattle.turn_lists.specs.declared.actor.Actor.{Actor}
@@ -18,14 +18,14 @@ single_turns acts = map (λ act. single_turn act.actor) acts
 abbrev pub turns_made : List Act → List Turn
 turns_made acts = joined (single_turns acts)
 
--- the turns in which these actors act, one after the other
-abbrev pub turns_of : List Actor → List Turn
-turns_of actors = joined (map single_turn actors)
-
 -- how many acts the actor makes
 abbrev pub acts_of : Actor → List Act → ℕ
 acts_of a acts = count_by (λ act. is_same a act.actor) acts
 
--- the turns are the acts in some order: each actor has as many of them
+-- how many accesses the actor makes in the turns
+abbrev pub made_by : Actor → List Turn → ℕ
+made_by a turns = sum_by (λ t. cond (is_same a t.actor) t.count 0) turns
+
+-- the turns are the acts in some order: each actor makes as many accesses in them
 abbrev pub IsReordered : List Act → List Turn → Type 0
-IsReordered acts turns = (a : Actor) → count_by (λ t. is_same a t.actor) turns ≡ acts_of a acts
+IsReordered acts turns = (a : Actor) → made_by a turns ≡ acts_of a acts

@@ -1,6 +1,6 @@
 //! The acts of a run, and the turns that they make.
 ghost use Rattle.std.specs.Prelude.{◌≡◌, IfOk};
-ghost use Rattle.small_turns.specs.Acts.{single_turn, single_turns, turns_made, turns_of};
+ghost use Rattle.small_turns.specs.Acts.{single_turn, single_turns, turns_made};
 
 use rtr_types::Items;
 use std::alloc::{AllocError, Global};
@@ -21,18 +21,6 @@ pub fn turns_made(alloc: Global, acts: &[Act]) -> Result<Items<Turn>, AllocError
     ensures { IfOk result (λ turns. turns ≡ turns_made acts.now) }
 {
     let singles = single_turns(alloc, acts)?;
-    joined(alloc, singles.as_slice())
-}
-
-/// The turns in which these actors act, one after the other: neighbours that are one actor joined. The only refusal is
-/// want of memory.
-pub fn turns_of(alloc: Global, actors: &[Actor]) -> Result<Items<Turn>, AllocError>
-    ensures { IfOk result (λ turns. turns ≡ turns_of actors.now) }
-{
-    let mut singles = Items::new(alloc);
-    for actor in actors {
-        singles.push(single_turn(*actor))?;
-    }
     joined(alloc, singles.as_slice())
 }
 

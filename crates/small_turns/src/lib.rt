@@ -15,7 +15,7 @@ mod orders;
 mod passes;
 mod tries;
 
-pub use acts::{Act, turns_made, turns_of};
+pub use acts::{Act, turns_made};
 pub use least::{small, small_of_run};
 pub use orders::by_conflicts;
 pub use tries::Tries;

@@ -1,8 +1,7 @@
 //! The acts of a run in an order with few turns.
-ghost use Rattle.std.specs.Prelude.{◌≡◌, ◌<◌, ◌≤◌, ◌++◌, ℕ, IfOk, IfSome, OnOk, count_by, length, replicate, true};
-ghost use Rattle.turn_lists.specs.Actors.{is_same};
+ghost use Rattle.std.specs.Prelude.{◌≡◌, ◌<◌, ◌≤◌, ◌++◌, ℕ, IfOk, IfSome, OnOk, length, replicate, true};
 ghost use Rattle.turn_lists.specs.declared.actor.Actor.{Actor};
-ghost use Rattle.small_turns.specs.Acts.{IsReordered, single_turn};
+ghost use Rattle.small_turns.specs.Acts.{IsReordered, made_by, single_turn};
 ghost use Rattle.small_turns.specs.Orders.{held, reached};
 
 use crate::acts::{Act, single_turn, single_turns};
@@ -27,7 +26,7 @@ pub fn by_conflicts(alloc: Global, acts: &[Act]) -> Result<Items<Turn>, AllocErr
 /// The order of fewest turns of those that begin with each line, where one of them has all acts.
 fn best_order(alloc: Global, lines: &[Line], acts: usize) -> Result<Option<Items<Turn>>, AllocError>
     ensures { IfOk result (λ found. IfSome found
-        (λ order. (a : Actor) → count_by (λ t. is_same a t.actor) order ≡ held a lines.now)) }
+        (λ order. (a : Actor) → made_by a order ≡ held a lines.now)) }
 {
     let mut best = None;
     let mut fewest = (usize::MAX, 0);
@@ -53,7 +52,7 @@ fn order_from(
 ) -> Result<Option<Items<Turn>>, AllocError>
     requires { first < length lines.now }
     ensures { IfOk result (λ found. IfSome found
-        (λ order. (a : Actor) → count_by (λ t. is_same a t.actor) order ≡ held a lines.now)) }
+        (λ order. (a : Actor) → made_by a order ≡ held a lines.now)) }
 {
     let mut places = vec![in alloc; 0usize; lines.len()]?;
     let mut order = Items::new(alloc);

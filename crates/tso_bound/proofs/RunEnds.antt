@@ -25,9 +25,8 @@ use Rattle.machine_bound.proofs.RunEnds.{few_steps, owed_start}
 use Rattle.tso_state.specs.States.{PlainState, BufferedCore, all_done, buffered_start}
 use Rattle.tso_state.specs.Runs.{plain_moves, plain_step, executed, opening_state, run, IsRunEnd}
 use Rattle.tso_invariant.specs.Holds.{TsoHolds}
-use Rattle.machine_invariant.proofs.ChoiceStates.{each_after}
-use Rattle.tso_invariant.proofs.StartInvariant.{chosen_enabled, holds_run}
-pub use Rattle.tso_invariant.proofs.StartInvariant.{run_cores}
+use Rattle.tso_invariant.proofs.StartInvariant.{chosen_enabled, each_after}
+pub use Rattle.tso_invariant.proofs.StartInvariant.{holds_run, run_cores}
 use Rattle.tso_invariant.proofs.DoneMachine.{ended_still}
 use Rattle.tso_invariant.proofs.Stuck.{some_move}
 use Rattle.tso_bound.specs.Bound.{capacity, core_cost, empty_worth, left, lines_worth, memory_worth, paid, port_worth}
@@ -35,6 +34,7 @@ use Rattle.tso_bound.specs.Bound.{total_earned, total_owed}
 use Rattle.tso_bound.specs.Ends.{most_steps, end_of}
 use Rattle.tso_bound.proofs.Capacity.{capacity_kept, total_earned_le}
 use Rattle.machine_bound.proofs.Firsts.{FailsBefore, left_ends}
+pub use Rattle.machine_bound.proofs.Firsts.{one_first}
 use Rattle.machine_bound.proofs.PaidSteps.{paid_until}
 use Rattle.tso_bound.proofs.Ports.{still_port}
 use Rattle.tso_bound.proofs.StepPayments.{earns}

@@ -7,7 +7,8 @@ use Rattle.tso_state.specs.Events.{Event}
 use Rattle.tso_state.specs.Runs.{plain_event, plain_step, plain_told}
 use Rattle.tso_state.specs.States.{State}
 use Rattle.tso_state.specs.Steps.{event, told}
-use Rattle.tso_bound.specs.Bound.{Earns, left}
+use Rattle.tso_bound.specs.Bound.{Earns}
+pub use Rattle.tso_bound.specs.Bound.{left}
 use Rattle.tso_data.specs.Orders.{Coherent, ordering_of}
 use Rattle.tso_plain.specs.Plain.{plain}
 use Rattle.tso_core.specs.Machineries.{Machinery}

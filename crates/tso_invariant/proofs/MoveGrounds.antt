@@ -42,6 +42,14 @@ use Rattle.tso_invariant.proofs.MoveInvariant.{core_can, core_port, enabled_core
 use Rattle.tso_invariant.proofs.CoreMoves.{refused_still}
 
 module _ {R K : Type 0} where
+  -- an atomic memory operation executes where no access of its core is pending
+  pub amo_alone : (image : Contents) (riding : Riding R) (t : BufferedCore) (p : Port R K) (needed : Need)
+      (fence : Bool) →
+      case_holds needed fence riding t.queue p ≡ true → (word : ℕ) → needed ≡ Amo word → is_nil t.queue ≡ true
+  amo_alone image riding t p needed fence e word is =
+      (and_parts (is_nil t.queue) (not (waits p.cache))
+      (ap (λ (n : Need). case_holds n fence riding t.queue p) (sym is) ∙ e)).0
+
   -- a load that its port allows executes
   loading_loud : (image : Contents) (riding : Riding R) (t : BufferedCore) (p : Port R K) (word : ℕ) →
       is_quiet (event_loading image riding t p word) ≡ false

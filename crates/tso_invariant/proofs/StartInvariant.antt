@@ -16,7 +16,7 @@ use Rattle.tso_state.specs.Steps.{enabled}
 use Rattle.tso_state.specs.Runs.{plain_moves, plain_step, opening_state, chosen, run}
 use Rattle.tso_invariant.specs.Holds.{BufferedHolds, TsoHolds}
 use Rattle.tso_invariant.proofs.MoveInvariant.{holds_kept, step_cores}
-pub use Rattle.machine_invariant.proofs.ChoiceStates.{chosen_at}
+pub use Rattle.machine_invariant.proofs.ChoiceStates.{chosen_at, each_after}
 
 -- what a choice takes is enabled
 pub chosen_enabled : (s : PlainState) (choice : ℕ) (m : Move) → chosen s choice ≡ Some m →

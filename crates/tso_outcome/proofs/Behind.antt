@@ -12,7 +12,7 @@ use Rattle.tso_state.specs.Events.{Event, Told, Alone, Ordered}
 use Rattle.tso_state.specs.Events.{Logged, locals_behind, tellings}
 use Rattle.tso_state.specs.Runs.{all_told, chosen, plain_told, run, told_by}
 use Rattle.tso_state.specs.States.{BufferedCore, PlainState}
-use Rattle.tso_told.specs.Played.{AreInside}
+pub use Rattle.tso_told.specs.Played.{AreInside}
 use Rattle.tso_told.proofs.ToldRuns.{told_inside}
 use Rattle.tso_told.proofs.Tellings.{behind_have, each_telling, inside_last}
 use Rattle.tso_outcome.specs.Outcomes.{RunsAt}

@@ -14,10 +14,7 @@ use Rattle.rv_core.specs.declared.outcome.Outcome.{Outcome}
 use Rattle.schedule_pick.specs.Choices.{Choices, choice_at, choices_after}
 use Rattle.schedule_pick.proofs.ChoiceLemmas.{following_law}
 use Rattle.tso_bound.specs.Ends.{end_of}
-use Rattle.machine_bound.proofs.Firsts.{one_first}
-use Rattle.tso_bound.proofs.RunEnds.{end_done, run_ends}
-use Rattle.tso_invariant.proofs.StartInvariant.{run_cores}
-use Rattle.tso_invariant.proofs.StartInvariant.{holds_run}
+use Rattle.tso_bound.proofs.RunEnds.{end_done, holds_run, one_first, run_cores, run_ends}
 use Rattle.tso_state.specs.declared.moves.Move.{Move}
 use Rattle.tso_state.specs.Events.{Told}
 use Rattle.tso_state.specs.FinalMemory.{final_memory}
@@ -57,6 +54,12 @@ pub record Steps (s s' : PlainState) (rest rest' : Choices) (m : Move) : Type 0 
   pub taken : chosen s (choice_at rest 0) ≡ Some m
   pub state : s' ≡ plain_step s m
   pub left : rest' ≡ choices_after rest
+
+-- the step that is taken by the next choice
+pub steps_by : {s s' : PlainState} {rest rest' : Choices} {m : Move} {choice : ℕ} → choice ≡ choice_at rest 0 →
+    chosen s choice ≡ Some m → s' ≡ plain_step s m → rest' ≡ choices_after rest → Steps s s' rest rest' m
+steps_by {s} {s'} {rest} {rest'} {m} {choice} number taken state left =
+    record { taken = ap (chosen s) (sym number) ∙ taken; state = state; left = left }
 
 module _ (image : Contents) (params : Params) (schedule : Choices) (t : ℕ) (s s' : PlainState) (rest rest' : Choices)
     (m : Move) where

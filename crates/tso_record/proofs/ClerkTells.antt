@@ -12,13 +12,13 @@ use Rattle.msi_memory.specs.declared.port.Port.{Port}
 use Rattle.msi_state.specs.Events.{rider_of_event}
 use Rattle.online_reduce.specs.Reduced.{IsNext, Reduced, clock_of, counted}
 use Rattle.tso_clerk.specs.Telling.{AcceptsAll, TellsAll}
-use Rattle.tso_data.specs.Orders.{ordering_of}
+use Rattle.tso_records.specs.Standings.{ordering_of}
 use Rattle.tso_outcome.proofs.Behind.{AreAlone, AloneBehind}
 use Rattle.tso_records.specs.Standings.{AreNextOf, reduced_told, times_left}
 use Rattle.tso_state.specs.Events.{Event, Nothing, Executes, Buffers, Performs, Drains, Logs, Told, Alone, Ordered}
 use Rattle.tso_state.specs.Events.{Logged, tellings}
 use Rattle.tso_state.specs.States.{BufferedCore}
-use Rattle.tso_told.specs.Played.{AreInside}
+use Rattle.tso_recordings.specs.Plays.{AreInside}
 use Rattle.tso_record.specs.Clerks.{Accepts, Noted, ToldLocal, ToldLogged, ToldTouch}
 use Rattle.tso_record.proofs.ToldValues.{values_behind}
 

@@ -12,9 +12,7 @@ use Rattle.rtr_types.specs.Parameters.{Fits}
 use Rattle.rtr_types.specs.declared.params.Params.{Params}
 use Rattle.schedule_pick.specs.Choices.{Choices, choice_at}
 use Rattle.online_reduce.specs.Reduced.{Reduced, unreduced}
-use Rattle.tso_bound.specs.Ends.{end_of}
 use Rattle.tso_core.specs.Moving.{AcceptsOf, StepsTo, TellsOf}
-use Rattle.tso_data.specs.Orders.{ordering_of}
 use Rattle.tso_outcome.proofs.Behind.{alone_behind, inside_next}
 use Rattle.tso_outcome.proofs.ByCore.{no_items}
 use Rattle.tso_outcome.specs.Outcomes.{RunsAt}
@@ -23,16 +21,15 @@ use Rattle.tso_plain.specs.Plain.{plain}
 use Rattle.tso_plain.proofs.ForgetfulSteps.{plain_start, plain_told as forgets_told}
 use Rattle.tso_records.proofs.TimedRuns.{next_told}
 use Rattle.tso_records.specs.Standings.{AreNextOf, Standing, TimedState, found_in, moved_by, next_move, reduced_told}
-use Rattle.tso_records.specs.Standings.{standing_at, times_left}
+use Rattle.tso_records.specs.Standings.{ordering_of, ordering_port, standing_at, times_left}
 use Rattle.tso_state.specs.declared.moves.Move.{Move}
 use Rattle.tso_state.specs.Moves.{core_of}
 use Rattle.tso_state.specs.Runs.{chosen, plain_told, run, totals, values_at, values_of}
 use Rattle.tso_state.specs.States.{BufferedCore, all_done, core_at, state_start}
 use Rattle.tso_state.specs.Steps.{event, step, told}
-use Rattle.tso_times.specs.Timed.{ordering_port}
-use Rattle.tso_told.specs.Played.{AreInside}
 use Rattle.tso_codec.specs.declared.recording.TsoRecording.{TsoRecording}
-use Rattle.tso_recordings.specs.Schedules.{tso_recording_of}
+use Rattle.tso_recordings.specs.Plays.{AreInside}
+use Rattle.tso_recordings.specs.Schedules.{end_of, tso_recording_of}
 use Rattle.tso_record.specs.Clerks.{Noted}
 use Rattle.run_steps.specs.Ways.{IsUnderWay}
 use Rattle.tso_record.specs.Standing.{RecordsAt, last_lists}

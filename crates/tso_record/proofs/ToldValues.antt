@@ -8,7 +8,7 @@ use Rattle.rtr_types.specs.declared.params.Params.{Params}
 use Rattle.tso_outcome.proofs.ByCore.{by_core, item_more, same_lists}
 use Rattle.tso_state.specs.Events.{Told, Alone, Ordered, Logged}
 use Rattle.tso_state.specs.Runs.{LoggedLoad, all_told, values_at, values_of}
-use Rattle.tso_told.proofs.OrderedAndLogged.{loads_told}
+use Rattle.tso_recordings.proofs.Valid.{loads_told}
 use Rattle.roomy_lists.specs.Lists.{with_item}
 use Rattle.tso_recordings.proofs.Values.{told_values}
 

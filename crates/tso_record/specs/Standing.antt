@@ -3,7 +3,7 @@ use Rattle.std.specs.Prelude.{◌≡◌, ℕ, List}
 use Rattle.image_mem.specs.Contents.{Contents}
 use Rattle.rtr_types.specs.declared.params.Params.{Params}
 use Rattle.schedule_pick.specs.Choices.{Choices, choice_at}
-use Rattle.tso_bound.specs.Ends.{end_of}
+use Rattle.tso_recordings.specs.Schedules.{end_of}
 use Rattle.tso_outcome.specs.Outcomes.{RunsAt}
 use Rattle.tso_plain.specs.Plain.{plain}
 use Rattle.tso_records.specs.Standings.{TimedState, standing_at}

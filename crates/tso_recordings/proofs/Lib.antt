@@ -6,3 +6,9 @@ pub mod Valid
 pub mod ReplayedRuns
 pub mod Schedules
 pub mod LoggedLoads
+pub mod Firsts
+pub mod Tells
+pub mod Orders
+pub mod Places
+pub mod Plays
+pub mod Replays

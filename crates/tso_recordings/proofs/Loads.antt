@@ -15,7 +15,7 @@ use Rattle.replay_core.specs.Play.{Given, Use, use_of, old_for, heeded, found_fo
 use Rattle.replay_core.specs.Play.{core_at, loads_at, need_at, valued_place}
 use Rattle.replay_core.specs.Play.{valued_play}
 use Rattle.replay_core.proofs.Places.{place_given_law}
-use Rattle.told_plays.specs.Tells.{IsLogged, IsOrdered, Tells, TellsAt, cores_told}
+use Rattle.tso_recordings.specs.Tells.{IsLogged, IsOrdered, Tells, TellsAt, cores_told}
 use Rattle.tso_state.specs.Events.{Told, Alone, Ordered, Logged, instr_told}
 use Rattle.tso_told.specs.Played.{read_told, reads_told, told_of}
 use Rattle.tso_told.proofs.InOrder.{first_own, first_else}

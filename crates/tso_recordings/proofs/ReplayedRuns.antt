@@ -28,11 +28,11 @@ use Rattle.tso_recordings.proofs.Loads.{loads_length, loads_told as play_loads}
 use Rattle.tso_recordings.proofs.Values.{values_given}
 use Rattle.tso_replay.specs.Laws.{Inside, ReplaysTold}
 use Rattle.tso_replay.specs.Replays.{tso_given, tso_plan}
-use Rattle.told_plays.specs.Replays.{IsToldRun}
-use Rattle.told_plays.specs.Tells.{cores_told}
+use Rattle.tso_recordings.specs.Replays.{IsToldRun}
+use Rattle.tso_recordings.specs.Tells.{cores_told}
 use Rattle.tso_replay.proofs.Forward.{counted_play, counted_start}
-use Rattle.told_plays.proofs.Replays.{least_replays}
-use Rattle.told_plays.proofs.Tells.{told_plays}
+use Rattle.tso_recordings.proofs.Replays.{least_replays}
+use Rattle.tso_recordings.proofs.Tells.{told_plays}
 use Rattle.tso_state.specs.Events.{Told}
 use Rattle.tso_state.specs.FinalMemory.{final_memory}
 use Rattle.tso_state.specs.Runs.{accesses, all_told, outcome_at, reads, run, totals}
@@ -40,9 +40,9 @@ use Rattle.tso_state.specs.States.{BufferedCore, all_done, buffered_start, core_
 use Rattle.tso_told.specs.Played.{ordered_told, reads_told, told_core, told_of}
 use Rattle.tso_told.proofs.OrderedAndLogged.{accesses_told as run_accesses_told}
 use Rattle.tso_told.proofs.ToldRuns.{run_cores, told_all_reads, told_whole}
-use Rattle.told_plays.specs.Plays.{AreGiven, AreToldOf, IsPlayed}
-use Rattle.told_plays.proofs.Orders.{told_counts}
-use Rattle.told_plays.proofs.Plays.{played}
+use Rattle.tso_recordings.specs.Plays.{AreGiven, AreToldOf, IsPlayed}
+use Rattle.tso_recordings.proofs.Orders.{told_counts}
+use Rattle.tso_recordings.proofs.Plays.{played}
 use Rattle.tso_recordings.specs.Recordings.{CanRun, tso_recording_at}
 use Rattle.tso_recordings.specs.RunLaws.{RunReplaysLaw, RunToldLaw, told_order}
 use Rattle.tso_recordings.proofs.Totals.{all_totals, total_told}

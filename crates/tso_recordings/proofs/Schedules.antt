@@ -12,15 +12,17 @@ use Rattle.schedule_pick.specs.Choices.{Choices, choice_at}
 use Rattle.tso_bound.specs.Ends.{end_of}
 use Rattle.tso_codec.specs.declared.recording.TsoRecording.{TsoRecording}
 use Rattle.tso_replay.specs.Replays.{tso_given, tso_plan}
-use Rattle.tso_bound.proofs.RunEnds.{end_done}
+pub use Rattle.tso_bound.proofs.RunEnds.{end_done}
 use Rattle.tso_recordings.specs.Recordings.{CanRun}
-use Rattle.tso_recordings.proofs.ReplayedRuns.{PlaysAs, plays_here, replays_here}
+use Rattle.tso_recordings.proofs.ReplayedRuns.{PlaysAs, plays_here, replays_here, run_told_so}
 use Rattle.tso_recordings.proofs.Valid.{is_valid, recorded}
-use Rattle.tso_state.specs.Runs.{run}
+use Rattle.tso_state.specs.Runs.{all_told, run}
 use Rattle.tso_state.specs.States.{all_done}
 use Rattle.tso_outcome.specs.Outcomes.{tso_outcome_of}
+pub use Rattle.tso_outcome.proofs.RunPlaces.{run_ends_so}
 use Rattle.tso_records.specs.Standings.{standing_at}
 use Rattle.tso_recordings.specs.Follows.{FollowsTsoRun, ReplayedLaw}
+use Rattle.tso_recordings.specs.Replays.{IsToldRun}
 use Rattle.tso_recordings.specs.RunLaws.{told_order}
 use Rattle.tso_recordings.specs.Schedules.{HeldLaw, tso_accesses_of, tso_recording_of}
 
@@ -48,6 +50,16 @@ unfolding tso_recording_of
 lists_held image params schedule can =
     let choices = choice_at schedule in
     (recorded image params choices (end_of image params choices) can (ended image params choices can)).lists
+
+-- what is recorded is told of the run, which comes to its outcome
+pub told_held : (image : Contents) (params : Params) (schedule : Choices) → CanRun image params →
+    IsToldRun (tso_recording_of image params schedule)
+    (all_told image params (choice_at schedule) (end_of image params (choice_at schedule)))
+    (tso_outcome_of image params schedule)
+unfolding tso_recording_of tso_outcome_of
+told_held image params schedule can =
+    let choices = choice_at schedule in
+    run_told_so image params choices (end_of image params choices) can (ended image params choices can)
 
 -- what agrees with an order that plays as the run did follows the run
 module _ (image : Contents) (params : Params) (schedule : Choices) (r : TsoRecording) (told order : List ℕ)

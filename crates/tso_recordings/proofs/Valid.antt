@@ -20,23 +20,24 @@ use Rattle.replay_core.specs.Orders.{nought}
 use Rattle.stride_vector.specs.declared.StrideVector.{StrideVector}
 use Rattle.tso_codec.specs.Validity.{IsTso, plain_of}
 use Rattle.tso_recordings.proofs.ValidValues.{values_valid}
-use Rattle.told_plays.specs.Plays.{InProgramOrder}
+use Rattle.tso_recordings.specs.Plays.{InProgramOrder}
 use Rattle.tso_recordings.proofs.Values.{values_by_core}
 use Rattle.tso_records.proofs.TimedRuns.{reduction_is}
 use Rattle.tso_records.specs.Records.{IsReductionOf}
 use Rattle.tso_records.specs.Standings.{standing_at}
 use Rattle.tso_replay.specs.Laws.{Inside}
-use Rattle.told_plays.specs.Tells.{cores_told}
+use Rattle.tso_recordings.specs.Tells.{cores_told}
 use Rattle.tso_state.specs.Runs.{LoggedLoad, accesses, all_told, run, totals, values_at, values_of}
 use Rattle.tso_state.specs.States.{all_done}
 use Rattle.tso_told.specs.Played.{told_of}
-use Rattle.tso_told.proofs.OrderedAndLogged.{loads_told}
+pub use Rattle.tso_told.proofs.OrderedAndLogged.{loads_told}
 use Rattle.tso_told.proofs.ToldRuns.{told_inside, told_right}
-use Rattle.told_plays.specs.Plays.{AreToldOf}
-use Rattle.told_plays.proofs.Orders.{in_order, told_counts}
+use Rattle.tso_recordings.specs.Plays.{AreToldOf}
+use Rattle.tso_recordings.proofs.Orders.{in_order, told_counts}
 use Rattle.tso_recordings.specs.Recordings.{CanRun, tso_recording_at}
 use Rattle.tso_recordings.specs.RunLaws.{IsRecorded, RecordedLaw, ValidLaw}
-use Rattle.tso_words.proofs.LoggedWords.{small_told}
+pub use Rattle.tso_data.proofs.ByteWords.{opens_small}
+use Rattle.tso_data.proofs.LoggedWords.{small_told}
 use Rattle.tso_recordings.proofs.Totals.{all_totals, total_told, totals_fit}
 
 -- ---- what was told

@@ -12,10 +12,10 @@ use Rattle.replay_core.proofs.Counts.{bump_same, bump_more, counts_more}
 use Rattle.tso_codec.specs.Validity.{IsTso, ValueStands, AreValues, AreValuesOf, count_of, plain_of}
 use Rattle.race_log.specs.Validity.{Valid}
 use Rattle.tso_codec.specs.declared.recording.TsoRecording.{TsoRecording}
-use Rattle.told_plays.specs.Plays.{InProgramOrder}
-use Rattle.told_plays.specs.Tells.{cores_told}
+use Rattle.tso_recordings.specs.Plays.{InProgramOrder}
+use Rattle.tso_recordings.specs.Tells.{cores_told}
 use Rattle.tso_state.specs.Events.{Told, Alone, Ordered, Logged}
-use Rattle.tso_words.specs.Words.{SmallTold}
+use Rattle.tso_data.specs.Words.{SmallTold}
 use Rattle.tso_recordings.proofs.Values.{values_by_core, told_values}
 
 stand : (f : ℕ → ℕ) (list : List Told) (c last total : ℕ) → InProgramOrder f list → last ≤ f c →

@@ -10,8 +10,8 @@ use Rattle.replay_core.specs.Orders.{bump, nought}
 use Rattle.replay_core.proofs.Counts.{bump_here, bump_more, bump_same}
 use Rattle.tso_replay.specs.Laws.{Inside}
 use Rattle.replay_core.specs.Play.{Given, given_by, value_at}
-use Rattle.told_plays.specs.Plays.{AreGiven, InProgramOrder, IsGiven}
-use Rattle.told_plays.specs.Tells.{cores_told}
+use Rattle.tso_recordings.specs.Plays.{AreGiven, InProgramOrder, IsGiven}
+use Rattle.tso_recordings.specs.Tells.{cores_told}
 use Rattle.tso_state.specs.Events.{Told, Alone, Ordered, Logged, instr_told}
 use Rattle.tso_state.specs.Runs.{values_of}
 use Rattle.tso_told.specs.Played.{logged_told}

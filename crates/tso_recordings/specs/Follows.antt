@@ -16,7 +16,7 @@ use Rattle.replay_core.specs.Orders.{IsReplayOrder, IsWhole, low_order}
 use Rattle.replay_core.specs.Play.{ValuedPlays, loads_at, start, valued_accesses, valued_played}
 use Rattle.replay_audit.specs.Laws.{GoesOnValued}
 use Rattle.tso_codec.specs.declared.recording.TsoRecording.{TsoRecording}
-use Rattle.tso_outcome.specs.Outcomes.{tso_outcome_of}
+pub use Rattle.tso_outcome.specs.Outcomes.{RunEnds, tso_outcome_of}
 use Rattle.tso_recordings.specs.Recordings.{CanRun}
 use Rattle.tso_recordings.specs.Schedules.{tso_accesses_of, tso_recording_of}
 use Rattle.tso_replay.specs.Replays.{TsoRefuses, TsoReplays, tso_given, tso_plan}

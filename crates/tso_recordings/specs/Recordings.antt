@@ -6,7 +6,7 @@ use Rattle.rtr_types.specs.declared.params.Params.{Params}
 use Rattle.least_lists.specs.LeastLists.{least_lists}
 use Rattle.tso_codec.specs.declared.recording.TsoRecording.{TsoRecording}
 use Rattle.tso_state.specs.Runs.{accesses, run, totals, values_at}
-use Rattle.tso_words.specs.Words.{OpensSmall}
+use Rattle.tso_data.specs.Words.{OpensSmall}
 
 -- the parameters fit, and the image fits the memory that they give, whose words are words
 pub record CanRun (image : Contents) (params : Params) : Type 0 where

@@ -8,8 +8,8 @@ use Rattle.race_log.specs.Sources.{log_edges}
 use Rattle.race_log.specs.Validity.{Valid}
 use Rattle.tso_codec.specs.Validity.{IsTso, plain_of}
 use Rattle.tso_records.specs.Standings.{standing_at}
-use Rattle.told_plays.specs.Replays.{IsToldRun}
-use Rattle.told_plays.specs.Tells.{cores_told}
+use Rattle.tso_recordings.specs.Replays.{IsToldRun}
+use Rattle.tso_recordings.specs.Tells.{cores_told}
 use Rattle.tso_replay.specs.Laws.{ReplaysTold}
 use Rattle.tso_state.specs.Runs.{accesses, all_told, outcome_at, run}
 use Rattle.tso_state.specs.States.{all_done}

@@ -8,7 +8,7 @@ use Rattle.rtr_types.specs.declared.params.Params.{Params}
 use Rattle.schedule_pick.specs.Choices.{Choices, choice_at}
 use Rattle.conflict_edge.specs.Least.{IsLeast}
 use Rattle.race_log.specs.Sources.{log_edges}
-use Rattle.tso_bound.specs.Ends.{end_of}
+pub use Rattle.tso_bound.specs.Ends.{end_of}
 use Rattle.tso_codec.specs.declared.recording.TsoRecording.{TsoRecording}
 use Rattle.tso_codec.specs.Validity.{IsTso, plain_of}
 use Rattle.tso_recordings.specs.Recordings.{CanRun, tso_recording_at}

@@ -3,6 +3,9 @@ ghost use Rattle.tso_recordings.specs.Follows.{ReplayedLaw};
 ghost use Rattle.tso_recordings.specs.Logged.{LoggedLaw};
 ghost use Rattle.tso_recordings.specs.RunLaws.{RecordingLaws, RunReplaysLaw};
 ghost use Rattle.tso_recordings.specs.Schedules.{HeldLaw};
+ghost use Rattle.tso_recordings.specs.Plays.{InOrderLaw, PlayedLaw};
+ghost use Rattle.tso_recordings.specs.Replays.{LeastReplaysLaw};
+ghost use Rattle.tso_recordings.specs.Tells.{ToldPlaysLaw};
 
 /// The recording of a run is valid. Its reduced log is the least set of the accesses that the run ordered, which the
 /// reduction comes to that is told of the run. What was told plays with the recorded words to the run's outcome.
@@ -37,4 +40,27 @@ pub fn the_values_are_the_logged_loads()
 /// recording answers the run's outcome, or is refused for want of memory alone.
 pub fn every_order_follows_the_run()
     ensures { ReplayedLaw }
+{}
+
+/// Instructions that are told one after the other, each with what its core does at that place, are a play by the
+/// accesses that are ordered and with the words of the logged loads.
+pub fn what_is_told_plays()
+    ensures { ToldPlaysLaw }
+{}
+
+/// What is told of cores, each instruction as its core's next one, is in program order.
+pub fn what_is_told_is_in_order()
+    ensures { InOrderLaw }
+{}
+
+/// And it is a play, where each ordered access finds the last value of its word and each logged load is given its own:
+/// a play that comes to the cores that were told, and to the memory that the ordered accesses leave.
+pub fn what_is_told_is_a_play()
+    ensures { PlayedLaw }
+{}
+
+/// Every replay order of a recording replays what was told, where the reduced log is the least set of the accesses that
+/// were ordered.
+pub fn the_least_log_replays()
+    ensures { LeastReplaysLaw }
 {}

@@ -25,7 +25,6 @@ use Rattle.msi_state.specs.Events.{Event as ClerkEvent, Accesses}
 use Rattle.online_reduce.proofs.Reductions.{begin_law, least_law, none_before}
 use Rattle.online_reduce.specs.Exact.{AreExactFor}
 use Rattle.online_reduce.specs.Reduced.{count_of}
-use Rattle.tso_data.specs.Orders.{ordering_of}
 use Rattle.tso_invariant.specs.Holds.{TsoHolds}
 use Rattle.tso_invariant.proofs.StartInvariant.{chosen_at, holds_start}
 use Rattle.tso_invariant.proofs.MoveInvariant.{holds_kept}
@@ -39,7 +38,7 @@ use Rattle.tso_state.specs.Events.{Event, Told, instr_told}
 use Rattle.tso_state.specs.Steps.{enabled, event, moves, step, told}
 use Rattle.tso_state.specs.Runs.{accesses, all_told, chosen, chosen_of, event_by, ordered_in, plain_event}
 use Rattle.tso_state.specs.Runs.{plain_step, plain_told, run, stepped_by, told_by}
-use Rattle.tso_times.specs.Timed.{StandsAfter, ordering_port}
+use Rattle.tso_times.specs.Timed.{StandsAfter, ordering_of, ordering_port}
 use Rattle.tso_times.proofs.NoAccessYet.{buffered_start}
 use Rattle.tso_times.proofs.MoveTimes.{finds_exact, timed_step}
 use Rattle.tso_told.specs.Played.{AreInside, told_of}

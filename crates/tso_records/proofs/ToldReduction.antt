@@ -20,11 +20,10 @@ use Rattle.msi_memory.specs.Memories.{rider_at}
 use Rattle.msi_state.specs.Events.{Event as ClerkEvent, Nothing as NothingTold, Retires, Accesses, rider_of_event}
 use Rattle.online_reduce.specs.Exact.{AreExactFor}
 use Rattle.online_reduce.specs.Reduced.{IsNext, Reduced, clock_of, count_of, counted, edges_of, retired}
-use Rattle.tso_data.specs.Orders.{ordering_of}
 use Rattle.tso_state.specs.Events.{Event, Nothing, Executes, Buffers, Performs, Drains, Logs, Told, Alone, Ordered}
 use Rattle.tso_state.specs.Events.{Logged, instr_told, tellings}
 use Rattle.tso_state.specs.States.{BufferedCore}
-use Rattle.tso_times.specs.Timed.{RiderFits}
+use Rattle.tso_times.specs.Timed.{RiderFits, ordering_of}
 use Rattle.tso_told.specs.Played.{AreInside, ordered_told, told_of}
 use Rattle.tso_told.proofs.InOrder.{CountFrom, first_own, first_else}
 use Rattle.tso_told.proofs.OrderedAndLogged.{none_ordered}

@@ -11,7 +11,7 @@ use Rattle.conflict_edge.specs.Least.{IsLeast}
 use Rattle.msi_state.specs.Events.{Accesses}
 use Rattle.online_reduce.specs.Exact.{AreExactFor, IsReduction}
 use Rattle.online_reduce.specs.Reduced.{Reduced, count_of}
-use Rattle.tso_data.specs.Orders.{ordering_of}
+use Rattle.tso_times.specs.Timed.{ordering_of}
 use Rattle.tso_state.specs.Runs.{accesses, all_told, event_at}
 use Rattle.tso_told.specs.Played.{told_of}
 use Rattle.tso_state.specs.declared.moves.Move.{Move}

@@ -11,14 +11,13 @@ use Rattle.rtr_types.specs.declared.instr.Edge.{Edge}
 use Rattle.rtr_types.specs.declared.params.Params.{Params}
 use Rattle.msi_state.specs.Events.{Event as ClerkEvent, Accesses, rider_of_event}
 use Rattle.online_reduce.specs.Reduced.{IsNext, Reduced, clock_of, counted, edges_of, retired, unreduced}
-use Rattle.tso_data.specs.Orders.{ordering_of}
 use Rattle.tso_plain.specs.Plain.{plain}
 use Rattle.tso_state.specs.Events.{Told, Alone, Ordered, Logged}
 use Rattle.tso_state.specs.Runs.{chosen}
 use Rattle.tso_state.specs.States.{State, state_start}
 use Rattle.tso_state.specs.Steps.{event, step, told}
 use Rattle.tso_state.specs.declared.moves.Move.{Move}
-use Rattle.tso_times.specs.Timed.{ordering_port}
+pub use Rattle.tso_times.specs.Timed.{ordering_of, ordering_port}
 
 -- a state whose riders record times
 abbrev pub TimedState : Type 0

@@ -7,23 +7,22 @@ use Rattle.access_times.specs.Riding.{Carrying, Riding}
 use Rattle.rtr_types.specs.declared.access.Access.{Access}
 use Rattle.rtr_types.specs.declared.instr.Instr.{Instr}
 use Rattle.rv_core.specs.declared.outcome.LoadNote.{LoadNote}
-use Rattle.schedule_pick.specs.Choices.{Choices, choice_at, choices_after}
+use Rattle.schedule_pick.specs.Choices.{Choices, choice_at}
 use Rattle.run_steps.specs.Ways.{IsUnderWay}
 use Rattle.load_lists.specs.Lists.{LoadRooms}
 use Rattle.tso_clerk.specs.Telling.{AcceptsAll, AcceptsOne, TellsAll, TellsOne}
 use Rattle.tso_outcome.specs.Loads.{loads_after, loads_told}
 use Rattle.tso_outcome.specs.Outcomes.{StandsAt, told_loads}
-use Rattle.tso_outcome.proofs.RunPlaces.{Steps}
 use Rattle.tso_outcome.proofs.Behind.{AreAlone, AloneBehind, alone_behind, inside_next}
 use Rattle.tso_state.specs.declared.moves.Move.{Move}
 use Rattle.tso_state.specs.Events.{Told, Alone, Ordered, Logged, instr_told}
 use Rattle.tso_state.specs.Moves.{core_of}
 use Rattle.tso_plain.specs.Plain.{plain}
 use Rattle.tso_plain.proofs.ForgetfulSteps.{plain_told as forgets_told}
-use Rattle.tso_state.specs.Runs.{chosen, plain_step, plain_told}
+use Rattle.tso_state.specs.Runs.{chosen, plain_told}
 use Rattle.tso_state.specs.States.{PlainState, State, core_at}
 use Rattle.tso_state.specs.Steps.{event, told}
-use Rattle.tso_told.specs.Played.{AreInside}
+use Rattle.tso_outcome.proofs.Behind.{AreInside}
 use Rattle.run_steps.specs.Clerks.{Accepts, ToldLocal, ToldLogged, ToldTouch}
 
 -- what the clerk's calls do
@@ -110,9 +109,3 @@ accepts_next {R} {K} riding carrying s m carry found c loads rest running is sam
     (subst (AreInside (length loads)) (sym (forgets_told riding carrying s m))
     (running_inside (plain s) loads rest m running is)))
     roomy
-
--- the step that is taken by the next choice
-pub steps_by : {s s' : PlainState} {rest rest' : Choices} {m : Move} {choice : ℕ} → choice ≡ choice_at rest 0 →
-    chosen s choice ≡ Some m → s' ≡ plain_step s m → rest' ≡ choices_after rest → Steps s s' rest rest' m
-steps_by {s} {s'} {rest} {rest'} {m} {choice} number taken state left =
-    record { taken = ap (chosen s) (sym number) ∙ taken; state = state; left = left }

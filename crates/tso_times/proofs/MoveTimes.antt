@@ -51,7 +51,7 @@ use Rattle.tso_invariant.specs.Holds.{TsoHolds, may_ask, next_may_ask}
 use Rattle.tso_invariant.proofs.MoveInvariant.{acts_can, core_can, core_elsewhere, core_port, core_there, enabled_core}
 use Rattle.tso_invariant.proofs.MoveInvariant.{step_cores}
 use Rattle.tso_invariant.proofs.ToldAtPorts.{is_alone, locals_alone}
-use Rattle.tso_told.proofs.ToldMoves.{amo_alone}
+use Rattle.tso_invariant.proofs.MoveGrounds.{amo_alone}
 use Rattle.tso_data.specs.Orders.{ordering_of}
 use Rattle.tso_times.specs.Timed.{FindsTimes, RiderFits, StandsAfter, TimedStep, ordering_port, told_count}
 use Rattle.machine_times.proofs.TimedActs.{other_times, others_times, touch_times}

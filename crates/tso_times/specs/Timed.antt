@@ -16,7 +16,7 @@ use Rattle.tso_state.specs.Events.{count_before}
 use Rattle.tso_state.specs.Moves.{core_of}
 use Rattle.tso_state.specs.States.{BufferedCore, State, core_at}
 use Rattle.tso_state.specs.Steps.{enabled, event, step}
-use Rattle.tso_data.specs.Orders.{ordering_of}
+pub use Rattle.tso_data.specs.Orders.{ordering_of}
 use Rattle.tso_invariant.specs.Holds.{TsoHolds}
 
 -- how many of a core's instructions were told

@@ -44,7 +44,8 @@ use Rattle.tso_invariant.specs.Holds.{TsoHolds}
 use Rattle.tso_invariant.proofs.EventCases.{by_amo, by_load, by_message, by_ordered_load, by_ordered_store}
 use Rattle.tso_invariant.proofs.MoveInvariant.{core_can, core_port, enabled_core}
 use Rattle.tso_told.specs.Played.{read_told, reads_told, reads_pending}
-use Rattle.tso_told.proofs.ToldMoves.{amo_alone, next_alone}
+use Rattle.tso_invariant.proofs.MoveGrounds.{amo_alone}
+use Rattle.tso_told.proofs.ToldMoves.{next_alone}
 use Rattle.tso_told.proofs.Tellings.{behind_have}
 use Rattle.tso_invariant.proofs.OrderedStores.{stored}
 

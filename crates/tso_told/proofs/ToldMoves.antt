@@ -18,7 +18,6 @@ use Rattle.rv_core.specs.Steps.{need, after, access_of as need_access}
 use Rattle.msi_memory.specs.declared.port.Port.{Port}
 use Rattle.msi_memory.specs.Acts.{allows, data_next}
 use Rattle.msi_memory.specs.Memories.{port_at, word_at}
-use Rattle.msi_cache.specs.Lines.{waits}
 use Rattle.msi_state.specs.Events.{access_of, next_instr, port_taken}
 use Rattle.rv_core.specs.StoreMask.{StoreMaskLaw}
 use Rattle.tso_state.specs.declared.moves.Move.{Move}
@@ -38,6 +37,7 @@ use Rattle.tso_state.specs.Events.{core_after, event_executing, event_granted, e
 use Rattle.tso_state.specs.Events.{queue_after}
 use Rattle.tso_state.specs.Steps.{case_holds, enabled, event, is_fence, is_next}
 use Rattle.tso_invariant.specs.Holds.{TsoHolds, may_ask, next_may_ask}
+use Rattle.tso_invariant.proofs.MoveGrounds.{amo_alone}
 use Rattle.tso_invariant.proofs.MoveInvariant.{core_can, enabled_core}
 use Rattle.tso_told.specs.Played.{IsNext, found_by}
 use Rattle.tso_told.proofs.ToldAndExecuted.{Arrives, Tells, arrives_local, arrives_pushed, leaves, load_leaves}
@@ -181,13 +181,6 @@ module _ {R K : Type 0} where
           head_told image base t (PendingStore count word mask bits) rest (Ordered b) is
           (leaves image base (PendingStore count word mask bits) rest t.core (Ordered b) here w.0 w.1)
       by_allowed false = nothing_told image base t.queue t.core a
-
-  pub amo_alone : (image : Contents) (riding : Riding R) (t : BufferedCore) (p : Port R K) (needed : Need)
-      (fence : Bool) →
-      case_holds needed fence riding t.queue p ≡ true → (word : ℕ) → needed ≡ Amo word → is_nil t.queue ≡ true
-  amo_alone image riding t p needed fence e word is =
-      (and_parts (is_nil t.queue) (not (waits p.cache))
-      (ap (λ (n : Need). case_holds n fence riding t.queue p) (sym is) ∙ e)).0
 
   -- and one that asks for its data does so with an empty queue
   pub next_alone : (riding : Riding R) (carrying : Carrying K) (s : State R K) (c : ℕ) → TsoHolds riding carrying s →

@@ -2,3 +2,5 @@ pub mod FirstFound
 pub mod ChangedRanks
 pub mod SetMembers
 pub mod TurnSteps
+pub mod PickedAgain
+pub mod PicksListed

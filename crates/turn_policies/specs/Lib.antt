@@ -1,5 +1,6 @@
 pub mod Listed
 pub mod Named
+pub mod PickedTurns
 pub mod Policies
 pub mod Ranked
 pub mod Straight

@@ -1,6 +1,6 @@
 -- Rule: policies by name and number: numbered_by
 -- Which run a policy's name and a number mean.
-use Rattle.std.specs.Prelude.{ℕ, ◌+◌, ◌/◌, ◌%◌, ◌==◌, if◌then◌else◌}
+use Rattle.std.specs.Prelude.{ℕ, Bool, true, false, ◌+◌, ◌/◌, ◌%◌, ◌==◌, if◌then◌else◌}
 use Rattle.turn_policies.specs.declared.named.Named.{Named}
 use Rattle.turn_policies.specs.declared.named.Named.TheVariants.{All, Few, Mixed, Ranked, Seed, Walk}
 use Rattle.turn_policies.specs.declared.named.Numbered.{Numbered}
@@ -17,3 +17,10 @@ numbered_by Walk n = numbered.Walk n
 numbered_by (Ranked depth) n = numbered.Ranked depth n
 numbered_by Mixed n = mixed n
 numbered_by All n = if n % 2 == 0 then numbered.Few (n / 2) else mixed (n / 2)
+
+-- the run of a seed alone, in which no policy picks
+abbrev pub is_by_seed : Numbered → Bool
+is_by_seed (numbered.Seed n) = true
+is_by_seed (numbered.Few n) = false
+is_by_seed (numbered.Walk n) = false
+is_by_seed (numbered.Ranked depth n) = false

@@ -15,8 +15,8 @@ use std::marker::Model;
 use turn_lists::Actor;
 
 /// A policy by ranks: of those that may act the actor with the greatest rank is picked. At each of some points the
-/// actor that would be picked gets a rank below all, and so does a core that goes round. Probabilistic concurrency testing
-/// (Burckhardt, Kothari, Musuvathi and Nagarajan, ASPLOS 2010), counted in accesses.
+/// actor that would be picked gets a rank below all, and so does a core that goes round. Probabilistic concurrency
+/// testing (Burckhardt, Kothari, Musuvathi and Nagarajan, ASPLOS 2010), counted in accesses.
 #[derive(Drop)]
 pub struct Ranks {
     /// All actors by their ranks, the greatest first.

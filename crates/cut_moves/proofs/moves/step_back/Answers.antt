@@ -1,13 +1,11 @@
-use Rattle.std.proofs.Common.{sym, subst, arith}
-use Rattle.cut_moves.specs.Steps.{IsStepBack}
+use Rattle.std.proofs.Common.{arith}
 use Rattle.cut_moves.proofs.Fronts.{back_count}
-use Rattle.cut_moves.proofs.OneStep.{back_by_intersection}
+use Rattle.cut_moves.proofs.StepsBack.{is_step_back}
 use Rattle.cut_moves.proofs.moves.step_back.Goals as goal
 
 pub returns-clause-back : goal.returns-clause-back
 returns-clause-back c =
-    subst (IsStepBack _ _ _ _) (sym c.intersection.ensures)
-    (back_by_intersection _ _ _ _ _ c.requires.closed c.in_ok-greatest.ensures)
+    is_step_back _ _ c.recording.ensures.valid _ _ c.requires.closed c.requires.last _ c.without.ensures
 
 pub returns-clause-one : goal.returns-clause-one
 returns-clause-one c =

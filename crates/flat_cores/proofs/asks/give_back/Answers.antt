@@ -1,6 +1,13 @@
-use Rattle.std.proofs.Common.{refl}
+use Rattle.std.proofs.Common.{◌∙◌, ap, refl, ◌/◌, ◌%◌}
+use Rattle.std.specs.Prelude.{slice_set}
+use Rattle.rtr_types.specs.declared.TheConstants.{BLOCK_WORDS, LINES}
+use Rattle.msi_cache.specs.declared.line.State.{State as LineState}
+use Rattle.flat_state.specs.declared.node.Ask.{Ask}
+use Rattle.flat_state.specs.Shows.{line_at}
+use Rattle.flat_state.specs.declared.node.Node.{Node}
 use Rattle.flat_state.proofs.NodeReads.{in_nodes}
-use Rattle.flat_cores.proofs.AskingNodes.{give_back_stands}
+use Rattle.flat_cores.proofs.AskingNodes.{give_back_stands, give_back_told}
+use Rattle.flat_cores.specs.Needs.{leaving, node_asked, node_giving}
 use Rattle.flat_cores.proofs.asks.give_back.Goals as goal
 
 pub returns-clause-makes : goal.returns-clause-makes
@@ -11,3 +18,20 @@ returns-clause-makes c = λ s memory stands on.
     give_back_stands f _ s memory c.args.core c.args.word n c.wait_for.new.node _ _ _ c.requires.core is
     c.requires.need c.requires.copy c.requires.other refl c.leaving-state.ensures c.put_of-ask.ensures
     c.wait_for.ensures refl refl refl stands on
+
+pub returns-clause-nodes : goal.returns-clause-nodes
+returns-clause-nodes c =
+    let f = c.args.flat.now in
+    let n = c.index_mut-node.result.now in
+    let is = in_nodes f.nodes.items c.args.core n c.requires.core c.index_mut-node.ensures.value in
+    let i = c.args.word / BLOCK_WORDS % LINES in
+    ap (slice_set f.nodes.items c.args.core) (c.wait_for.ensures
+    ∙ (ap (λ (x : LineState). node_asked n i (record (line_at n i) { state = x }) c.put_of-ask.result)
+    c.leaving-state.ensures
+    ∙ (ap (λ (a : Ask). node_asked n i (record (line_at n i) { state = leaving (line_at n i).state }) a)
+    c.put_of-ask.ensures
+    ∙ ap (λ (x : Node). node_giving x i) is)))
+
+pub returns-clause-told : goal.returns-clause-told
+returns-clause-told c = λ s memory stands on.
+    give_back_told c.args.flat.now s memory c.args.core c.args.word c.requires.core stands on c.requires.need c.requires.other

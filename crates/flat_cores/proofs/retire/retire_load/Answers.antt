@@ -1,9 +1,11 @@
-use Rattle.std.proofs.Common.{◌≡◌, ap, refl, subst, ℕ, ◌/◌, ◌%◌, ◌<◌, arith, length}
+use Rattle.std.proofs.Common.{◌≡◌, ◌∙◌, ap, refl, subst, ℕ, ◌/◌, ◌%◌, ◌<◌, arith, length}
+use Rattle.std.specs.Prelude.{slice_index, slice_set}
 use Rattle.rtr_types.specs.declared.TheConstants.{BLOCK_WORDS, LINES}
 use Rattle.rv_core.specs.Steps.{is_done}
-use Rattle.flat_state.specs.Shows.{line_at}
+use Rattle.flat_state.specs.Shows.{line_at, node_after}
 use Rattle.flat_state.proofs.NodeReads.{going_on, in_nodes, op_kept}
 use Rattle.flat_cores.proofs.Hits.{load_placed, load_read, load_stands, load_told}
+use Rattle.flat_state.specs.declared.node.Node.{Node}
 use Rattle.flat_cores.proofs.retire.retire_load.Goals as goal
 
 pub index-requires : goal.index-requires
@@ -60,3 +62,12 @@ returns-clause-told c = λ s memory stands on.
     (load_read f s memory c.args.core c.args.word n c.index.result.now c.requires.core is c.index.ensures
     c.requires.hit stands) stands n c.next_instr-at.result c.retire-after.result is c.next_instr-at.ensures
     c.retire-after.ensures.value
+
+pub returns-clause-nodes : goal.returns-clause-nodes
+returns-clause-nodes c =
+    let f = c.args.flat.now in
+    let n = c.index_mut-node.result.now in
+    let is = in_nodes f.nodes.items c.args.core n c.requires.core c.index_mut-node.ensures.value in
+    ap (slice_set f.nodes.items c.args.core) (c.retire-after.ensures.node
+    ∙ ap (λ (x : Node). node_after f.program x x.core (slice_index c.index.result.now.words
+    (c.args.word % BLOCK_WORDS))) is)

@@ -1,7 +1,10 @@
-use Rattle.std.proofs.Common.{ap, refl}
+use Rattle.std.proofs.Common.{◌∙◌, ap, refl}
+use Rattle.std.specs.Prelude.{slice_set}
 use Rattle.rv_core.specs.Steps.{is_done}
+use Rattle.flat_state.specs.Shows.{node_after}
 use Rattle.flat_state.proofs.NodeReads.{going_on, in_nodes, op_kept}
 use Rattle.flat_cores.proofs.Hits.{local_stands, local_told}
+use Rattle.flat_state.specs.declared.node.Node.{Node}
 use Rattle.flat_cores.proofs.retire.retire_local.Goals as goal
 
 pub next_instr-at-requires : goal.next_instr-at-requires
@@ -43,3 +46,11 @@ returns-clause-told c = λ s memory stands on.
     local_told f s c.args.core n c.next_instr-at.result c.requires.core
     (in_nodes f.nodes.items c.args.core n c.requires.core c.index_mut-node.ensures.value) c.next_instr-at.ensures
     c.requires.local stands.shows
+
+pub returns-clause-nodes : goal.returns-clause-nodes
+returns-clause-nodes c =
+    let f = c.args.flat.now in
+    let n = c.index_mut-node.result.now in
+    let is = in_nodes f.nodes.items c.args.core n c.requires.core c.index_mut-node.ensures.value in
+    ap (slice_set f.nodes.items c.args.core) (c.retire-value.ensures.node
+    ∙ ap (λ (x : Node). node_after f.program x x.core 0) is)

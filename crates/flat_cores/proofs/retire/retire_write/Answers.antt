@@ -1,15 +1,16 @@
 use Rattle.std.proofs.Common.{◌≡◌, ◌∙◌, ap, refl, subst, sym, ℕ, ◌/◌, ◌%◌, ◌<◌, arith, length}
-use Rattle.std.specs.Prelude.{slice_index}
+use Rattle.std.specs.Prelude.{slice_index, slice_set}
 use Rattle.rtr_types.specs.declared.TheConstants.{BLOCK_WORDS, LINES}
 use Rattle.rtr_types.specs.declared.access.Kind.{Kind}
 use Rattle.msi_state.specs.Events.{Accesses}
 use Rattle.flat_state.specs.declared.block.HomeBlock.{HomeBlock}
 use Rattle.flat_state.specs.declared.node.Node.{Node}
-use Rattle.flat_state.specs.Shows.{line_at}
-use Rattle.flat_cores.specs.Needs.{kind_of}
+use Rattle.flat_state.specs.Shows.{line_at, node_after}
+use Rattle.flat_cores.specs.Needs.{but_words, kind_of}
 use Rattle.flat_state.proofs.HomeBlocks.{blocks_same, in_home}
 use Rattle.flat_state.proofs.NodeReads.{going_on, in_nodes, op_kept}
-use Rattle.flat_cores.proofs.Writes.{write_going, write_needed, write_placed, write_stands, write_told}
+use Rattle.flat_cores.proofs.Writes.{but_words_same, write_going, write_needed, write_placed, write_stands}
+use Rattle.flat_cores.proofs.Writes.{write_told}
 use Rattle.flat_cores.proofs.retire.retire_write.Goals as goal
 
 pub index_mut-block-requires : goal.index_mut-block-requires
@@ -93,5 +94,26 @@ returns-clause-blocks c =
     let b = c.index_mut-block.result.now in
     blocks_same f.home.items _ (line_at n (c.args.word / BLOCK_WORDS % LINES)).place _ refl
     (ap (λ (x : HomeBlock). x.block) (in_home f.home.items (line_at n (c.args.word / BLOCK_WORDS % LINES)).place b
+    (write_placed f w.s w.memory c.args.core c.args.word n c.requires.core is c.requires.hit w.stands)
+    c.index_mut-block.ensures.value))
+
+pub returns-clause-nodes : goal.returns-clause-nodes
+returns-clause-nodes c =
+    let f = c.args.flat.now in
+    let n = c.index_mut-node.result.now in
+    let is = in_nodes f.nodes.items c.args.core n c.requires.core c.index_mut-node.ensures.value in
+    ap (slice_set f.nodes.items c.args.core) (c.retire-after.ensures.node
+    ∙ ap (λ (x : Node). node_after f.program x x.core (slice_index c.index_mut-block.result.now.words
+    (c.args.word % BLOCK_WORDS))) is)
+
+pub returns-clause-home : goal.returns-clause-home
+returns-clause-home c =
+    let f = c.args.flat.now in
+    let w = c.requires.stands in
+    let n = c.index_mut-node.result.now in
+    let is = in_nodes f.nodes.items c.args.core n c.requires.core c.index_mut-node.ensures.value in
+    let b = c.index_mut-block.result.now in
+    but_words_same f.home.items _ (line_at n (c.args.word / BLOCK_WORDS % LINES)).place _ refl
+    (ap but_words (in_home f.home.items (line_at n (c.args.word / BLOCK_WORDS % LINES)).place b
     (write_placed f w.s w.memory c.args.core c.args.word n c.requires.core is c.requires.hit w.stands)
     c.index_mut-block.ensures.value))

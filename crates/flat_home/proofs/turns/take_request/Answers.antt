@@ -6,6 +6,7 @@ use Rattle.flat_state.proofs.HomeBlocks.{blocks_same, in_home}
 use Rattle.flat_state.proofs.NodeReads.{in_nodes}
 use Rattle.flat_home.proofs.Requests.{asked_lies, asker_below, call_empty, call_room, call_row, call_stands, call_there}
 use Rattle.flat_home.proofs.Requests.{can_take}
+use Rattle.flat_home.proofs.Turning.{has_turned}
 use Rattle.flat_home.proofs.turns.take_request.Goals as goal
 
 pub index_mut-block-requires : goal.index_mut-block-requires
@@ -109,3 +110,29 @@ returns-clause-blocks c =
     (asked_lies f w.s w.memory c.args.core c.requires.core c.requires.asks w.stands) in
     blocks_same f.home.items _ n.place _ refl (c.serve-telling.ensures.block
     ∙ ap (λ (x : HomeBlock). x.block) (in_home f.home.items n.place b lies c.index_mut-block.ensures.value))
+
+pub returns-clause-turned : goal.returns-clause-turned
+returns-clause-turned c =
+    let f = c.args.flat.now in
+    let w = c.requires.stands in
+    let n = c.index_mut-node.result.now in
+    let b = c.index_mut-block.result.now in
+    let is = in_nodes f.nodes.items c.args.core n c.requires.core c.index_mut-node.ensures.value in
+    let lies = subst (λ (x : Node). x.place < length f.home.items) (sym is)
+    (asked_lies f w.s w.memory c.args.core c.requires.core c.requires.asks w.stands) in
+    let found = in_home f.home.items n.place b lies c.index_mut-block.ensures.value in
+    has_turned f _ _ c.args.core n.place (record n { asks = false }) _ b c.serve-telling.new.block
+    c.serve-telling.result lies found (ap (λ (x : Node). record x { asks = false }) is) c.serve-telling.ensures
+    (call_there f w.s w.memory c.args.core n b c.requires.core is found c.requires.asks w.stands
+    c.serve-telling.new.block c.serve-telling.result c.serve-telling.ensures) refl c.tell.ensures.long
+    c.tell.ensures.nodes
+
+pub returns-clause-place : goal.returns-clause-place
+returns-clause-place c =
+    let f = c.args.flat.now in
+    let n = c.index_mut-node.result.now in
+    ap (λ (x : Node). x.place)
+    (in_nodes f.nodes.items c.args.core n c.requires.core c.index_mut-node.ensures.value)
+
+pub returns-clause-told : goal.returns-clause-told
+returns-clause-told c = λ s memory stands on. refl

@@ -7,11 +7,13 @@ use Rattle.flat_state.specs.declared.message_ring.Told.TheVariants.{Data}
 use Rattle.flat_state.specs.declared.node.Node.{Node}
 use Rattle.flat_state.proofs.HomeBlocks.{blocks_same, in_home}
 use Rattle.flat_state.proofs.NodeReads.{going_on, in_nodes, op_kept}
-use Rattle.flat_cores.proofs.Writes.{block_with}
+use Rattle.flat_cores.specs.Needs.{but_words}
+use Rattle.flat_cores.proofs.Writes.{block_with, but_words_same}
 use Rattle.flat_messages.specs.Heard.{left_by, told_next, word_of}
 use Rattle.flat_messages.proofs.DataMoves.{data_stands, data_told, need_going}
-use Rattle.flat_messages.proofs.HeardNodes.{data_heard}
+use Rattle.flat_messages.proofs.HeardNodes.{data_heard, heard_oldest}
 use Rattle.flat_messages.proofs.WordMoves.{some_message, told_head, told_lies}
+use Rattle.flat_state.specs.Shows.{node_after}
 use Rattle.flat_messages.proofs.data.take_data.Goals as goal
 
 pub take-message-requires : goal.take-message-requires
@@ -128,3 +130,33 @@ returns-clause-blocks c =
     blocks_same f.home.items _ m.place _ refl (ap (λ (x : HomeBlock). x.block) (in_home f.home.items m.place b
     (told_lies f w.s w.memory c.args.core n m c.take-message.new.self c.requires.core is c.take-message.ensures
     w.stands) c.index_mut-block.ensures.value))
+
+pub returns-clause-nodes : goal.returns-clause-nodes
+returns-clause-nodes c =
+    let f = c.args.flat.now in
+    let w = c.requires.stands in
+    let n = c.index_mut-node.result.now in
+    let m = c.take-message.result in
+    let is = in_nodes f.nodes.items c.args.core n c.requires.core c.index_mut-node.ensures.value in
+    let lies = told_lies f w.s w.memory c.args.core n m c.take-message.new.self c.requires.core is
+    c.take-message.ensures w.stands in
+    let b = c.index_mut-block.result.now in
+    let brings = told_head n.messages Data m c.take-message.new.self
+    (ap (λ (x : Node). told_next x.messages) is ∙ c.requires.brings) c.take-message.ensures in
+    ap (slice_set f.nodes.items c.args.core) (c.retire-after.ensures.node
+    ∙ ap (λ (x : Node). node_after f.program x x.core (slice_index b.words (c.word_of-word.result % 4)))
+    (data_heard n (b.block % 16) m c.take-message.new.self _ brings c.heard-state.ensures
+    ∙ heard_oldest f.home.items n _ m c.take-message.new.self b.block is c.take-message.ensures
+    (ap (λ (x : HomeBlock). x.block) (in_home f.home.items m.place b lies c.index_mut-block.ensures.value))))
+
+pub returns-clause-home : goal.returns-clause-home
+returns-clause-home c =
+    let f = c.args.flat.now in
+    let w = c.requires.stands in
+    let n = c.index_mut-node.result.now in
+    let m = c.take-message.result in
+    let is = in_nodes f.nodes.items c.args.core n c.requires.core c.index_mut-node.ensures.value in
+    let lies = told_lies f w.s w.memory c.args.core n m c.take-message.new.self c.requires.core is
+    c.take-message.ensures w.stands in
+    but_words_same f.home.items _ m.place _ refl (ap but_words (in_home f.home.items m.place c.index_mut-block.result.now
+    lies c.index_mut-block.ensures.value))

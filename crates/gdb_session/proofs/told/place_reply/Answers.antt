@@ -2,7 +2,7 @@ use Rattle.std.proofs.Common.{◌≡◌, ℕ, List, sym, ap, subst, ◌∙◌}
 use Rattle.std.specs.Prelude.{IfOk, slice_index}
 use Rattle.gdb_packets.specs.declared.asks.Plain.{Plain}
 use Rattle.race_log.specs.declared.recording.Recording.{Recording}
-use Rattle.gdb_session.specs.Registers.{register_reply}
+use Rattle.gdb_places.specs.Registers.{register_reply}
 use Rattle.gdb_session.specs.Told.{place_reply}
 use Rattle.gdb_session.proofs.told.place_reply.Goals as goal
 

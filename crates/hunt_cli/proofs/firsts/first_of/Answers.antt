@@ -1,9 +1,21 @@
-use Rattle.std.proofs.Common.{◌≡◌, ◌∙◌, ℕ, ◌+◌, Option, Some, string_bytes, subst}
+use Rattle.std.proofs.Common.{◌≡◌, ◌∙◌, sym, ℕ, ◌+◌, List, Option, Some, true, string_bytes, subst}
 use Rattle.run_ranges.specs.Firsts.{IsFirst}
 use Rattle.hunt_cli.specs.Finds.{number_breaks}
 use Rattle.hunt_cli.specs.Kinds.{Setting, kind_with, setting_on}
 use Rattle.hunt_cli.proofs.FirstShown.{finds-none, finds-one}
 use Rattle.hunt_cli.proofs.firsts.first_of.Goals as goal
+
+-- the first run found breaks the demand
+pub found-requires-clause-breaks : goal.found-requires-clause-breaks
+found-requires-clause-breaks g c =
+    let a = c.args.asked in
+    let s : Setting = setting_on (kind_with g.M.HuntedMachine.seen_at g.M.HuntedMachine.changes_at
+    g.M.HuntedMachine.outcome g.M.HuntedMachine.most_steps g.M.HuntedMachine.buffers) a.setup.params a.bytes.now in
+    let First : Option ℕ → Type 0 = λ o. IsFirst (number_breaks s a.runs.by (Some a.demand.now)
+    c.as_slice.result.now) a.runs.first (a.runs.last + 1) o in
+    let first : First (Some c.in-Some.number) = subst First c.in-Some.is c.in_ok-number.ensures in
+    subst (λ (values : List ℕ). number_breaks s a.runs.by (Some a.demand.now) values c.in-Some.number ≡ true)
+    (c.as_slice.ensures ∙ sym c.as_slice-in-Some.ensures) first.2
 
 pub returns-in-Some : goal.returns-in-Some
 returns-in-Some g c =

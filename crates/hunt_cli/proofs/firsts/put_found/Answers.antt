@@ -35,5 +35,5 @@ returns-in-None g c =
     subst Whole c.numbered.ensures (subst Made c.in-None.is c.in_ok-least.ensures) in
     on_ok_weaker c.put_plain-in-None.result
     (λ told. put-whole a.setup s a.runs a.demand.now c.args.number a.plain c.args.first.now
-    (string_bytes c.args.text.now) (string_bytes c.put_plain-in-None.new.text) c.if-asked.false c.requires.values whole
-    told) c.put_plain-in-None.ensures
+    (string_bytes c.args.text.now) (string_bytes c.put_plain-in-None.new.text) c.if-asked.false c.requires.values
+    c.requires.breaks whole told) c.put_plain-in-None.ensures

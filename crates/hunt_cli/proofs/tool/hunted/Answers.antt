@@ -5,6 +5,7 @@ use Rattle.hunt_cli.specs.Answers.{HuntAnswers, IsRefused, Moved, TellsFaults}
 use Rattle.hunt_cli.specs.Inputs.{setup_in}
 use Rattle.hunt_cli.specs.Kinds.{setting_of}
 use Rattle.hunt_cli.proofs.HuntEnds.{given-answers, given-faults, keeps-same, refused-answers, refused-faults}
+use Rattle.hunt_cli.proofs.HuntsWhole.{gives-whole}
 use Rattle.hunt_cli.proofs.tool.hunted.Goals as goal
 
 pub returns-in-Err-clause-answered : goal.returns-in-Err-clause-answered
@@ -53,8 +54,9 @@ returns-in-Err-clause-faults g c =
     let read' = g.I.Source.faults c.taken.new.input in
     let written = g.O.Sink.faults c.args.output.now in
     subst (λ (e : HuntExit). TellsFaults e read read' written written) (sym c.ends_as.ensures.exit)
-    (refused-faults c.setup_in.result c.in-Err.exit (g.I.Source.left c.args.input.now) (g.I.Source.left c.taken.new.input)
-    read read' written c.in-Err.ensures.refused c.in-Err.ensures.fault c.in-Err.ensures.other)
+    (refused-faults c.setup_in.result c.in-Err.exit (g.I.Source.left c.args.input.now)
+    (g.I.Source.left c.taken.new.input) read read' written c.in-Err.ensures.refused c.in-Err.ensures.fault
+    c.in-Err.ensures.other)
 
 pub returns-in-Ok-answer-clause-faults : goal.returns-in-Ok-answer-clause-faults
 returns-in-Ok-answer-clause-faults g c =
@@ -63,3 +65,35 @@ returns-in-Ok-answer-clause-faults g c =
     c.in-Ok-answer.answer.out.items (string_bytes c.in-Ok-answer.answer.report) c.in-Ok-answer.answer.exit c.give.result
     (g.I.Source.faults c.args.input.now) (g.I.Source.faults c.taken.new.input) (g.O.Sink.faults c.args.output.now)
     (g.O.Sink.faults c.give.new.output) c.in-Ok-answer.ensures c.in-Ok.ensures.no_fault c.give.ensures.faults
+
+pub returns-in-Err-clause-complete : goal.returns-in-Err-clause-complete
+returns-in-Err-clause-complete g c = λ given bytes.
+    let m : Moved = record {
+      left = g.I.Source.left c.args.input.now;
+      left' = g.I.Source.left c.taken.new.input;
+      got = g.O.Sink.got c.args.output.now;
+      got' = g.O.Sink.got c.args.output.now;
+      told = g.E.Sink.got c.args.report.now;
+      told' = g.E.Sink.got c.ends_as.new.report;
+      faults = g.E.Sink.faults c.args.report.now;
+      faults' = g.E.Sink.faults c.ends_as.new.report;
+    } in
+    gives-whole c.args.hunt m given bytes (g.I.Source.faults c.args.input.now) (g.I.Source.faults c.taken.new.input)
+    (g.O.Sink.faults c.args.output.now) (g.O.Sink.faults c.args.output.now) c.ends_as.result
+    (returns-in-Err-clause-answered g c) (returns-in-Err-clause-faults g c)
+
+pub returns-in-Ok-answer-clause-complete : goal.returns-in-Ok-answer-clause-complete
+returns-in-Ok-answer-clause-complete g c = λ given bytes.
+    let m : Moved = record {
+      left = g.I.Source.left c.args.input.now;
+      left' = g.I.Source.left c.taken.new.input;
+      got = g.O.Sink.got c.args.output.now;
+      got' = g.O.Sink.got c.give.new.output;
+      told = g.E.Sink.got c.args.report.now;
+      told' = g.E.Sink.got c.give.new.report;
+      faults = g.E.Sink.faults c.args.report.now;
+      faults' = g.E.Sink.faults c.give.new.report;
+    } in
+    gives-whole c.args.hunt m given bytes (g.I.Source.faults c.args.input.now) (g.I.Source.faults c.taken.new.input)
+    (g.O.Sink.faults c.args.output.now) (g.O.Sink.faults c.give.new.output) c.give.result
+    (returns-in-Ok-answer-clause-answered g c) (returns-in-Ok-answer-clause-faults g c)

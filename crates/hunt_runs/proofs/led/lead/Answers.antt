@@ -81,7 +81,8 @@ loop-run-preserved g c =
 module _ (g : given.Over) (c : goal.After-into_led g) where
   -- the run that was begun ended here
   whole : gone_in c.loop-run.run
-      ≡ run_by (course_of g.M.HuntedMachine.seen_at g.M.HuntedMachine.changes_at (g.M.SteppedMachine.image c.args.machine) c.args.params)
+      ≡ run_by (course_of g.M.HuntedMachine.seen_at g.M.HuntedMachine.changes_at
+      (g.M.SteppedMachine.image c.args.machine) c.args.params)
       g.P.Policy.policy c.args.policy c.args.params.cores (g.M.HuntedMachine.most_steps c.args.params)
   whole =
       let M = g.M.HuntedMachine in
@@ -91,7 +92,8 @@ module _ (g : given.Over) (c : goal.After-into_led g) where
       let is_now : now ≡ course.seen run.choices =
       by_seed M.stands (g.M.SteppedMachine.image c.args.machine) c.args.params run.machine run.choices
       (λ schedule t. now ≡ M.seen_at (g.M.SteppedMachine.image c.args.machine) c.args.params schedule t)
-      (λ schedule t rest at. c.is_seen.ensures.seen (g.M.SteppedMachine.image c.args.machine) c.args.params schedule t rest at)
+      (λ schedule t rest at. c.is_seen.ensures.seen (g.M.SteppedMachine.image c.args.machine) c.args.params schedule t
+      rest at)
       c.loop-run.invariant.stands 0 in
       let ended : (course.seen run.choices).ended ≡ true =
       ap (λ (s : Seen). s.ended) (sym is_now) ∙ c.is_seen.ensures.ended ∙ sym c.done.ensures ∙ c.loop-run-test.false in
@@ -110,7 +112,8 @@ returns-clause-policy g c =
 
 pub returns-clause-enabled : goal.returns-clause-enabled
 returns-clause-enabled g c =
-    let course = course_of g.M.HuntedMachine.seen_at g.M.HuntedMachine.changes_at (g.M.SteppedMachine.image c.args.machine) c.args.params in
+    let course = course_of g.M.HuntedMachine.seen_at g.M.HuntedMachine.changes_at
+    (g.M.SteppedMachine.image c.args.machine) c.args.params in
     subst (λ (l : List ℕ). EachEnabled course l)
     (sym (ap (λ (l : Led g.row.M.Denot g.row.P.Denot). l.choices) c.into_led.ensures)) c.loop-run.invariant.each
 

@@ -11,7 +11,8 @@ loop-machine-init g c =
     record {
       stands = (
         0,
-        subst (λ (s : Choices). g.M.HuntedMachine.stands c.in_ok-machine.machine (g.M.SteppedMachine.image c.args.machine) c.args.params
+        subst (λ (s : Choices). g.M.HuntedMachine.stands c.in_ok-machine.machine
+            (g.M.SteppedMachine.image c.args.machine) c.args.params
             (choices_of [] c.args.seed) 0 s) (sym begins) (c.in_ok-machine.ensures.stands (choices_of [] c.args.seed)),
       );
       cores = c.in_ok-machine.ensures.cores;
@@ -28,9 +29,11 @@ loop-machine-preserved g c =
     record {
       stands = (
         suc t,
-        subst (λ (s : Choices). g.M.HuntedMachine.stands c.take.new.self (g.M.SteppedMachine.image c.args.machine) c.args.params
+        subst (λ (s : Choices). g.M.HuntedMachine.stands c.take.new.self (g.M.SteppedMachine.image c.args.machine)
+            c.args.params
             (choices_of [] c.args.seed) (suc t) s) (sym c.next.ensures.rest)
-            (c.in_ok-_changed.ensures.stands (g.M.SteppedMachine.image c.args.machine) c.args.params (choices_of [] c.args.seed) t
+            (c.in_ok-_changed.ensures.stands (g.M.SteppedMachine.image c.args.machine) c.args.params
+            (choices_of [] c.args.seed) t
             c.loop-machine.schedule c.next.ensures.choice before.stands.1),
       );
       cores = c.in_ok-_changed.ensures.cores ∙ before.cores;
@@ -45,9 +48,11 @@ returns-clause-comes_to g c =
     let left : Choices → Contents → Type 0 = λ schedule image.
     EndsAs (S.cores machine) (S.words machine) image.words
     (g.M.HuntedMachine.outcome (g.M.SteppedMachine.image c.args.machine) c.args.params schedule) in
-    subst (λ (l : List ℕ). left (choices_of l c.args.seed) (g.M.SteppedMachine.image c.args.machine)) (sym c.new-2.ensures)
+    subst (λ (l : List ℕ). left (choices_of l c.args.seed) (g.M.SteppedMachine.image c.args.machine))
+    (sym c.new-2.ensures)
     (subst (left (choices_of [] c.args.seed)) end.image
-    (c.has_come_to.ensures (g.M.SteppedMachine.image c.args.machine) c.args.params (choices_of [] c.args.seed) end.stands.0 c.loop-machine.schedule
+    (c.has_come_to.ensures (g.M.SteppedMachine.image c.args.machine) c.args.params (choices_of [] c.args.seed)
+    end.stands.0 c.loop-machine.schedule
     c.requires.fits end.stands.1))
 
 pub returns-clause-image : goal.returns-clause-image

@@ -1,6 +1,6 @@
 use Rattle.std.proofs.Common.{ap, arith, sym, ◌∙◌}
 use Rattle.access_times.specs.Riding.{none_carrying, none_riding}
-use Rattle.machine_bound.proofs.RunEnds.{run_ends}
+use Rattle.run_outcome.proofs.RunPlaces.{run_ends}
 use Rattle.machine_plain.specs.Plain.{plain}
 use Rattle.msi_state.specs.FinalMemory.{final_words}
 use Rattle.run_outcome.proofs.RunPlaces.{outcome_is, stands_start}

@@ -1,5 +1,5 @@
 -- Word by word the list has the memory's words, and then a 0 for each core.
-use Rattle.replay_table.proofs.Openings.{copied_none, opening_none, opening_more}
+use Rattle.replay_table.proofs.Openings.{copied_none, opening_more}
 use Rattle.replay_table.proofs.table.opening.Goals as goal
 
 pub loop-word-init : goal.loop-word-init

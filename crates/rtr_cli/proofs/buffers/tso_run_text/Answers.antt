@@ -3,7 +3,7 @@ use Rattle.std.proofs.lemmas.Result.{IfOk-weaker}
 use Rattle.image_mem.specs.Contents.{Contents}
 use Rattle.rv_core.specs.declared.outcome.Outcome.{Outcome}
 use Rattle.state_text.specs.States.{IsOutcomeOf, state_lines}
-use Rattle.tso_outcome.specs.Outcomes.{tso_outcome_of}
+use Rattle.tso_recordings.specs.Follows.{tso_outcome_of}
 use Rattle.rtr_cli.specs.Inputs.{image_of}
 use Rattle.rtr_cli.proofs.BufferRuns.{tso_run_fits}
 use Rattle.rtr_cli.proofs.buffers.tso_run_text.Goals as goal

@@ -1,9 +1,7 @@
 use Rattle.std.proofs.Common.{◌≡◌, ◌≤◌, ◌-◌, ◌++◌, ◌∙◌, ℕ, List, ap, sym, length, get_or, replicate, arith}
-use Rattle.std.specs.Prelude.{count_by}
 use Rattle.std.proofs.lemmas.List.{get_or_read, length-replicate, length-set}
-use Rattle.turn_lists.specs.Actors.{is_same}
 use Rattle.turn_lists.specs.declared.actor.Turn.{Turn}
-use Rattle.small_turns.specs.Acts.{single_turn}
+use Rattle.small_turns.specs.Acts.{made_by, single_turn}
 use Rattle.small_turns.specs.Orders.{reached}
 use Rattle.small_turns.specs.declared.lines.Line.{Line}
 use Rattle.small_turns.proofs.PlacesReached.{none_reached, order_more}
@@ -16,7 +14,7 @@ loop-turn-init c =
     record {
       now = c.requires;
       long = ap length none ∙ length-replicate _ _;
-      before = λ a. ap (count_by (λ (t : Turn). is_same a t.actor)) c.new-order.ensures
+      before = λ a. ap (made_by a) c.new-order.ensures
           ∙ sym (ap (reached a c.args.lines.now) none ∙ none_reached a c.args.lines.now _);
     }
 

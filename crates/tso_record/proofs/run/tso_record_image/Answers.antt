@@ -15,7 +15,7 @@ use Rattle.tso_codec.specs.declared.recording.TsoRecording.{TsoRecording}
 use Rattle.tso_outcome.proofs.RunPlaces.{run_ends_so}
 use Rattle.tso_recordings.specs.Recordings.{CanRun}
 use Rattle.tso_state.specs.States.{BufferedCore}
-use Rattle.tso_words.proofs.ByteWords.{opens_small}
+use Rattle.tso_recordings.proofs.Valid.{opens_small}
 use Rattle.tso_record.specs.Promises.{IsTsoRecordingOf}
 use Rattle.tso_record.proofs.RecordedPlaces.{lists_are, recording_made, records_same, records_start}
 use Rattle.tso_record.proofs.RecordedPlaces.{totals_are, values_are}

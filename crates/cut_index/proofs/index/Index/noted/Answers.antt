@@ -1,6 +1,5 @@
 use Rattle.std.proofs.Common.{List, ◌<◌, sym, subst}
-use Rattle.std.specs.Prelude.{slice_index, slice_index_or}
-use Rattle.rv_core.specs.declared.core_state.Need.TheVariants.{Local}
+use Rattle.std.specs.Prelude.{None, slice_index, slice_index_or}
 use Rattle.replay_audit.specs.Audits.{Findings}
 use Rattle.cut_index.specs.declared.alone.Next.{Next}
 use Rattle.cut_index.specs.declared.runs.Run.{Run}
@@ -9,7 +8,7 @@ use Rattle.cut_index.proofs.Indexed.{noted_told}
 use Rattle.cut_index.proofs.index.Index.noted.Goals as goal
 
 abbrev nothing : Next
-nothing = record { pc = 0; need = Local }
+nothing = record { pc = 0; used = None }
 
 pub returns : goal.returns
 returns c =

@@ -9,13 +9,13 @@ pub loop-count-init : goal.loop-count-init
 loop-count-init c = run_first c.args.program.now c.args.loads.now c.args.first c.in_ok-run.run'
     c.in_ok-run.ensures.nexts c.in_ok-run.ensures.marks
 
-pub go_on-requires-clause-more : goal.go_on-requires-clause-more
-go_on-requires-clause-more c =
+pub go_on-next-requires-clause-more : goal.go_on-next-requires-clause-more
+go_on-next-requires-clause-more c =
     subst (λ (a : Alone). is_done (need c.args.program.now a.core) ≡ false) (sym c.loop-count.invariant.here)
     (c.requires.going c.loop-count.count c.loop-count-test.true)
 
-pub go_on-requires-clause-room : goal.go_on-requires-clause-room
-go_on-requires-clause-room c =
+pub go_on-next-requires-clause-room : goal.go_on-next-requires-clause-room
+go_on-next-requires-clause-room c =
     let most = read_most c.args.program.now c.args.loads.now c.args.first c.loop-count.count in
     let here = ap (λ (a : Alone). a.read) c.loop-count.invariant.here in
     let below = c.loop-count-test.true in
@@ -26,7 +26,8 @@ pub loop-count-preserved : goal.loop-count-preserved
 loop-count-preserved c =
     let count = c.loop-count.count in
     run_on c.args.program.now c.args.loads.now c.args.first count c.loop-count.run c.mark.new.self c.loop-count.alone
-    c.go_on.new.self c.next_of.result c.loop-count.invariant c.next_of.ensures c.go_on.ensures
+    c.go_on-next.new.self c.go_on-next.result c.loop-count.invariant c.go_on-next.ensures.next
+    c.go_on-next.ensures.on
     (c.in_ok-mark.ensures.nexts ∙ c.in_ok-note.ensures.nexts)
     (c.in_ok-mark.ensures.marks
-    ∙ ap (λ (l : List Alone). marked l (count + 1) c.go_on.new.self) c.in_ok-note.ensures.marks)
+    ∙ ap (λ (l : List Alone). marked l (count + 1) c.go_on-next.new.self) c.in_ok-note.ensures.marks)

@@ -1,52 +1,124 @@
-use Rattle.std.proofs.Common.{length, sym, subst}
-use Rattle.std.specs.Prelude.{Some, None}
+use Rattle.std.proofs.Common.{◌∙◌, List, ℕ, ap, length, subst, sym}
+use Rattle.std.specs.Prelude.{None, Option, Some, slice_index}
 use Rattle.rtr_types.specs.declared.cut.Cut.{Cut}
-use Rattle.race_log.specs.Validity.{Valid}
 use Rattle.cut_replay.specs.ClosedCuts.{IsClosed, IsContained}
-use Rattle.cut_index.specs.Standings.{reached}
-use Rattle.debug_place.specs.Backs.{way_back}
-use Rattle.debug_place.specs.Places.{Placed}
-use Rattle.debug_place.proofs.StateAtStop.{came_back, notes_here}
+use Rattle.cut_moves.specs.Rounds.{rounds_of}
+use Rattle.debug_place.specs.Backs.{GoesBack}
+use Rattle.debug_place.specs.Hits.{LastIn, stops_on}
+use Rattle.debug_place.specs.Places.{Placed, cut_at}
+use Rattle.debug_place.proofs.AtCuts.{cut_is}
+use Rattle.debug_place.proofs.PlaceMoves.{before_there, last_there, most_there}
+use Rattle.debug_place.proofs.StopPlaces.{IsCutBefore, closed_here, backs_all, backs_to, placed_at}
 use Rattle.debug_place.proofs.place.Place.back.Goals as goal
-
-pub last_stop-requires-clause-to : goal.last_stop-requires-clause-to
-last_stop-requires-clause-to g c =
-    let old = c.args.self.now in
-    let here = c.cut-here.result in
-    subst (λ (p : Placed). IsClosed p.which p.recording here) (sym c.self.view_is)
-    (subst (λ (k : Cut). IsClosed old.which old.recording k) (sym c.cut-here.ensures.cut)
-    c.cut-here.ensures.stands.closed)
 
 pub last_stop-requires-clause-within : goal.last_stop-requires-clause-within
 last_stop-requires-clause-within g c =
-    subst (λ (k : Cut). IsContained c.args.to.now k) (sym c.cut-here.ensures.cut) c.requires.within
-
-pub returns-in_ok-seek-in-Some-clause-ok : goal.returns-in_ok-seek-in-Some-clause-ok
-returns-in_ok-seek-in-Some-clause-ok g c =
     let a = c.self.inside.audited.now in
-    let test = g.S.Stops.stops c.args.stops.now in
-    let old = c.args.self.now in
+    let i = c.self.invariant in
+    let cut = c.self.inside.cut in
     let to = c.args.to.now in
-    let here = notes_here test a.which a.recording (reached a.which a.recording c.self.inside.cut) old c.self.view_is to
-    c.cut-here.result c.self.inside.timeline c.cut-here.ensures.cut c.self.invariant.timeline_is
-    (Some c.in-Some.seen) _ c.in-Some.is c.in_ok-seen.ensures in
+    subst (λ (k : Cut). IsContained to k)
+    (sym (ap cut_at c.self.view_is) ∙ cut_is a.which a.recording i.valid i.determinate cut i.closed)
+    c.requires.within
+
+pub cut_before-self-inside-requires-clause-within : goal.cut_before-self-inside-requires-clause-within
+cut_before-self-inside-requires-clause-within g c =
+    let a = c.self.inside.audited.now in
+    let i = c.self.invariant in
+    let cut = c.self.inside.cut in
+    let to = c.args.to.now in
+    subst (λ (k : Cut). IsContained to k)
+    (sym (ap cut_at c.self.view_is) ∙ cut_is a.which a.recording i.valid i.determinate cut i.closed)
+    c.requires.within
+
+pub cut_before-self-inside-requires-clause-most : goal.cut_before-self-inside-requires-clause-most
+cut_before-self-inside-requires-clause-most g c =
+    let a = c.self.inside.audited.now in
+    let i = c.self.invariant in
+    let cut = c.self.inside.cut in
+    let to = c.args.to.now in
+    let within : IsContained to cut = subst (λ (k : Cut). IsContained to k)
+    (sym (ap cut_at c.self.view_is) ∙ cut_is a.which a.recording i.valid i.determinate cut i.closed)
+    c.requires.within in
+    most_there a c.self.inside.timeline c.self.inside.index cut i to cut within i.closed
+
+pub invariant_of-self : goal.invariant_of-self
+invariant_of-self g c =
+    let a = c.self.inside.audited.now in
+    let i = c.self.invariant in
+    let cut = c.self.inside.cut in
+    let to = c.args.to.now in
+    let within : IsContained to cut = subst (λ (k : Cut). IsContained to k)
+    (sym (ap cut_at c.self.view_is) ∙ cut_is a.which a.recording i.valid i.determinate cut i.closed)
+    c.requires.within in
+    let closed : IsClosed a.which a.recording to =
+    subst (λ (p : Placed). IsClosed p.which p.recording to) (sym c.self.view_is) c.requires.closed in
+    let stops = g.S.Stops.stops c.args.stops.now in
+    let hits = g.S.Stops.hits c.args.stops.now in
+    let own = g.S.Stops.own c.args.stops.now in
+    let e = c.cut_before-self-inside.ensures in
+    let n = c.in-Some.number in
+    let new = c.cut_before-self-inside.result in
+    let is : IsCutBefore a.which a.recording to cut n new =
+    before_there a c.self.inside.timeline c.self.inside.index cut i to cut n new e.cores e.places e.counts in
     record {
-      there = here.there;
-      state = here.state;
-      ends = came_back test old c.seek.new.self to here.there (way_back old to) (length (way_back old to))
-          c.in-Some.seen
-          c.in_ok-seek-in-Some.ensures.kept.recording c.in_ok-seek-in-Some.ensures.kept.which
-          (subst (λ (place : Placed). Valid place.recording) c.self.view_is c.self.invariant.valid) c.cut.ensures.stands
-          c.in_ok-seek-in-Some.ensures.ok here.state here.notes;
+      valid = i.valid;
+      determinate = i.determinate;
+      timeline_is = i.timeline_is;
+      index_is = i.index_is;
+      closed = closed_here stops hits own a.which a.recording i.valid i.determinate to cut closed i.closed within
+          n new is;
     }
 
-pub returns-in_ok-seek-in-None-clause-ok : goal.returns-in_ok-seek-in-None-clause-ok
-returns-in_ok-seek-in-None-clause-ok g c =
+pub returns-in-Some-clause-ok : goal.returns-in-Some-clause-ok
+returns-in-Some-clause-ok g c =
     let a = c.self.inside.audited.now in
-    let test = g.S.Stops.stops c.args.stops.now in
-    let old = c.args.self.now in
+    let i = c.self.invariant in
+    let cut = c.self.inside.cut in
     let to = c.args.to.now in
-    let here = notes_here test a.which a.recording (reached a.which a.recording c.self.inside.cut) old c.self.view_is to
-    c.cut-here.result c.self.inside.timeline c.cut-here.ensures.cut c.self.invariant.timeline_is
-    None _ c.in-None.is c.in_ok-seen.ensures in
-    record { there = here.there; state = here.state; ends = (here.notes, c.in_ok-seek-in-None.ensures.ok) }
+    let within : IsContained to cut = subst (λ (k : Cut). IsContained to k)
+    (sym (ap cut_at c.self.view_is) ∙ cut_is a.which a.recording i.valid i.determinate cut i.closed)
+    c.requires.within in
+    let closed : IsClosed a.which a.recording to =
+    subst (λ (p : Placed). IsClosed p.which p.recording to) (sym c.self.view_is) c.requires.closed in
+    let stops = g.S.Stops.stops c.args.stops.now in
+    let hits = g.S.Stops.hits c.args.stops.now in
+    let own = g.S.Stops.own c.args.stops.now in
+    let e = c.cut_before-self-inside.ensures in
+    let n = c.in-Some.number in
+    let new = c.cut_before-self-inside.result in
+    let is : IsCutBefore a.which a.recording to cut n new =
+    before_there a c.self.inside.timeline c.self.inside.index cut i to cut n new e.cores e.places e.counts in
+    let line : List ℕ = rounds_of a.which a.recording in
+    let after : Placed = placed_at a.which a.recording new in
+    let found = last_there a c.self.inside.timeline c.self.inside.index cut i to cut hits (Some n)
+    (subst (λ (found : Option ℕ).
+    LastIn (stops_on hits c.self.inside.index.which c.self.inside.index.recording to cut c.self.inside.timeline)
+    0 (length c.self.inside.timeline) found) c.in-Some.is c.last_stop.ensures) in
+    subst (λ (core : ℕ). GoesBack stops c.args.self.now to after (Some core))
+    (sym (ap (λ (l : List ℕ). slice_index l n) (c.as_slice.ensures ∙ i.timeline_is)))
+    (subst (λ (p : Placed). GoesBack stops p to after (Some (slice_index line n))) c.self.view_is
+    (backs_to stops hits own a.which a.recording i.valid i.determinate to cut closed i.closed within
+    n found new is))
+
+pub returns-in-None-clause-ok : goal.returns-in-None-clause-ok
+returns-in-None-clause-ok g c =
+    let a = c.self.inside.audited.now in
+    let i = c.self.invariant in
+    let cut = c.self.inside.cut in
+    let to = c.args.to.now in
+    let within : IsContained to cut = subst (λ (k : Cut). IsContained to k)
+    (sym (ap cut_at c.self.view_is) ∙ cut_is a.which a.recording i.valid i.determinate cut i.closed)
+    c.requires.within in
+    let closed : IsClosed a.which a.recording to =
+    subst (λ (p : Placed). IsClosed p.which p.recording to) (sym c.self.view_is) c.requires.closed in
+    let stops = g.S.Stops.stops c.args.stops.now in
+    let hits = g.S.Stops.hits c.args.stops.now in
+    let own = g.S.Stops.own c.args.stops.now in
+    let found = last_there a c.self.inside.timeline c.self.inside.index cut i to cut hits None
+    (subst (λ (found : Option ℕ).
+    LastIn (stops_on hits c.self.inside.index.which c.self.inside.index.recording to cut c.self.inside.timeline)
+    0 (length c.self.inside.timeline) found) c.in-None.is c.last_stop.ensures) in
+    subst (λ (p : Placed). GoesBack stops p to (placed_at a.which a.recording to) None) c.self.view_is
+    (backs_all stops hits own a.which a.recording i.valid i.determinate to cut closed i.closed within
+    found)

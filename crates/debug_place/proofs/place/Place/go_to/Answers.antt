@@ -1,75 +1,126 @@
-use Rattle.std.proofs.Common.{◌≡◌, ◌∙◌, List, ℕ, ap, subst, sym}
+use Rattle.std.proofs.Common.{◌∙◌, List, ℕ, ap, length, subst, sym}
+use Rattle.std.specs.Prelude.{None, Option, Some, slice_index}
 use Rattle.rtr_types.specs.declared.cut.Cut.{Cut}
-use Rattle.replay_core.specs.Answers.{UnderWay}
-use Rattle.cut_replay.specs.ClosedCuts.{IsClosed, IsContained, count_in}
-use Rattle.cut_index.specs.Standings.{reached}
-use Rattle.cut_moves.specs.Ways.{way_of}
-use Rattle.debug_place.specs.Places.{IsReplayAt, Placed, cut_at}
+use Rattle.cut_replay.specs.ClosedCuts.{IsClosed, IsContained}
+use Rattle.cut_moves.specs.Rounds.{rounds_of}
 use Rattle.debug_place.specs.Stops.{GoesOn}
-use Rattle.debug_place.proofs.AtCuts.{closed_there, cut_is, shown, shows_at, state_reached}
-use Rattle.debug_place.proofs.OwnCuts.{own_cut, told_own}
-use Rattle.debug_place.proofs.StopTest.{at_walked, goes_by}
+use Rattle.debug_place.specs.Hits.{FirstIn, stops_on}
+use Rattle.debug_place.specs.Places.{Placed, cut_at}
+use Rattle.debug_place.proofs.AtCuts.{cut_is}
+use Rattle.debug_place.proofs.PlaceMoves.{before_there, first_there, most_there}
+use Rattle.debug_place.proofs.StopPlaces.{IsCutBefore, closed_here, goes_all, goes_to, placed_at}
 use Rattle.debug_place.proofs.place.Place.go_to.Goals as goal
 
-pub at-standing-requires : goal.at-standing-requires
-at-standing-requires g c =
-    let i = c.self.invariant in
-    closed_there c.self.inside.audited.now c.self.inside.index c.self.inside.cut i.valid i.determinate i.index_is
-    i.closed
-
-pub go_until-requires-clause-at : goal.go_until-requires-clause-at
-go_until-requires-clause-at g c =
-    let i = c.self.invariant in
-    shows_at c.self.inside.audited.now c.self.inside.index c.self.inside.cut i.valid i.determinate i.index_is i.closed
-    c.at-standing.result c.at-standing.ensures
-
-pub go_until-requires-clause-within : goal.go_until-requires-clause-within
-go_until-requires-clause-within g c =
+pub first_stop-requires-clause-within : goal.first_stop-requires-clause-within
+first_stop-requires-clause-within g c =
     let a = c.self.inside.audited.now in
     let i = c.self.invariant in
-    subst (λ (k : Cut). IsContained k c.args.to.now)
-    (sym (ap cut_at c.self.view_is) ∙ cut_is a.which a.recording i.valid i.determinate c.self.inside.cut i.closed)
+    let cut = c.self.inside.cut in
+    let to = c.args.to.now in
+    subst (λ (k : Cut). IsContained k to)
+    (sym (ap cut_at c.self.view_is) ∙ cut_is a.which a.recording i.valid i.determinate cut i.closed)
     c.requires.within
+
+pub cut_before-self-inside-requires-clause-within : goal.cut_before-self-inside-requires-clause-within
+cut_before-self-inside-requires-clause-within g c =
+    let a = c.self.inside.audited.now in
+    let i = c.self.invariant in
+    let cut = c.self.inside.cut in
+    let to = c.args.to.now in
+    subst (λ (k : Cut). IsContained k to)
+    (sym (ap cut_at c.self.view_is) ∙ cut_is a.which a.recording i.valid i.determinate cut i.closed)
+    c.requires.within
+
+pub cut_before-self-inside-requires-clause-most : goal.cut_before-self-inside-requires-clause-most
+cut_before-self-inside-requires-clause-most g c =
+    let a = c.self.inside.audited.now in
+    let i = c.self.invariant in
+    let cut = c.self.inside.cut in
+    let to = c.args.to.now in
+    let within : IsContained cut to = subst (λ (k : Cut). IsContained k to)
+    (sym (ap cut_at c.self.view_is) ∙ cut_is a.which a.recording i.valid i.determinate cut i.closed)
+    c.requires.within in
+    let closed : IsClosed a.which a.recording to =
+    subst (λ (p : Placed). IsClosed p.which p.recording to) (sym c.self.view_is) c.requires.closed in
+    most_there a c.self.inside.timeline c.self.inside.index cut i cut to within closed
 
 pub invariant_of-self : goal.invariant_of-self
 invariant_of-self g c =
     let a = c.self.inside.audited.now in
-    let there = at_walked (g.S.Stops.stops c.args.stops.now) a.which a.recording c.args.to.now c.at-standing.result
-    c.go_until.new.standing (way_of (count_in c.self.inside.cut) (count_in c.args.to.now) c.self.inside.timeline)
-    c.self.invariant.valid c.in_ok-stopped.stopped c.in_ok-stopped.ensures.ok in
+    let i = c.self.invariant in
+    let cut = c.self.inside.cut in
+    let to = c.args.to.now in
+    let within : IsContained cut to = subst (λ (k : Cut). IsContained k to)
+    (sym (ap cut_at c.self.view_is) ∙ cut_is a.which a.recording i.valid i.determinate cut i.closed)
+    c.requires.within in
+    let closed : IsClosed a.which a.recording to =
+    subst (λ (p : Placed). IsClosed p.which p.recording to) (sym c.self.view_is) c.requires.closed in
+    let stops = g.S.Stops.stops c.args.stops.now in
+    let hits = g.S.Stops.hits c.args.stops.now in
+    let own = g.S.Stops.own c.args.stops.now in
+    let e = c.cut_before-self-inside.ensures in
+    let n = c.in-Some.number in
+    let new = c.cut_before-self-inside.result in
+    let is : IsCutBefore a.which a.recording cut to n new =
+    before_there a c.self.inside.timeline c.self.inside.index cut i cut to n new e.cores e.places e.counts in
     record {
-      valid = c.self.invariant.valid;
-      determinate = c.self.invariant.determinate;
-      timeline_is = c.self.invariant.timeline_is;
-      index_is = c.self.invariant.index_is;
-      closed = subst (λ (k : Cut). IsClosed a.which a.recording k) (sym (told_own there c.cut-self-inside.ensures)) there.closed;
+      valid = i.valid;
+      determinate = i.determinate;
+      timeline_is = i.timeline_is;
+      index_is = i.index_is;
+      closed = closed_here stops hits own a.which a.recording i.valid i.determinate cut to i.closed closed within
+          n new is;
     }
 
-pub returns-clause-ok : goal.returns-clause-ok
-returns-clause-ok g c =
+pub returns-in-Some-clause-ok : goal.returns-in-Some-clause-ok
+returns-in-Some-clause-ok g c =
     let a = c.self.inside.audited.now in
     let i = c.self.invariant in
+    let cut = c.self.inside.cut in
     let to = c.args.to.now in
-    let test = g.S.Stops.stops c.args.stops.now in
-    let there = at_walked (g.S.Stops.stops c.args.stops.now) a.which a.recording c.args.to.now c.at-standing.result
-    c.go_until.new.standing (way_of (count_in c.self.inside.cut) (count_in c.args.to.now) c.self.inside.timeline)
-    c.self.invariant.valid c.in_ok-stopped.stopped c.in_ok-stopped.ensures.ok in
-    let new = c.go_until.new.standing in
-    let cut_new : c.cut-self-inside.result ≡ own_cut a.which a.recording new = told_own there c.cut-self-inside.ensures in
-    let closed = subst (λ (k : Cut). IsClosed a.which a.recording k) (sym cut_new) there.closed in
-    let at : IsReplayAt a.which a.recording c.cut-self-inside.result new =
-    subst (λ (k : Cut). IsReplayAt a.which a.recording k new) (sym cut_new) there in
-    let after : Placed = record {
-      recording = a.recording;
-      which = a.which;
-      state = reached a.which a.recording
-          c.cut-self-inside.result;
-    } in
-    subst (λ (place : Placed). GoesOn test place to after c.in_ok-stopped.stopped) c.self.view_is
-    (goes_by test a.which a.recording i.valid (reached a.which a.recording c.self.inside.cut)
-    (reached a.which a.recording c.cut-self-inside.result) to c.at-standing.result new c.self.inside.cut c.self.inside.timeline
-    (sym (cut_is a.which a.recording i.valid i.determinate c.self.inside.cut i.closed)) i.timeline_is
-    (ap (λ (u : UnderWay). u.state) (shown a c.self.inside.index c.self.inside.cut i.valid i.determinate i.index_is
-    i.closed c.at-standing.result c.at-standing.ensures))
-    (sym (state_reached a.which a.recording i.valid i.determinate c.cut-self-inside.result closed new at))
-    c.in_ok-stopped.stopped c.in_ok-stopped.ensures.ok)
+    let within : IsContained cut to = subst (λ (k : Cut). IsContained k to)
+    (sym (ap cut_at c.self.view_is) ∙ cut_is a.which a.recording i.valid i.determinate cut i.closed)
+    c.requires.within in
+    let closed : IsClosed a.which a.recording to =
+    subst (λ (p : Placed). IsClosed p.which p.recording to) (sym c.self.view_is) c.requires.closed in
+    let stops = g.S.Stops.stops c.args.stops.now in
+    let hits = g.S.Stops.hits c.args.stops.now in
+    let own = g.S.Stops.own c.args.stops.now in
+    let e = c.cut_before-self-inside.ensures in
+    let n = c.in-Some.number in
+    let new = c.cut_before-self-inside.result in
+    let is : IsCutBefore a.which a.recording cut to n new =
+    before_there a c.self.inside.timeline c.self.inside.index cut i cut to n new e.cores e.places e.counts in
+    let line : List ℕ = rounds_of a.which a.recording in
+    let after : Placed = placed_at a.which a.recording new in
+    let found = first_there a c.self.inside.timeline c.self.inside.index cut i cut to hits (Some n)
+    (subst (λ (found : Option ℕ).
+    FirstIn (stops_on hits c.self.inside.index.which c.self.inside.index.recording cut to c.self.inside.timeline)
+    0 (length c.self.inside.timeline) found) c.in-Some.is c.first_stop.ensures) in
+    subst (λ (core : ℕ). GoesOn stops c.args.self.now to after (Some core))
+    (sym (ap (λ (l : List ℕ). slice_index l n) (c.as_slice.ensures ∙ i.timeline_is)))
+    (subst (λ (p : Placed). GoesOn stops p to after (Some (slice_index line n))) c.self.view_is
+    (goes_to stops hits own a.which a.recording i.valid i.determinate cut to i.closed closed within
+    n found new is))
+
+pub returns-in-None-clause-ok : goal.returns-in-None-clause-ok
+returns-in-None-clause-ok g c =
+    let a = c.self.inside.audited.now in
+    let i = c.self.invariant in
+    let cut = c.self.inside.cut in
+    let to = c.args.to.now in
+    let within : IsContained cut to = subst (λ (k : Cut). IsContained k to)
+    (sym (ap cut_at c.self.view_is) ∙ cut_is a.which a.recording i.valid i.determinate cut i.closed)
+    c.requires.within in
+    let closed : IsClosed a.which a.recording to =
+    subst (λ (p : Placed). IsClosed p.which p.recording to) (sym c.self.view_is) c.requires.closed in
+    let stops = g.S.Stops.stops c.args.stops.now in
+    let hits = g.S.Stops.hits c.args.stops.now in
+    let own = g.S.Stops.own c.args.stops.now in
+    let found = first_there a c.self.inside.timeline c.self.inside.index cut i cut to hits None
+    (subst (λ (found : Option ℕ).
+    FirstIn (stops_on hits c.self.inside.index.which c.self.inside.index.recording cut to c.self.inside.timeline)
+    0 (length c.self.inside.timeline) found) c.in-None.is c.first_stop.ensures) in
+    subst (λ (p : Placed). GoesOn stops p to (placed_at a.which a.recording to) None) c.self.view_is
+    (goes_all stops hits own a.which a.recording i.valid i.determinate cut to i.closed closed within
+    found)

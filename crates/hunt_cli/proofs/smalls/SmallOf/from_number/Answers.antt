@@ -2,7 +2,7 @@ use Rattle.std.proofs.Common.{◌≡◌, ◌⊎◌, inl, inr, refl, sym, subst, 
 use Rattle.turn_lists.specs.declared.actor.Turn.{Turn}
 use Rattle.turn_policies.specs.declared.named.Numbered.{Numbered}
 use Rattle.turn_policies.specs.declared.named.Numbered.TheVariants.{Ranked, Walk}
-use Rattle.small_turns.specs.Acts.{turns_of}
+use Rattle.turn_policies.specs.PickedTurns.{turns_of_picks}
 use Rattle.hunt_cli.specs.Finds.{IsMadeSmall, turns_break}
 use Rattle.hunt_cli.specs.Kinds.{Setting, kind_with, setting_on}
 use Rattle.hunt_cli.specs.OwnTurns.{picks_made, turns_numbered}
@@ -11,11 +11,11 @@ use Rattle.hunt_cli.proofs.smalls.SmallOf.from_number.Goals as goal
 -- the turns of a policy that picks are those that its picks make
 picks-turns : (s : Setting) (number : Numbered)
     → ((n : ℕ) × (number ≡ Walk n)) ⊎ ((depth : ℕ) × (n : ℕ) × (number ≡ Ranked depth n))
-    → turns_of (picks_made s number) ≡ turns_numbered s number
+    → turns_of_picks (picks_made s number) ≡ turns_numbered s number
 picks-turns s number is =
     elim is [
-      | inl it ↦ subst (λ (k : Numbered). turns_of (picks_made s k) ≡ turns_numbered s k) (sym it.1) refl
-      | inr it ↦ subst (λ (k : Numbered). turns_of (picks_made s k) ≡ turns_numbered s k) (sym it.2) refl
+      | inl it ↦ subst (λ (k : Numbered). turns_of_picks (picks_made s k) ≡ turns_numbered s k) (sym it.1) refl
+      | inr it ↦ subst (λ (k : Numbered). turns_of_picks (picks_made s k) ≡ turns_numbered s k) (sym it.2) refl
     ]
 
 -- walks and ranks, which have one arm

@@ -11,7 +11,8 @@ use Rattle.hunt_runs.proofs.plain.MachineNoRiderNoCarryHuntedMachine.restart.Goa
 
 pub returns-clause-stands : goal.returns-clause-stands
 returns-clause-stands c =
-    runs_from_start c.args.self.state.image c.args.params (plain c.in_ok-machine.machine.state) c.in_ok-machine.ensures.plain
+    runs_from_start c.args.self.state.image c.args.params (plain c.in_ok-machine.machine.state)
+    c.in_ok-machine.ensures.plain
 
 pub returns-clause-few : goal.returns-clause-few
 returns-clause-few c =

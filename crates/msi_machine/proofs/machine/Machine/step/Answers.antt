@@ -12,8 +12,8 @@ use Rattle.machine_invariant.proofs.StepFrame.{step_cores}
 use Rattle.machine_plain.specs.Plain.{plain}
 use Rattle.machine_plain.proofs.ForgetfulSteps.{plain_event, plain_step}
 use Rattle.machine_plain.proofs.SameMoves.{plain_moves}
-use Rattle.machine_progress.proofs.MoveGrounds.{rooms_there, rows_there}
-use Rattle.machine_progress.proofs.Stuck.{some_move}
+use Rattle.machine_invariant.proofs.MoveGrounds.{rooms_there, rows_there}
+use Rattle.machine_invariant.proofs.Stuck.{some_move}
 use Rattle.msi_state.specs.Events.{Event}
 use Rattle.move_marks.proofs.NumberedMoves.{numbered, numbered_chosen, numbered_passes}
 use Rattle.msi_state.specs.declared.moves.Move.{Move}

@@ -3,7 +3,7 @@
 use Rattle.std.proofs.Common.{◌∙◌, ap, subst, sym, ℕ}
 use Rattle.std.specs.Prelude.{not}
 use Rattle.msi_state.specs.declared.moves.Move.TheVariants.{Core}
-use Rattle.machine_progress.proofs.MoveGrounds.{rooms_there}
+use Rattle.machine_invariant.proofs.MoveGrounds.{rooms_there}
 use Rattle.msi_machine.specs.Standings.{AskerOpen}
 use Rattle.msi_machine.proofs.MarksAndEnd.{core_still}
 use Rattle.msi_machine.proofs.OwnMoves.{asked_open, retired_open}

@@ -4,7 +4,7 @@ use Rattle.msi_laws.proofs.Ready.{memory_ready}
 use Rattle.msi_state.specs.declared.moves.Move.TheVariants.{FromHome}
 use Rattle.msi_state.specs.States.{Machinery, State}
 use Rattle.msi_state.specs.Steps.{rider_left}
-use Rattle.machine_progress.proofs.MoveGrounds.{rows_there}
+use Rattle.machine_invariant.proofs.MoveGrounds.{rows_there}
 use Rattle.machine_invariant.proofs.Awaits.{core_port, enabled_core}
 use Rattle.msi_machine.proofs.MoveFrames.{message_marks}
 use Rattle.msi_machine.proofs.parts.Parts.take_message.Goals as goal

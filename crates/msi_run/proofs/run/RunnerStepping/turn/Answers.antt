@@ -9,10 +9,10 @@ use Rattle.msi_state.specs.States.{State, all_done}
 use Rattle.msi_state.specs.Steps.{AcceptsNext}
 use Rattle.load_lists.specs.Lists.{LoadRooms}
 use Rattle.rtr_types.specs.declared.instr.Instr.{Instr}
-use Rattle.run_outcome.proofs.RunPlaces.{Steps, stands_next}
+use Rattle.run_outcome.proofs.RunPlaces.{Steps, stands_next, steps_by}
 use Rattle.run_outcome.specs.Loads.{lists_told}
 use Rattle.run_outcome.specs.Outcomes.{StandsAt}
-use Rattle.msi_run.proofs.RunPlaces.{accepts_next, steps_by, told_lists}
+use Rattle.msi_run.proofs.RunPlaces.{accepts_next, told_lists}
 use Rattle.run_steps.specs.Clerks.{Accepts}
 use Rattle.msi_run.proofs.run.RunnerStepping.turn.Goals as goal
 

@@ -3,17 +3,17 @@
 use Rattle.std.proofs.Common.{◌≡◌, ◌+◌, ℕ, List, sym, subst, refl, arith}
 use Rattle.race_log.specs.Sources.{log_edges}
 use Rattle.replay_core.specs.declared.coming.Coming.{Coming}
-use Rattle.replay_core.proofs.AwaitedEdges.{IsPut, PassedTo, pass_own, pass_more, pass_known, pass_start, passed_coming}
-use Rattle.replay_core.proofs.AwaitedEdges.{passed_sources, taken_none, taken_some}
+use Rattle.replay_core.proofs.AwaitedEdges.{PassedTo, pass_own, pass_more, pass_known, pass_start, passed_coming}
+use Rattle.replay_core.proofs.AwaitedEdges.{passed_sources}
 use Rattle.replay_core.proofs.coming.Coming.pass.Goals as goal
-use Rattle.replay_core.proofs.coming.Coming.pass.Goals.{then-of-at+in-Some, then-of-at+in-None, else-of-at}
+use Rattle.replay_core.proofs.coming.Coming.pass.Goals.{then-of-at, else-of-at}
 
 pub loop-of-init : goal.loop-of-init
 loop-of-init c = pass_start (log_edges c.args.log.which c.args.log.recording.now) c.args.at c.zero-found.result
     c.args.self.now _ c.zero-found.ensures refl refl
 
-pub step-source-requires-clause-coming : goal.step-source-requires-clause-coming
-step-source-requires-clause-coming c =
+pub pass_core-requires-clause-coming : goal.pass_core-requires-clause-coming
+pass_core-requires-clause-coming c =
     pass_known c.args.log.which c.args.log.recording.now c.requires.valid c.args.at c.loop-of.of c.loop-of.found
     c.args.self.now c.loop-of.self c.loop-of.invariant c.requires.coming
     (omega (arith, c.loop-of-test.true)) c.if-of-at.true
@@ -29,24 +29,11 @@ loop-of-preserved c =
     subst (λ (x : List ℕ). PassedTo (log_edges which r) c.args.at (c.loop-of.of + 1) x old k) (sym s_is)
     (subst (λ (x : Coming). PassedTo (log_edges which r) c.args.at (c.loop-of.of + 1) t old x) (sym k_is) h) in
     elim c.if-of-at.branch [
-      | then-of-at+in-Some w ↦
-          let e = w.put.ensures in
-          let put : IsPut c.loop-of.self c.loop-of.of w.step-source.result.next w.put.new.self =
-          record { from = e.from; at = e.at; others = e.others; before = e.before; due = e.due } in
-          moved _ w.set.new.self _ w.put.new.self w.found-is w.self-is
+      | then-of-at w ↦
+          let e = w.pass_core.ensures in
+          moved _ w.pass_core.new.found _ w.pass_core.new.self w.found-is w.self-is
           (pass_more which r valid c.args.at c.loop-of.of c.loop-of.found old c.loop-of.self c.loop-of.invariant
-          w.set.new.self w.put.new.self
-          w.step-source.result.source w.step-source.result.next w.step-source.ensures.source w.step-source.ensures.next
-          (taken_some _ w.in-Some.count c.loop-of.of _ _ w.in-Some.is w.set.ensures.at w.set.ensures.others) put)
-      | then-of-at+in-None w ↦
-          let e = w.put.ensures in
-          let put : IsPut c.loop-of.self c.loop-of.of w.step-source.result.next w.put.new.self =
-          record { from = e.from; at = e.at; others = e.others; before = e.before; due = e.due } in
-          moved _ c.loop-of.found _ w.put.new.self w.found-is w.self-is
-          (pass_more which r valid c.args.at c.loop-of.of c.loop-of.found old c.loop-of.self c.loop-of.invariant
-          c.loop-of.found w.put.new.self
-          w.step-source.result.source w.step-source.result.next w.step-source.ensures.source w.step-source.ensures.next
-          (taken_none _ c.loop-of.of c.loop-of.found w.in-None.is) put)
+          w.pass_core.new.found w.pass_core.new.self e.source e.next e.source_is e.next_is e.taken e.put)
       | else-of-at w ↦ moved _ c.loop-of.found _ c.loop-of.self w.found-is w.self-is
           (pass_own which r valid c.args.at c.loop-of.of c.loop-of.found old c.loop-of.self c.loop-of.invariant
           w.if-of-at.false)

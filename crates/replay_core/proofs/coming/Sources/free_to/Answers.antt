@@ -7,7 +7,6 @@ use Rattle.replay_core.specs.Play.{instr}
 use Rattle.replay_core.specs.Sources.{AreSources}
 use Rattle.replay_core.specs.Coming.{IsComing, coming_at, no_coming}
 use Rattle.replay_core.specs.declared.coming.Coming.{Coming}
-use Rattle.replay_core.proofs.AwaitedEdges.{no_sources}
 use Rattle.replay_core.proofs.coming.Sources.free_to.Goals as goal
 
 pub returns : goal.returns
@@ -24,6 +23,5 @@ returns c n from before =
     let coming : IsComing (log_edges c.self.inside.which r) c.args.at.core r.params.cores c.index.result.now =
     subst (λ (x : Coming). IsComing (log_edges c.self.inside.which r) c.args.at.core r.params.cores x) (sym is)
     (all.each c.args.at.core below) in
-    let early = c.free_to.ensures n from before in
     subst (λ (q : Plan). AreSources q.edges (instr c.args.at.core n) no_counts) c.self.view_is
-    (no_sources c.self.inside.which r all.valid c.index.result.now (instr c.args.at.core n) coming early.0 early.1)
+    (c.free_to.ensures c.self.inside.which r c.args.at.core n all.valid coming from before)

@@ -8,7 +8,7 @@ use Rattle.race_log.specs.declared.recording.Recording.{Recording}
 use Rattle.replay_core.specs.Plans.{Plan, plan_of, recorded_image}
 use Rattle.replay_table.specs.declared.view.Own.{Own}
 use Rattle.replay_table.specs.declared.view.View.{View}
-use Rattle.replay_table.specs.Kinds.{first_view, without_first, first_alone, own_from, rest_view}
+use Rattle.replay_table.specs.Kinds.{first_view, without_first, first_alone, own_from}
 use Rattle.replay_table.specs.Seats.{IsFresh, Opening, Sitting}
 use Rattle.replay_table.proofs.FirstView.{cores_are, first_rule, drop_own, rest_splits, dealt_more, longer}
 use Rattle.replay_table.proofs.LastView.{get-none}

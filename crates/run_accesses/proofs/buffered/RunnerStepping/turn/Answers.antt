@@ -2,13 +2,12 @@ use Rattle.std.proofs.Common.{◌≡◌, ap, sym, subst, ◌∙◌, List, ◌++�
 use Rattle.access_times.specs.declared.carry.NoCarry.{NoCarry}
 use Rattle.access_times.specs.declared.rider.NoRider.{NoRider}
 use Rattle.rtr_types.specs.declared.access.Access.{Access}
-use Rattle.tso_outcome.proofs.RunPlaces.{Steps}
+use Rattle.tso_outcome.proofs.RunPlaces.{Steps, steps_by}
 use Rattle.tso_plain.proofs.ForgetfulSteps.{plain_done}
 use Rattle.tso_plain.specs.Plain.{plain}
 use Rattle.tso_state.specs.Events.{Told}
 use Rattle.tso_state.specs.Runs.{plain_told}
 use Rattle.tso_state.specs.States.{State, all_done}
-use Rattle.tso_run.proofs.LoadTells.{steps_by}
 use Rattle.tso_told.specs.Played.{ordered_told}
 use Rattle.run_accesses.proofs.TsoKeptAccesses.{accepts_next, all_told_kept, stands_next}
 use Rattle.run_accesses.specs.TsoAccesses.{StandsAt}

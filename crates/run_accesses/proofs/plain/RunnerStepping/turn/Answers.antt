@@ -7,8 +7,7 @@ use Rattle.msi_state.specs.Events.{Event}
 use Rattle.msi_state.specs.Runs.{accesses_in, plain_event}
 use Rattle.msi_state.specs.States.{State, all_done}
 use Rattle.rtr_types.specs.declared.access.Access.{Access}
-use Rattle.msi_run.proofs.RunPlaces.{steps_by}
-use Rattle.run_outcome.proofs.RunPlaces.{Steps}
+use Rattle.run_outcome.proofs.RunPlaces.{Steps, steps_by}
 use Rattle.run_accesses.proofs.KeptAccesses.{accepts_next, stands_next, told_accesses}
 use Rattle.run_accesses.specs.Accesses.{StandsAt}
 use Rattle.run_accesses.proofs.plain.RunnerStepping.turn.Goals as goal

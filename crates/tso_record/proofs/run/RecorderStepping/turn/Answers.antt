@@ -1,5 +1,5 @@
 use Rattle.std.proofs.Common.{◌<◌, ap, refl, suc, sym, subst, ◌∙◌}
-use Rattle.tso_bound.specs.Bound.{left}
+use Rattle.tso_core.specs.Steppings.{left}
 use Rattle.tso_outcome.proofs.RunPlaces.{Steps}
 use Rattle.tso_plain.specs.Plain.{plain}
 use Rattle.tso_records.specs.Standings.{TimedState}

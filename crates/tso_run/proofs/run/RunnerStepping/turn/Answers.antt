@@ -1,7 +1,7 @@
 use Rattle.std.proofs.Common.{◌≡◌, ap, sym, subst, ◌∙◌, List}
 use Rattle.access_times.specs.declared.carry.NoCarry.{NoCarry}
 use Rattle.access_times.specs.declared.rider.NoRider.{NoRider}
-use Rattle.tso_outcome.proofs.RunPlaces.{Steps, stands_next}
+use Rattle.tso_outcome.proofs.RunPlaces.{Steps, stands_next, steps_by}
 use Rattle.tso_outcome.specs.Loads.{loads_told}
 use Rattle.tso_outcome.specs.Outcomes.{StandsAt}
 use Rattle.tso_plain.specs.Plain.{plain}
@@ -9,7 +9,7 @@ use Rattle.tso_plain.proofs.ForgetfulSteps.{plain_done}
 use Rattle.tso_state.specs.Events.{Told}
 use Rattle.tso_state.specs.Runs.{chosen, plain_told}
 use Rattle.tso_state.specs.States.{State, all_done}
-use Rattle.tso_run.proofs.LoadTells.{IsRunning, accepts_next, all_told_loads, steps_by}
+use Rattle.tso_run.proofs.LoadTells.{IsRunning, accepts_next, all_told_loads}
 use Rattle.tso_run.proofs.run.RunnerStepping.turn.Goals as goal
 
 pub step-requires-clause-accepts : goal.step-requires-clause-accepts

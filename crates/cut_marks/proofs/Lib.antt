@@ -1,0 +1,2 @@
+pub mod FirstNamed
+pub mod PutMarks

@@ -1,0 +1,15 @@
+use Rattle.std.proofs.Common.{refl}
+use Rattle.move_marks.specs.declared.marks.MoveKind.TheVariants.{Own}
+use Rattle.msi_state.specs.Events.{Retires}
+use Rattle.msi_state.specs.declared.moves.Move.TheVariants.{Core as CoreMove}
+use Rattle.flat_machine.proofs.MadeMoves.{has_made}
+use Rattle.flat_machine.proofs.MarkedChoice.{marked_on}
+use Rattle.flat_machine.proofs.machine.FlatMachine.move_core.Goals as goal
+
+pub returns-in-Local : goal.returns-in-Local
+returns-in-Local c =
+    let m = c.args.self.now in
+    let w = c.requires.stands in
+    has_made m _ (CoreMove c.args.core) (Retires c.local.result) w
+    (marked_on m.flat m.marks w.s w.memory c.requires.kept.marked w.stands Own c.args.core c.requires.can)
+    c.requires.kept c.local.ensures refl

@@ -1,0 +1,61 @@
+use Rattle.std.proofs.Common.{◌∙◌, ap, true, ◌/◌, ◌%◌, arith}
+use Rattle.rtr_types.specs.declared.TheConstants.{BLOCK_WORDS, LINES}
+use Rattle.msi_state.specs.declared.moves.Move.TheVariants.{Core as CoreMove}
+use Rattle.msi_state.specs.Runs.{plain_event, plain_step}
+use Rattle.machine_data.specs.Coherent.{memory_after}
+use Rattle.flat_state.specs.Shows.{blocks_of, node_at}
+use Rattle.flat_cores.specs.Needs.{get_of, getting, node_asked}
+use Rattle.flat_marks.proofs.AskMarks.{getting_waits}
+use Rattle.flat_marks.proofs.AskMarks.{asker_blocks, asker_stands, noted_marked, noted_place}
+use Rattle.flat_marks.proofs.OneNode.{still_there}
+use Rattle.flat_marks.proofs.NodeMarks.{core_few, own_on, own_there}
+use Rattle.flat_marks.proofs.own.ask.Goals as goal
+
+pub ask_for-requires-clause-core : goal.ask_for-requires-clause-core
+ask_for-requires-clause-core c =
+    own_there c.args.flat.now c.args.marks.now c.args.core c.requires.marked c.requires.can
+
+pub note_ask-requires-clause-core : goal.note_ask-requires-clause-core
+note_ask-requires-clause-core c =
+    let f = c.args.flat.now in
+    still_there f c.ask_for.new.flat c.args.core (node_asked (node_at f.nodes.items c.args.core) (c.args.word / BLOCK_WORDS % LINES)
+    (record { block = c.args.word / BLOCK_WORDS; place = c.args.place; state = getting (node_at f.nodes.items c.args.core).need }) (get_of (node_at f.nodes.items c.args.core).need))
+    (own_there f c.args.marks.now c.args.core c.requires.marked c.requires.can) c.ask_for.ensures.nodes
+
+pub note_ask-requires-clause-few : goal.note_ask-requires-clause-few
+note_ask-requires-clause-few c =
+    let f = c.args.flat.now in
+    let w = c.requires.stands in
+    core_few f w.s w.memory c.args.core w.stands
+    (own_there f c.args.marks.now c.args.core c.requires.marked c.requires.can)
+
+pub note_ask-requires-clause-place : goal.note_ask-requires-clause-place
+note_ask-requires-clause-place c =
+    let f = c.args.flat.now in
+    let w = c.requires.stands in
+    let on = own_on f c.args.marks.now c.args.core c.requires.marked c.requires.can w.s w.memory w.stands in
+    noted_place f c.ask_for.new.flat c.args.core (c.args.word / BLOCK_WORDS % LINES)
+    (record { block = c.args.word / BLOCK_WORDS; place = c.args.place; state = getting (node_at f.nodes.items c.args.core).need }) (get_of (node_at f.nodes.items c.args.core).need) (plain_step w.s (CoreMove c.args.core))
+    (memory_after (plain_event w.s (CoreMove c.args.core)) w.memory)
+    (own_there f c.args.marks.now c.args.core c.requires.marked c.requires.can) c.ask_for.ensures.nodes
+    (c.ask_for.ensures.makes w.s w.memory w.stands on)
+
+pub returns : goal.returns
+returns c =
+    let f = c.args.flat.now in
+    let f1 = c.ask_for.new.flat in
+    let w = c.requires.stands in
+    let within = own_there f c.args.marks.now c.args.core c.requires.marked c.requires.can in
+    let noted = c.note_ask.ensures in
+    record {
+      makes = λ s memory stands on. asker_stands f1 c.note_ask.new.flat c.args.core
+          (node_at f1.nodes.items c.args.core).place true noted.asker _ _
+          (c.ask_for.ensures.makes s memory stands on);
+      told = c.ask_for.ensures.told;
+      blocks = asker_blocks f1 c.note_ask.new.flat c.args.core (node_at f1.nodes.items c.args.core).place true
+          noted.asker ∙ ap blocks_of c.ask_for.ensures.home;
+      marked = noted_marked f f1 c.note_ask.new.flat c.args.marks.now c.note_ask.new.marks c.args.core (c.args.word / BLOCK_WORDS % LINES)
+          (record { block = c.args.word / BLOCK_WORDS; place = c.args.place; state = getting (node_at f.nodes.items c.args.core).need }) (get_of (node_at f.nodes.items c.args.core).need) w.s w.memory c.requires.marked within
+          c.requires.can (omega arith) (getting_waits (node_at f.nodes.items c.args.core).need) c.ask_for.ensures.nodes c.ask_for.ensures.home noted.asker
+          noted.own noted.request noted.others w.stands;
+    }

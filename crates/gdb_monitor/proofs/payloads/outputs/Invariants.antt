@@ -1,7 +1,0 @@
-use Rattle.std.proofs.Common.{◌≡◌}
-use Rattle.gdb_monitor.specs.Payloads.{outputs}
-use Rattle.gdb_monitor.proofs.payloads.outputs.Given as goal
-
--- the payloads so far
-abbrev pub invariant-loop-part : goal.invariant-loop-part
-invariant-loop-part l = l.payloads ≡ outputs l.text l.part

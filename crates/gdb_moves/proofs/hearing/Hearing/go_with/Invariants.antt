@@ -1,0 +1,7 @@
+use Rattle.gdb_moves.specs.Stopping.{stopping_of}
+use Rattle.gdb_moves.proofs.TurnLemmas.{IsTurning}
+use Rattle.gdb_moves.proofs.hearing.Hearing.go_with.Given as goal
+
+-- the turns so far were taken, and nothing stopped them
+abbrev pub invariant-loop-number : goal.invariant-loop-number
+invariant-loop-number l = IsTurning (stopping_of l.self) l.cores l.fn.place l.at l.number l.place

@@ -1,0 +1,4 @@
+pub mod WaitLemmas
+pub mod WaitsMore
+pub mod RowsMore
+pub mod WaitTexts

@@ -1,7 +1,0 @@
-use Rattle.gdb_session.specs.Stopping.{stopping_of}
-use Rattle.gdb_session.proofs.TurnLemmas.{IsTurning}
-use Rattle.gdb_session.proofs.hearing.Hearing.go_with.Given as goal
-
--- the turns so far were taken, and nothing stopped them
-abbrev pub invariant-loop-number : goal.invariant-loop-number
-invariant-loop-number l = IsTurning (stopping_of l.self) l.cores l.fn.place l.at l.number l.place

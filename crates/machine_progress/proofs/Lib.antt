@@ -1,3 +1,0 @@
-pub mod MoveGrounds
-pub mod Stuck
-pub mod DoneMachine

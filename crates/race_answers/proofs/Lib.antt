@@ -1,0 +1,5 @@
+pub mod NotedPcs
+pub mod OnePc
+pub mod SameSites
+pub mod TableCounts
+pub mod AllDecisions

@@ -1,0 +1,11 @@
+use Rattle.std.proofs.Common.{◌≡◌, ◌++◌, take, string_bytes}
+use Rattle.std.specs.List.{flat_map}
+use Rattle.roomy_lists.specs.Lists.{items_in}
+use Rattle.race_answers.specs.Asking.{history_row}
+use Rattle.race_answers.proofs.asking.put_marked.Given as goal
+
+-- the text so far
+abbrev pub invariant-loop-access : goal.invariant-loop-access
+invariant-loop-access l =
+    string_bytes l.text
+    ≡ string_bytes l.initial.text ++ flat_map (history_row l.cut (items_in l.known.pcs)) (take l.access-index l.list)

@@ -1,0 +1,9 @@
+use Rattle.std.proofs.Common.{◌≡◌, ◌++◌, take, string_bytes}
+use Rattle.roomy_lists.specs.Lists.{items_in}
+use Rattle.race_answers.specs.Asking.{rows_text}
+use Rattle.race_answers.proofs.asking.put_rows.Given as goal
+
+-- the text so far
+abbrev pub invariant-loop-access : goal.invariant-loop-access
+invariant-loop-access l =
+    string_bytes l.text ≡ string_bytes l.initial.text ++ rows_text (items_in l.known.pcs) (take l.access-index l.list)

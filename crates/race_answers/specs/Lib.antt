@@ -1,0 +1,7 @@
+pub mod Missing
+pub mod Pcs
+pub mod Instrs
+pub mod Sites
+pub mod About
+pub mod Decisions
+pub mod Asking

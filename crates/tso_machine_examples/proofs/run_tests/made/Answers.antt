@@ -1,6 +1,0 @@
-use Rattle.tso_machine_examples.proofs.AcceptedTells.{all_accepted}
-use Rattle.tso_machine_examples.proofs.run_tests.made.Goals as goal
-
-pub step-taken-requires-clause-accepts : goal.step-taken-requires-clause-accepts
-step-taken-requires-clause-accepts c = λ m is.
-    all_accepted (λ clerk at. Unit {0}) (λ clerk at. Unit {0}) _ _ _ (λ clerk at. tt) (λ clerk at. tt) _ _ _ _ _
