@@ -9,11 +9,14 @@
 //! Tested: `recorder`, by runs of all cores, against a slow program that answers the least set, and one that makes the
 //! vectors position by position. Runs of the machine tell what is known at their instructions, and `know_history` of
 //! runs of eight cores stands against the plain reading. By `tso_run` small programs have each outcome that total store
-//! order allows, and no other. A recording by `tso_record` was worked out by hand, and recorded runs are replayed.
+//! order allows, and no other. A recording by `tso_record` was worked out by hand, and recorded runs are replayed. By
+//! `run_flat` 20 runs of four cores come to what they come to by `run_image`.
 #![tactic(auto)]
 
 #[cfg(test)]
 mod dense_tests;
+#[cfg(test)]
+mod flat_tests;
 #[cfg(test)]
 mod hand_tests;
 #[cfg(test)]

@@ -31,11 +31,11 @@ use crate::inputs::{
 };
 use crate::soaks::soak;
 use certificate_codec::{Certificate, spell_certificate};
+use flat_run::run_flat;
 use image_elf::{ElfFault, flatten};
 use image_mem::Image;
 use log_codec::{read, spell};
 use min_certificate::{CertFault, CheckFailure, CheckFault, certify, check};
-use msi_run::run_image;
 use race_log::Recording;
 use recorder::record_image;
 use replay_audit::laws::replays_fit_their_plan;
@@ -218,7 +218,7 @@ fn run_text(alloc: Global, run: Planned, loads: bool, bytes: Vec<u8>) -> Result<
     a_run_fits_its_image();
     let Planned { params, schedule } = run;
     let opening = image(bytes, params.words);
-    let ran = run_image(alloc, opening, params, schedule)?;
+    let ran = run_flat(alloc, opening, params, schedule)?;
     state_text(alloc, &ran.outcome, &ran.image, loads)
 }
 
