@@ -1,6 +1,7 @@
 //! Files from outside, byte by byte, and each fault once.
 use byteorder::{ByteOrder, LittleEndian};
 use image_elf::{ElfFault, flatten};
+use std::process::Abort;
 use std::test::Fail;
 
 // A program of two instructions at address 16, where it begins.
@@ -95,17 +96,17 @@ static COPIED: [u8; 52] = [
 #[test]
 fn a_linked_program_has_the_bytes_that_objcopy_gives(rt: HostRuntime) -> Result<(), Fail> {
     let image = flatten(rt.alloc(), &LINKED, 32)?;
-    assert_eq!(rt; image.len(), 16 + COPIED.len() + 8);
-    assert_eq!(rt;
-        &image[..16],
-        [0x6f, 0, 0, 1, 0, 0, 0, 0, 0, 0, 0, 0, 0, 0, 0, 0].as_slice()
-    );
-    assert_eq!(rt; &image[16..16 + COPIED.len()], COPIED.as_slice());
-    assert_eq!(rt;
-        &image[16 + COPIED.len()..],
-        [0, 0, 0, 0, 0, 0, 0, 0].as_slice()
-    );
+    is_copied(&rt, image.as_slice());
     Ok(())
+}
+
+// The image of `LINKED`: the jump to it, what is copied, and zeros.
+fn is_copied(rt: &impl Abort, image: &[u8]) {
+    assert!(rt; image.len() == 76);
+    let start = [0x6f, 0, 0, 1, 0, 0, 0, 0, 0, 0, 0, 0, 0, 0, 0, 0];
+    assert_eq!(rt; &image[..16], start.as_slice());
+    assert_eq!(rt; &image[16..68], COPIED.as_slice());
+    assert_eq!(rt; &image[68..], [0; 8].as_slice());
 }
 
 // Two words of `TABLE_LAST` written over, and the length of the image for a memory of 8 words, or the fault.

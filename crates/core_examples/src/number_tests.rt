@@ -1,4 +1,5 @@
 //! Spellings of numbers at the ends of each length, and bytes that begin with none.
+use std::process::Abort;
 use std::test::Fail;
 use varint_core::{Varint, put_u32, take_u32};
 
@@ -20,12 +21,17 @@ fn lengths(rt: HostRuntime) -> Result<(), Fail> {
     for (value, bytes) in rows {
         let mut out = Vec::new(rt.alloc());
         put_u32(&mut out, value)?;
-        assert_eq!(rt; out.as_slice(), bytes, "at {value}");
         put_u32(&mut out, value)?;
-        assert_eq!(rt; out.len(), 2 * bytes.len(), "at {value}");
-        assert_eq!(rt; take_u32(bytes), Ok((value, bytes.len())), "at {value}");
+        is_spelled(&rt, value, bytes, out.as_slice());
     }
     Ok(())
+}
+
+// The number has this spelling, which was written twice.
+fn is_spelled(rt: &impl Abort, value: u32, bytes: &[u8], twice: &[u8]) {
+    assert!(rt; twice.len() == 2 * bytes.len(), "at {value}");
+    assert_eq!(rt; &twice[..bytes.len()], bytes, "at {value}");
+    assert_eq!(rt; take_u32(bytes), Ok((value, bytes.len())), "at {value}");
 }
 
 // Bytes that begin with no number, and the first reason why.

@@ -6,7 +6,9 @@ use rtr_io::{
     Failed, MemSink, MemSource, ReadEnd, Sink, Source, StdSink, StdSource, WriteFault, read_all,
     write_all,
 };
+use std::alloc::{AllocError, Global};
 use std::io::{self, Read, Write};
+use std::process::Abort;
 use std::test::Fail;
 
 /// Gives one byte a call, and fails at the call after `left` of them.
@@ -116,44 +118,66 @@ fn no_call_follows_one_that_failed(rt: HostRuntime) -> Result<(), Fail> {
     Ok(())
 }
 
+/// Four bytes, whose calls with these numbers fail.
+fn four_bytes(alloc: Global, failing: &[u64]) -> Result<MemSource, AllocError> {
+    let bytes = [7, 0, 9, 255].to_vec(alloc)?;
+    Ok(MemSource::new(bytes, failing.to_vec(alloc)?, 3))
+}
+
+/// How many bytes are read of the four, and that they are the same.
+fn read_of(
+    rt: &impl Abort,
+    alloc: Global,
+    source: &mut MemSource,
+    max: usize,
+) -> Result<usize, ReadEnd> {
+    let read = read_all(alloc, source, max)?;
+    assert!(rt; read.as_slice() == [7, 0, 9, 255].as_slice());
+    Ok(read.len())
+}
+
 #[test]
 fn reads_to_the_end_or_refuses(rt: HostRuntime) -> Result<(), Fail> {
-    let alloc = rt.alloc();
-    for (max, failing, answer) in [
-        (4, 0, Ok(4)),
-        (usize::MAX, 0, Ok(4)),
-        (3, 0, Err(ReadEnd::TooLarge)),
-        (4, 2, Err(ReadEnd::ReadFault)),
-    ] {
-        let bytes = vec![in alloc; 7u8, 0, 9, 255]?;
-        let mut source = MemSource::new(bytes, vec![in alloc; failing]?, 3);
-        match read_all(alloc, &mut source, max) {
-            Ok(read) => {
-                assert_eq!(rt; Ok(read.len()), answer, "at {max}");
-                assert_eq!(rt; read.as_slice(), [7, 0, 9, 255].as_slice());
-            }
-            Err(end) => assert_eq!(rt; Err(end), answer, "at {max}"),
-        }
+    for (max, answer) in [(4, Ok(4)), (usize::MAX, Ok(4)), (3, Err(ReadEnd::TooLarge))] {
+        let mut source = four_bytes(rt.alloc(), &[])?;
+        assert_eq!(rt;
+            read_of(&rt, rt.alloc(), &mut source, max),
+            answer,
+            "at {max}"
+        );
     }
+    let mut source = four_bytes(rt.alloc(), &[2])?;
+    assert_eq!(rt;
+        read_of(&rt, rt.alloc(), &mut source, 4),
+        Err(ReadEnd::ReadFault)
+    );
+    Ok(())
+}
+
+/// A place for four bytes, whose calls with these numbers fail, and which takes so many at once.
+fn four_places(alloc: Global, failing: &[u64], at_once: usize) -> Result<MemSink, AllocError> {
+    MemSink::new(alloc, 4, failing.to_vec(alloc)?, at_once.max(1))
+}
+
+/// The four bytes are written so, and these of them lie there then.
+fn writes(rt: &impl Abort, sink: &mut MemSink, answer: Result<(), WriteFault>, bytes: &[u8]) {
+    assert_eq!(rt; write_all(sink, &[7, 0, 9, 255]), answer);
+    assert_eq!(rt; sink.bytes(), bytes);
+}
+
+#[test]
+fn writes_all(rt: HostRuntime) -> Result<(), Fail> {
+    let mut sink = four_places(rt.alloc(), &[], 3)?;
+    writes(&rt, &mut sink, Ok(()), &[7, 0, 9, 255]);
+    assert!(rt; write_all(&mut sink, &[1]).is_err(), "no room is left");
     Ok(())
 }
 
 #[test]
-fn writes_all_or_a_part(rt: HostRuntime) -> Result<(), Fail> {
-    let alloc = rt.alloc();
-    let mut sink = MemSink::new(alloc, 4, vec![in alloc]?, 3)?;
-    assert_eq!(rt; write_all(&mut sink, &[7, 0, 9, 255]), Ok(()));
-    assert_eq!(rt; sink.bytes(), [7, 0, 9, 255].as_slice());
-    assert_eq!(rt;
-        write_all(&mut sink, &[1]),
-        Err(WriteFault),
-        "no room is left"
-    );
-
-    let mut sink = MemSink::new(alloc, 4, vec![in alloc; 3]?, 1)?;
-    assert_eq!(rt; write_all(&mut sink, &[7, 0, 9, 255]), Err(WriteFault));
-    assert_eq!(rt; sink.bytes(), [7, 0].as_slice());
-    assert_eq!(rt; sink.give(&[8]), Ok(1), "the fourth call doesn't fail");
+fn writes_a_part(rt: HostRuntime) -> Result<(), Fail> {
+    let mut sink = four_places(rt.alloc(), &[3], 1)?;
+    writes(&rt, &mut sink, Err(WriteFault), &[7, 0]);
+    assert!(rt; sink.give(&[8]) == Ok(1), "the fourth call doesn't fail");
     Ok(())
 }
 

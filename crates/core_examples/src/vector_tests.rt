@@ -14,9 +14,10 @@ fn vector(n: u32, a0: u32, b0: u32, sa: u32, sb: u32) -> StrideVector
 #[test]
 fn three_in_a_row(rt: HostRuntime) {
     let v = vector(3, 3, 3, 1, 2);
-    assert_eq!(rt; v.last(), (5, 7));
-    assert_eq!(rt; v.position(1), (4, 5));
-    assert_eq!(rt; v.next(), Some((6, 9)));
+    assert_eq!(rt;
+        (v.position(1), v.last(), v.next()),
+        ((4, 5), (5, 7), Some((6, 9)))
+    );
     for (b, a) in [
         (2, None),
         (3, Some(3)),
@@ -33,13 +34,10 @@ fn three_in_a_row(rt: HostRuntime) {
 #[test]
 fn ends(rt: HostRuntime) {
     let one = vector(1, 3, 2, 0, 0);
-    assert_eq!(rt; one.last(), (3, 2));
-    assert_eq!(rt; one.next(), None);
-    assert_eq!(rt; one.source_of(2), Some(3));
-    assert_eq!(rt; one.source_of(3), None);
+    assert_eq!(rt; (one.last(), one.next()), ((3, 2), None));
+    assert_eq!(rt; (one.source_of(2), one.source_of(3)), (Some(3), None));
     let high = vector(2, 1, 1, u32::MAX - 1, 1);
-    assert_eq!(rt; high.last(), (u32::MAX, 2));
-    assert_eq!(rt; high.next(), None);
+    assert_eq!(rt; (high.last(), high.next()), ((u32::MAX, 2), None));
 }
 
 // The six pairs of three cores.
@@ -57,7 +55,8 @@ fn three_cores(rt: HostRuntime) {
         assert!(rt; from < 3 && to < 3 && from != to);
         assert_eq!(rt; pair_at(3, from, to), place);
     }
-    assert_eq!(rt; pair_count(3), 6);
-    assert_eq!(rt; pair_count(1), 0);
-    assert_eq!(rt; pair_of(3, 4), (2, 0));
+    assert_eq!(rt;
+        (pair_count(3), pair_count(1), pair_of(3, 4)),
+        (6, 0, (2, 0))
+    );
 }
