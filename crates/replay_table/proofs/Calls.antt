@@ -11,7 +11,9 @@ use Rattle.rv_core.specs.declared.core_state.Need.{Need}
 use Rattle.rv_core.specs.Needs.{is_writing}
 use Rattle.rv_core.specs.Steps.{need, access_of, after, wrote, is_done, is_whole, instruction_at}
 use Rattle.rv_core.specs.declared.outcome.LoadNote.{LoadNote}
+use Rattle.rv_core.proofs.LawLemmas.{number_law}
 use Rattle.race_log.specs.declared.recording.Recording.{Recording}
+use Rattle.race_log.specs.Validity.{Valid}
 use Rattle.replay_core.specs.Plans.{Plan, plan_of, recorded_image}
 use Rattle.replay_core.specs.Play.{Use, use_of, loads_after}
 use Rattle.replay_audit.specs.declared.touch.Touch.{Touch}
@@ -20,7 +22,7 @@ use Rattle.replay_table.specs.Accesses.{word_by}
 use Rattle.replay_table.specs.declared.view.View.{View}
 use Rattle.replay_table.specs.Aheads.{Due}
 use Rattle.replay_table.specs.Rule.{Next, seen_of}
-use Rattle.replay_table.specs.Seats.{Belongs, Past, Notes, Sitting, Tied, sitting}
+use Rattle.replay_table.specs.Seats.{Belongs, FitsNote, Past, Notes, Sitting, Tied, sitting}
 use Rattle.replay_table.proofs.Ties.{load_is, change_is, next_is, write_is}
 use Rattle.replay_table.proofs.Uses.{word_within}
 
@@ -107,6 +109,28 @@ notes_is image past mid new k used old core loads touched used_is h = record {
       ∙ ap (λ (l : List Touch). touched_after (use_of (need image k)) l mid.core.id mid.core.count) touched
       ∙ ap (λ (x : Core). touched_after (use_of (need image k)) past.touched x.id x.count) core;
 }
+
+-- the past keeps its room while the core goes on
+pub inside_room : (table : TableId) (past : Past) (v : View) (x : Sitting) (roomy : Bool) → sitting table past v ≡ x
+    → IsTrue x.roomy → roomy ≡ past.roomy → IsTrue roomy
+inside_room table past v x roomy same h is =
+    subst (λ (b : Bool). IsTrue b) (sym (is ∙ ap (λ (y : Sitting). y.roomy) same)) h
+
+-- the core that has retired the access, and the access, are such as a touch is noted of
+pub fits_note : (w : Which) (r : Recording) (past : Past) (sees : List ℕ) (holds : Option ℕ) (v : View) (word : ℕ)
+    (writes whole : Bool) (k : Core) (used : Use) (old : ℕ) → Valid r
+    → Tied (plan_of w r) past sees holds v → k ≡ after (recorded_image r) past.core old
+    → used ≡ use_of (need (recorded_image r) past.core)
+    → Accesses (need (recorded_image r) past.core) word writes whole → FitsNote k used
+fits_note w r past sees holds v word writes whole k used old valid t is used_is access =
+    let id = ap (λ (x : Core). x.id) is ∙ number_law _ _ old in
+    let inside = t.inside in
+    let each = valid.each_core in
+    let cores = valid.params.cores in
+    let word_is : word_by used ≡ word = ap word_by (used_is ∙ access.used) in
+    let within = word_within _ _ _ _ _ access in
+    let words = valid.params.words in
+    record { core = omega arith; word = omega arith }
 
 -- the code may retire the instruction
 pub can_finish : (own image : Contents) (l k : Core) (op : Option Op) → own ≡ image → l ≡ k → op ≡ instruction_at

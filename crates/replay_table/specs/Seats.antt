@@ -5,6 +5,8 @@ use Rattle.std.specs.List.{Contains, range_with_len}
 use mathlib.Core.Option.{some}
 use lib.ListN.{get_elem?}
 use Rattle.atomic_table.specs.Seated.{TableId}
+use Rattle.rtr_types.specs.declared.TheConstants.{CORES_MAX}
+use Rattle.rtr_types.specs.declared.params.TheConstants.{WORDS_MAX}
 use Rattle.rtr_types.specs.declared.instr.Instr.{Instr}
 use Rattle.rtr_types.specs.declared.pairs.Which.{Which}
 use Rattle.rv_core.specs.declared.core_state.Core.{Core}
@@ -27,7 +29,7 @@ use Rattle.replay_table.specs.declared.upcoming.Upcoming.{Upcoming}
 use Rattle.replay_table.specs.declared.raced.Raced.{Raced}
 use Rattle.replay_table.specs.declared.view.Own.{Own}
 use Rattle.replay_table.specs.declared.view.View.{View}
-use Rattle.replay_table.specs.Accesses.{Changes, word_of, touched_after, touches_by}
+use Rattle.replay_table.specs.Accesses.{Changes, word_by, word_of, touched_after, touches_by}
 use Rattle.replay_table.specs.Aheads.{Due, Ahead}
 use Rattle.replay_table.specs.Rule.{seen_of}
 use Rattle.replay_table.specs.Kinds.{dealt_view}
@@ -39,6 +41,11 @@ pub record Past : Type 0 where
   pub loads : List LoadNote
   pub touched : List Touch
   pub roomy : Bool
+
+-- the core and the word of an access are such as a touch is noted of
+pub record FitsNote (k : Core) (used : Use) : Type 0 where
+  pub core : k.id < CORES_MAX
+  pub word : word_by used < WORDS_MAX
 
 -- the past with this core, which has retired an access
 pub record Notes (x : Past) (next : Core) (used : Use) (value : ℕ) (y : Past) : Type 0 where

@@ -1,16 +1,16 @@
 //! A table that was brought to its end.
 ghost use Rattle.std.specs.Prelude.{◌≡◌};
 
-use replay_audit::Touch;
 use rtr_types::Items;
 use rv_core::Outcome;
 use std::marker::Model;
+use touch_judge::TouchNote;
 
 /// The play of a whole replay order: what it leaves, and by core its accesses. Only closing a table
 /// makes one.
 pub struct Closed {
     pub(crate) outcome: Outcome,
-    pub(crate) touched: Items<Items<Touch>>,
+    pub(crate) touched: Items<Items<TouchNote>>,
 }
 
 impl Model for Closed {
@@ -39,7 +39,7 @@ impl Closed {
     }
 
     /// The accesses of each core, core 0 first.
-    pub fn touched(&self) -> &[Items<Touch>]
+    pub fn touched(&self) -> &[Items<TouchNote>]
         ensures { result.now ≡ self.now.touched }
     {
         self.touched.as_slice()

@@ -2,18 +2,18 @@
 ghost use Rattle.std.specs.Prelude.{◌≡◌, ◌<◌, ◌≤◌, ◌++◌, [], ◌∷◌, IfOk, length, reverse};
 
 use crate::past::Past;
-use replay_audit::Touch;
 use rtr_types::Items;
 use rv_core::{Core, LoadNote};
 use std::alloc::{AllocError, Global};
 use std::marker::Model;
+use touch_judge::TouchNote;
 
 /// The cores, loads and accesses of seats that were taken apart, in lists that took their room
 /// beforehand.
 pub(crate) struct Parts {
     cores: Vec<Core>,
     loads: Vec<Items<LoadNote>>,
-    touched: Vec<Items<Touch>>,
+    touched: Vec<Items<TouchNote>>,
 }
 
 impl Model for Parts {
@@ -73,7 +73,7 @@ impl Parts {
     }
 
     /// The lists, the last part first.
-    pub(crate) fn into_items(self) -> (Items<Core>, Items<Items<LoadNote>>, Items<Items<Touch>>)
+    pub(crate) fn into_items(self) -> (Items<Core>, Items<Items<LoadNote>>, Items<Items<TouchNote>>)
         ensures cores { result.0 ≡ reverse self.cores }
         ensures loads { result.1 ≡ reverse self.loads }
         ensures touched { result.2 ≡ reverse self.touched }

@@ -2,7 +2,7 @@
 ghost use Rattle.std.specs.Prelude.{◌≡◌, ◌<◌, ◌≤◌, ℕ, [], IsTrue, OnOk, false};
 ghost use Rattle.rv_core.specs.Steps.{need, after, wrote, is_done, instruction_at};
 ghost use Rattle.replay_table.specs.Aheads.{AreLocal};
-ghost use Rattle.replay_table.specs.Seats.{Notes};
+ghost use Rattle.replay_table.specs.Seats.{FitsNote, Notes};
 
 use crate::gate::Gate;
 use crate::locals::NoWord;
@@ -14,6 +14,7 @@ use rv_core::{Core, LoadNote, Program};
 use rv_decode::Op;
 use std::alloc::{AllocError, Global};
 use std::marker::Model;
+use touch_judge::TouchNote;
 
 /// A core, what its loads got, and its accesses, oldest first. Contracts see these, and whether there
 /// is room for one access more.
@@ -21,7 +22,7 @@ use std::marker::Model;
 pub(crate) struct Past {
     core: Core,
     loads: Vec<LoadNote>,
-    touched: Vec<Touch>,
+    touched: Vec<TouchNote>,
 }
 
 impl Model for Past {
@@ -131,7 +132,8 @@ impl Past {
 
     /// The core has retired an access, which found a value.
     pub(crate) fn note(&mut self, used: Option<(Kind, u32)>, value: u32)
-        requires { IsTrue self.old.roomy }
+        requires room { IsTrue self.old.roomy }
+        requires fits { FitsNote self.old.core used }
         ensures { Notes self.old self.old.core used value self.new }
     {
         let Some((kind, word)) = used else { return };
@@ -146,11 +148,12 @@ impl Past {
                 value,
             });
         }
-        self.touched.push_reserved(Touch { at, word, kind });
+        self.touched
+            .push_reserved(TouchNote::new(Touch { at, word, kind }));
     }
 
     /// The parts.
-    pub(crate) fn into_parts(self) -> (Core, Vec<LoadNote>, Vec<Touch>)
+    pub(crate) fn into_parts(self) -> (Core, Vec<LoadNote>, Vec<TouchNote>)
         ensures core { result.0 ≡ self.core }
         ensures loads { result.1.items ≡ self.loads }
         ensures touched { result.2.items ≡ self.touched }

@@ -6,11 +6,13 @@
 //!
 //! Proved: `RunOrder::of` answers an order exactly where the log's low order is whole. `RunOrder::judge` answers
 //! whether the recording is determinate by the log, by the accesses of the play of any whole replay order. Both are
-//! refused for want of memory alone.
+//! refused for want of memory alone. `TouchNote` keeps an access in eight bytes, and gives it back.
 #![tactic(auto)]
 
 mod clocks;
 mod marks;
+mod notes;
 mod order;
 
+pub use notes::TouchNote;
 pub use order::RunOrder;

@@ -11,6 +11,7 @@ ghost use Rattle.touch_judge.specs.Marks.{AreCovered, AreMarked, AreWithin, IsAb
 ghost use Rattle.touch_judge.specs.Marks.{IsOpen};
 ghost use Rattle.touch_judge.specs.Marks.{IsKnown, IsTouchOf, IsUncovered, last_of, slot_of};
 
+use crate::notes::TouchNote;
 use clock_core::Clock;
 use replay_audit::Touch;
 use rtr_types::{CORES_MAX, Items};
@@ -54,7 +55,7 @@ impl Marks {
     /// since no other core goes on in between.
     pub(crate) fn pass(
         &mut self,
-        touched: &[Items<Touch>],
+        touched: &[Items<TouchNote>],
         core: u8,
         until: u32,
         clock: &Clock,
@@ -142,24 +143,24 @@ fn slot_of(word: u32, writes: bool) -> usize
 
 /// The count of the touch at a place of a core's list, if there is one.
 #[inline(always)]
-fn count_at(list: &[Touch], place: usize) -> u32
+fn count_at(list: &[TouchNote], place: usize) -> u32
     ensures { (d : SomeTouch) → place < length list.now → result ≡ (slice_index_or list.now place d).at.count }
 {
     match list.get(place) {
-        Some(touch) => touch.at.count,
+        Some(note) => note.touch().at.count,
         None => 0,
     }
 }
 
 /// The touch at a place of a core's list, if its count is at most so much.
 #[inline(always)]
-fn touch_to(list: &[Touch], place: usize, until: u32) -> Option<Touch>
+fn touch_to(list: &[TouchNote], place: usize, until: u32) -> Option<Touch>
     ensures some { IfSome result (λ t. IsTouchOf list.now place t × (t.at.count ≤ until)) }
     ensures none { IfNone result ((d : SomeTouch) → place < length list.now →
         until < (slice_index_or list.now place d).at.count) }
 {
     if place < list.len() {
-        let touch = list[place];
+        let touch = list[place].touch();
         if touch.at.count <= until {
             return Some(touch);
         }

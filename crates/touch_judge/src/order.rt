@@ -7,9 +7,9 @@ ghost use Rattle.replay_audit.specs.Walks.{IsLowWalk};
 
 use crate::clocks::Clocks;
 use crate::marks::{Marks, PLACES};
+use crate::notes::TouchNote;
 use clock_core::Clock;
 use race_log::Recording;
-use replay_audit::Touch;
 use replay_core::LowOrder;
 use rtr_types::{Items, Which};
 use std::alloc::{AllocError, Global};
@@ -77,7 +77,7 @@ impl<'a> RunOrder<'a> {
 
     /// Whether the recording is determinate by the log. `touched` has by core the accesses of the play of any
     /// whole replay order, each core's by rising count.
-    pub fn judge(&self, alloc: Global, touched: &[Items<Touch>]) -> Result<bool, AllocError>
+    pub fn judge(&self, alloc: Global, touched: &[Items<TouchNote>]) -> Result<bool, AllocError>
         requires { ArePlayed self.now.which self.now.recording touched.now }
         ensures { IfOk result (λ verdict. IsTrue verdict ↔ IsDeterminate self.now.which self.now.recording) }
     {
