@@ -5,16 +5,14 @@ use Rattle.std.proofs.Common.{◌∙◌, subst, arith, length-set, get_or-set_sa
 use Rattle.std.specs.Prelude.{slice_index, slice_set}
 use Rattle.std.proofs.lemmas.Bool.{cases_lt}
 use native.Mathlib.Decide.{ℕ_discrete}
-use Rattle.rtr_types.specs.declared.TheConstants.{CORES_MAX}
 use Rattle.rtr_types.specs.declared.cut.Cut.{Cut}
 use Rattle.rtr_types.specs.declared.pairs.Which.{Which}
-use Rattle.rv_core.specs.declared.outcome.Outcome.{Outcome}
 use Rattle.race_log.specs.declared.recording.Recording.{Recording}
 use Rattle.race_log.specs.Validity.{Valid}
 use Rattle.replay_core.specs.Answers.{cut_of}
 use Rattle.replay_core.specs.Orders.{bump, counts, counts_in, nought, is_ready, IsReplayOrder, Ready}
 use Rattle.replay_core.specs.Plans.{Plan, plan_of}
-use Rattle.replay_core.specs.Play.{place, played, start}
+use Rattle.replay_core.specs.Play.{place, start}
 use Rattle.replay_core.proofs.Counts.{bump_else, bump_same, counts_on}
 use Rattle.replay_core.proofs.Lists.{one_more, play_on}
 use Rattle.replay_core.proofs.Places.{play_law}

@@ -4,18 +4,16 @@ use Rattle.std.proofs.Common.{◌≡◌, ◌≢◌, ℕ, suc, ◌+◌, ◌<◌, 
 use Rattle.std.proofs.Common.{refl, sym, ap, ◌∙◌, subst, add-one, append_assoc, append-nil, arith}
 use Rattle.std.specs.Prelude.{slice_index}
 use native.Mathlib.Decide.{ℕ_discrete}
-use Rattle.rtr_types.specs.declared.cut.Cut.{Cut}
 use Rattle.rtr_types.specs.declared.pairs.Which.{Which}
 use Rattle.rv_core.specs.declared.core_state.Core.{Core}
-use Rattle.rv_core.specs.declared.core_state.Need.{Need}
 use Rattle.rv_core.specs.declared.outcome.LoadNote.{LoadNote}
 use Rattle.rv_core.specs.declared.outcome.Outcome.{Outcome}
 use Rattle.rv_core.specs.States.{starting}
-use Rattle.rv_core.specs.Steps.{after, is_done, need}
+use Rattle.rv_core.specs.Steps.{is_done, need}
 use Rattle.race_log.specs.declared.recording.Recording.{Recording}
 use Rattle.race_log.specs.Validity.{Valid}
 use Rattle.replay_core.specs.Laws.{PlaceOf}
-use Rattle.replay_core.specs.Orders.{bump, counts, nought, IsReplayOrder}
+use Rattle.replay_core.specs.Orders.{counts, nought, IsReplayOrder}
 use Rattle.replay_core.specs.Plans.{Plan, plan_of, recorded_image}
 use Rattle.replay_core.specs.Play.{Plays, core_at, loads_after, loads_at, need_at, old_for, place, played, start}
 use Rattle.replay_core.specs.Play.{use_of}
@@ -24,12 +22,10 @@ use Rattle.replay_core.proofs.Lists.{ordered_on, play_on, plays_on}
 use Rattle.replay_core.proofs.Places.{place_law, play_law, play_start_law}
 use Rattle.replay_audit.specs.Determinate.{IsDeterminate, low_order_of}
 use Rattle.replay_audit.proofs.OrdersAgree.{every_order_law}
-use Rattle.cut_replay.specs.ClosedCuts.{count_in}
-use Rattle.cut_replay.specs.CutStates.{IsStateAt}
-use Rattle.cut_index.specs.Alone.{goes_on, own_read, own_value}
+use Rattle.cut_index.specs.Alone.{goes_on}
 use Rattle.cut_index.specs.AloneLaws.{AloneAtLaw, AloneLaw, GoesOnLaw, NextAtLaw, alone_at, own_loads}
 use Rattle.cut_index.specs.declared.alone.Alone.{Alone}
-use Rattle.cut_index.proofs.OwnLoads.{Alike, alike}
+use Rattle.cut_index.proofs.OwnLoads.{alike}
 
 abbrev made : Core → ℕ → Alone
 made core read = record { core = core; read = read }

@@ -2,7 +2,7 @@
 -- the cut holds. So they say what each word holds at the cut.
 use Rattle.std.proofs.Common.{inl, inr, ◌≡◌, ◌⊎◌, ℕ, ◌+◌, ◌<◌, ◌≤◌, Bool, true, false, List, [], ◌∷◌, ◌++◌, length}
 use Rattle.std.proofs.Common.{refl, sym, ap, ◌∙◌, subst, append_assoc, arith}
-use Rattle.std.specs.Prelude.{filter, nat_le, nat_lt, slice_index, Option, Some, None, ◌&&◌}
+use Rattle.std.specs.Prelude.{nat_le, nat_lt, slice_index, Some, None, ◌&&◌}
 use Rattle.std.proofs.lemmas.Bool.{cases_lt}
 use Rattle.std.proofs.lemmas.Bool.Decides.{nat_tests}
 use Rattle.std.proofs.lemmas.List.Elements.{filter-append}
@@ -24,8 +24,8 @@ use Rattle.replay_core.specs.Orders.{bump, counts, nought, IsReplayOrder}
 use Rattle.replay_core.specs.Plans.{Plan, plan_of, recorded_image}
 use Rattle.replay_core.specs.Play.{Use, accesses_by, accesses_from, accesses_of, core_at, instr, need_at, new_at}
 use Rattle.replay_core.specs.Play.{old_at}
-use Rattle.replay_core.specs.Play.{place, play, played, start, touched, use_of}
-use Rattle.replay_core.proofs.Counts.{bump_else, bump_here, bump_same, counts_on}
+use Rattle.replay_core.specs.Play.{place, played, start, touched, use_of}
+use Rattle.replay_core.proofs.Counts.{bump_else, bump_same, counts_on}
 use Rattle.replay_core.proofs.Lists.{accesses_on, ordered_on, play_on}
 use Rattle.replay_core.proofs.Places.{play_law, start_known}
 use Rattle.replay_audit.specs.Determinate.{IsDeterminate, low_accesses, low_order_of}

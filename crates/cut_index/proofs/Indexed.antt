@@ -2,11 +2,11 @@
 use Rattle.std.proofs.Common.{inl, inr, ◌≡◌, ◌⊎◌, ℕ, zero, suc, ◌+◌, ◌<◌, ◌≤◌, ◌^◌, List, [], ◌∷◌, length, refl, sym}
 use Rattle.std.proofs.Common.{ap}
 use Rattle.std.proofs.Common.{◌∙◌, subst, arith}
-use Rattle.std.specs.Prelude.{slice_index, slice_index_or, Option, Some, None}
+use Rattle.std.specs.Prelude.{slice_index, slice_index_or, Some, None}
 use Rattle.rtr_types.specs.declared.access.Access.{Access}
 use Rattle.rtr_types.specs.declared.cut.Cut.{Cut}
 use Rattle.rtr_types.specs.declared.instr.Instr.{Instr}
-use Rattle.rtr_types.specs.declared.params.TheConstants.{LIMIT_MAX}
+use Rattle.rtr_types.specs.declared.params.TheConstants.{LIMIT_MAX, WORDS_MAX}
 use Rattle.image_mem.specs.Contents.{Contents, opening_word}
 use Rattle.conflict_edge.specs.Conflicts.{StandsIn}
 use Rattle.conflict_edge.proofs.AccessPlaces.{stands_which}
@@ -27,9 +27,9 @@ use Rattle.replay_audit.proofs.Rise.{touched_is}
 use Rattle.cut_replay.specs.ClosedCuts.{IsClosed}
 use Rattle.cut_index.specs.Alone.{alone_after, alone_first}
 use Rattle.cut_index.specs.AloneLaws.{alone_at, own_loads}
-use Rattle.cut_index.specs.Indexes.{ComesNext, IsCoreAt, IsNextAt, IsWordAt}
+use Rattle.cut_index.specs.Indexes.{IsCoreAt, IsNextAt, IsWordAt}
 use Rattle.cut_index.specs.Runs.{CanRun, IsRun, next_of}
-use Rattle.cut_index.specs.Words.{held_in}
+use Rattle.cut_index.specs.Touches.{used_by}
 use Rattle.cut_index.specs.Writes.{left_behind, writes_in}
 use Rattle.cut_index.specs.declared.alone.Alone.{Alone}
 use Rattle.cut_index.specs.declared.alone.Next.{Next}
@@ -37,6 +37,7 @@ use Rattle.cut_index.specs.declared.runs.Run.{Run}
 use Rattle.cut_index.specs.declared.writes.Write.{Write}
 use Rattle.cut_index.proofs.CoresAlone.{alone_at_law, goes_on_law}
 use Rattle.cut_index.proofs.HeldAccesses.{word_left}
+use Rattle.cut_index.proofs.UseCodes.{told_use}
 use Rattle.cut_index.proofs.WritesHeld.{left_of_writes}
 
 -- ---- the parts of a core's run
@@ -76,6 +77,7 @@ module _ (a : Findings) (h : IsAudited a) (core : ℕ) (inside : core < a.record
   can_run = record {
     going = λ count lt. goes_on_law a.which a.recording core count h.valid h.passed.determinate inside lt;
     fits = small (slice_index a.recording.totals core) total_small;
+    few = let words = h.valid.params.words in let most : WORDS_MAX ≡ 262144 = refl in omega arith;
   }
     where
       small : (n : ℕ) → n ≤ 1000000 → 0 + n < 2 ^ 32
@@ -111,6 +113,13 @@ module _ (a : Findings) (h : IsAudited a) (core : ℕ) (inside : core < a.record
       ap (λ (x : Alone). x.core) (is ∙ ap (λ (n : ℕ). alone_at a.which a.recording core n) (sym count_is))
       ∙ sym (alone_at_law a.which a.recording cut outcome core h.valid h.passed.determinate at inside)
 
+next_same : (x y : Next) → x.pc ≡ y.pc → x.used ≡ y.used → x ≡ y
+next_same x y pc used =
+    ap (λ (p : ℕ). as_next p x.used) pc ∙ ap (λ (u : Use). as_next y.pc u) used
+  where
+    as_next : ℕ → Use → Next
+    as_next p u = record { pc = p; used = u }
+
 -- what comes next at it
 pub next_told : (a : Findings) (core count : ℕ) (image : Contents) (k : Core) (next : Next) →
     image ≡ recorded_image a.recording → IsCoreAt a core count k → next ≡ next_of image k → IsNextAt a core count next
@@ -124,13 +133,16 @@ next_told a core count image k next image_is here is cut outcome at count_is =
 
 -- as it was noted
 pub noted_told : (a : Findings) (h : IsAudited a) (core count : ℕ) (inside : core < a.recording.params.cores)
-    (run : Run) (d : Next) → IsRun (recorded_image a.recording) (own_loads a.which a.recording core)
+    (run : Run) (next : Next) → IsRun (recorded_image a.recording) (own_loads a.which a.recording core)
     (alone_first core a.recording.params.limit) (slice_index a.recording.totals core) run →
-    count < slice_index a.recording.totals core → IsNextAt a core count (slice_index_or run.nexts count d)
-noted_told a h core count inside run d is below =
-    next_told a core count (recorded_image a.recording) (alone_at a.which a.recording core count).core
-    (slice_index_or run.nexts count d) refl
-    (core_told a h core inside count (alone_at a.which a.recording core count) refl) (is.noted.each count d below)
+    count < slice_index a.recording.totals core → next.pc ≡ slice_index run.pcs count →
+    next.used ≡ used_by (slice_index run.uses count) → IsNextAt a core count next
+noted_told a h core count inside run next is below pc used =
+    next_told a core count (recorded_image a.recording) (alone_at a.which a.recording core count).core next refl
+    (core_told a h core inside count (alone_at a.which a.recording core count) refl)
+    (next_same next (next_of (recorded_image a.recording) (alone_at a.which a.recording core count).core)
+    (pc ∙ is.pcs.each count below)
+    (used ∙ ap (λ (n : ℕ). used_by n) (is.uses.each count below) ∙ told_use _))
 
 -- ---- a word
 

@@ -2,6 +2,7 @@ pub mod OwnLoads
 pub mod CoresAlone
 pub mod WordsLeft
 pub mod HeldAccesses
+pub mod UseCodes
 pub mod Running
 pub mod WritesHeld
 pub mod AtCuts

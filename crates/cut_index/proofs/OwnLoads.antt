@@ -1,7 +1,7 @@
 -- What an instruction does to a core is what its own next load does: no other value matters.
 use Rattle.std.proofs.Common.{◌≡◌, ℕ, ◌+◌, Bool, true, false, cond, List, [], ◌∷◌, ◌++◌, length, refl, sym, ap, ◌∙◌}
 use Rattle.std.proofs.Common.{append_assoc, length-append}
-use Rattle.std.specs.Prelude.{slice_index_or, Option, Some, None}
+use Rattle.std.specs.Prelude.{slice_index_or, Some, None}
 use Rattle.std.proofs.Math.Seq.{get_or-append_seam}
 use Rattle.rtr_types.specs.Accesses.{is_read}
 use Rattle.rtr_types.specs.declared.access.Kind.{Kind}

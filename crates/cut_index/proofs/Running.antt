@@ -3,19 +3,23 @@ use Rattle.std.proofs.Common.{inl, inr, ◌≡◌, ◌≢◌, ℕ, zero, suc, �
 use Rattle.std.proofs.Common.{List, [], ◌∷◌, ◌++◌, length, refl, sym, ap, ◌∙◌, subst, add-one, eq-eqb, ne_eqb}
 use Rattle.std.proofs.Common.{length-append}
 use Rattle.std.proofs.Common.{arith}
-use Rattle.std.specs.Prelude.{slice_index_or, Option}
+use Rattle.std.specs.Prelude.{slice_index_or, ◌^◌, None, Some}
 use Rattle.std.proofs.lemmas.Bool.{cases_lt}
 use Rattle.std.proofs.lemmas.List.{get_or_append_left, get_or_push}
 use native.Mathlib.Decide.{ℕ_discrete}
 use Rattle.image_mem.specs.Contents.{Contents}
+use Rattle.rv_core.specs.declared.core_state.Core.{Core}
 use Rattle.rv_core.specs.declared.outcome.LoadNote.{LoadNote}
 use Rattle.rv_core.specs.Steps.{need}
+use Rattle.replay_core.specs.Answers.{UsesWithin}
 use Rattle.replay_core.specs.Play.{Use, use_of}
+use Rattle.replay_core.proofs.PlaceSteps.{used_within}
 use Rattle.cut_index.specs.declared.alone.Alone.{Alone}
 use Rattle.cut_index.specs.declared.alone.Next.{Next}
 use Rattle.cut_index.specs.declared.runs.Run.{Run}
 use Rattle.cut_index.specs.Alone.{alone_after, goes_on, own_read, reads}
-use Rattle.cut_index.specs.Runs.{AreMarked, AreNoted, IsRun, IsRunTo, marked, next_of}
+use Rattle.cut_index.specs.Touches.{code_of}
+use Rattle.cut_index.specs.Runs.{AreMarked, ArePcs, AreUses, IsRun, IsRunTo, marked, next_of}
 
 own_most : (used : Use) (read : ℕ) → own_read used read ≤ read + 1
 own_most used read = by (reads used)
@@ -23,6 +27,13 @@ own_most used read = by (reads used)
     by : (b : Bool) → cond b (read + 1) read ≤ read + 1
     by true = omega arith
     by false = omega arith
+
+-- each access is of a word that fits
+pub uses_fit : (image : Contents) (core : Core) (used : Use) → used ≡ use_of (need image core) → image.words ≤ 2 ^ 30 →
+    UsesWithin used (2 ^ 30)
+uses_fit image core None is few = tt
+uses_fit image core (Some used) is few =
+    let within = used_within image core (Some used) image.words is refl in omega arith
 
 module _ (image : Contents) (loads : List LoadNote) (first : Alone) where
   -- no more loads than instructions
@@ -38,10 +49,12 @@ module _ (image : Contents) (loads : List LoadNote) (first : Alone) where
       ≡ alone_after image loads first (count + 1)
   one_more count = ap (λ (n : ℕ). alone_after image loads first n) (sym (add-one count))
 
-  pub run_first : (run : Run) → run.nexts ≡ [] → run.marks ≡ first ∷ [] → IsRunTo image loads first 0 run first
-  run_first run nexts marks = record {
+  pub run_first : (run : Run) → run.pcs ≡ [] → run.uses ≡ [] → run.marks ≡ first ∷ [] →
+      IsRunTo image loads first 0 run first
+  run_first run pcs uses marks = record {
     is_run = record {
-      noted = record { all = ap (λ (l : List Next). length l) nexts; each = λ count d lt. absurd (omega arith) };
+      pcs = record { all = ap (λ (l : List ℕ). length l) pcs; each = λ count lt. absurd (omega arith) };
+      uses = record { all = ap (λ (l : List ℕ). length l) uses; each = λ count lt. absurd (omega arith) };
       marked = record {
         all = ap (λ (l : List Alone). length l) marks;
         each = λ k d lt.
@@ -54,18 +67,32 @@ module _ (image : Contents) (loads : List LoadNote) (first : Alone) where
     here = refl;
   }
 
-  -- what comes next is noted
-  noted_on : (count : ℕ) (nexts : List Next) (next : Next) → AreNoted image loads first count nexts →
-      next ≡ next_of image (alone_after image loads first count).core →
-      AreNoted image loads first (count + 1) (nexts ++ next ∷ [])
-  noted_on count nexts next h is = record {
-    all = let old = h.all in length-append nexts (next ∷ []) ∙ ap (λ (n : ℕ). n + 1) old;
-    each = λ k d lt. elim (cases_lt k count) [
-      | inl below ↦ get_or_append_left nexts (next ∷ []) d k (let old = h.all in omega arith) ∙ h.each k d below
+  -- what comes next is noted: its address, and its access
+  pcs_on : (count : ℕ) (pcs : List ℕ) (pc : ℕ) → ArePcs image loads first count pcs →
+      pc ≡ (next_of image (alone_after image loads first count).core).pc →
+      ArePcs image loads first (count + 1) (pcs ++ pc ∷ [])
+  pcs_on count pcs pc h is = record {
+    all = let old = h.all in length-append pcs (pc ∷ []) ∙ ap (λ (n : ℕ). n + 1) old;
+    each = λ k lt. elim (cases_lt k count) [
+      | inl below ↦ get_or_append_left pcs (pc ∷ []) 0 k (let old = h.all in omega arith) ∙ h.each k below
       | inr past ↦
           let here : k ≡ count = omega arith in
-          get_or_push nexts next d k (h.all ∙ sym here) ∙ is
-          ∙ ap (λ (n : ℕ). next_of image (alone_after image loads first n).core) (sym here)
+          get_or_push pcs pc 0 k (h.all ∙ sym here) ∙ is
+          ∙ ap (λ (n : ℕ). (next_of image (alone_after image loads first n).core).pc) (sym here)
+    ];
+  }
+
+  uses_on : (count : ℕ) (uses : List ℕ) (code : ℕ) → AreUses image loads first count uses →
+      code ≡ code_of (next_of image (alone_after image loads first count).core).used →
+      AreUses image loads first (count + 1) (uses ++ code ∷ [])
+  uses_on count uses code h is = record {
+    all = let old = h.all in length-append uses (code ∷ []) ∙ ap (λ (n : ℕ). n + 1) old;
+    each = λ k lt. elim (cases_lt k count) [
+      | inl below ↦ get_or_append_left uses (code ∷ []) 0 k (let old = h.all in omega arith) ∙ h.each k below
+      | inr past ↦
+          let here : k ≡ count = omega arith in
+          get_or_push uses code 0 k (h.all ∙ sym here) ∙ is
+          ∙ ap (λ (n : ℕ). code_of (next_of image (alone_after image loads first n).core).used) (sym here)
     ];
   }
 
@@ -97,16 +124,20 @@ module _ (image : Contents) (loads : List LoadNote) (first : Alone) where
 
   pub run_on : (count : ℕ) (run new : Run) (alone after : Alone) (next : Next) →
       IsRunTo image loads first count run alone →
-      next ≡ next_of image alone.core → after ≡ goes_on image loads alone → new.nexts ≡ run.nexts ++ next ∷ [] →
-      new.marks ≡ marked run.marks (count + 1) after → IsRunTo image loads first (count + 1) new after
-  run_on count run new alone after next h next_is after_is nexts marks =
+      next ≡ next_of image alone.core → after ≡ goes_on image loads alone → new.pcs ≡ run.pcs ++ next.pc ∷ [] →
+      new.uses ≡ run.uses ++ code_of next.used ∷ [] → new.marks ≡ marked run.marks (count + 1) after → IsRunTo image loads first (count + 1) new after
+  run_on count run new alone after next h next_is after_is pcs uses marks =
       let here : after ≡ alone_after image loads first (count + 1) =
       after_is ∙ ap (λ (a : Alone). goes_on image loads a) h.here ∙ one_more count in
+      let there : next ≡ next_of image (alone_after image loads first count).core =
+      next_is ∙ ap (λ (a : Alone). next_of image a.core) h.here in
       record {
         is_run = record {
-          noted = subst (λ (l : List Next). AreNoted image loads first (count + 1) l) (sym nexts)
-              (noted_on count run.nexts next h.is_run.noted
-              (next_is ∙ ap (λ (a : Alone). next_of image a.core) h.here));
+          pcs = subst (λ (l : List ℕ). ArePcs image loads first (count + 1) l) (sym pcs)
+              (pcs_on count run.pcs next.pc h.is_run.pcs (ap (λ (n : Next). n.pc) there));
+          uses = subst (λ (l : List ℕ). AreUses image loads first (count + 1) l) (sym uses)
+              (uses_on count run.uses (code_of next.used) h.is_run.uses
+              (ap (λ (n : Next). code_of n.used) there));
           marked = subst (λ (l : List Alone). AreMarked image loads first (count + 1) l) (sym marks)
               (marked_on count run.marks after h.is_run.marked here);
         };

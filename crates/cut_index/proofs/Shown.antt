@@ -1,21 +1,19 @@
 -- What an index shows at a closed cut is what a replay shows that has come there.
-use Rattle.std.proofs.Common.{◌≡◌, ◌∙◌, ℕ, ◌+◌, ◌<◌, ◌≤◌, true, length, refl, sym, ap, subst, arith}
-use Rattle.std.specs.Prelude.{slice_index, slice_set}
+use Rattle.std.proofs.Common.{◌≡◌, ◌∙◌, ℕ, ◌<◌, ◌≤◌, length, sym, ap, subst, arith}
+use Rattle.std.specs.Prelude.{slice_index}
 use Rattle.rtr_types.specs.declared.cut.Cut.{Cut}
 use Rattle.rv_core.specs.declared.core_state.Core.{Core}
-use Rattle.rv_core.specs.declared.core_state.Need.{Need}
 use Rattle.rv_core.specs.declared.outcome.Outcome.{Outcome}
 use Rattle.replay_core.specs.Answers.{UnderWay, cut_of}
-use Rattle.replay_core.specs.Orders.{counts_in, is_ready}
-use Rattle.replay_core.specs.Plans.{plan_of}
-use Rattle.replay_core.specs.Play.{core_at, need_at, place, use_of}
+use Rattle.replay_core.specs.Orders.{counts_in}
+use Rattle.replay_core.specs.Play.{core_at, need_at, use_of}
 use Rattle.replay_audit.specs.Audits.{Findings}
 use Rattle.cut_replay.specs.ClosedCuts.{count_in, IsClosed}
 use Rattle.race_queries.specs.Queries.{IsAudited}
 use Rattle.cut_index.specs.declared.alone.Next.{Next}
 use Rattle.cut_index.specs.Indexes.{IsCoreAt, IsNextAt, IsWordAt}
 use Rattle.cut_index.specs.Standings.{reached, standing_at}
-use Rattle.cut_index.proofs.AtCuts.{more_closed, more_reached, next_below, next_inside, reached_at, reached_count}
+use Rattle.cut_index.proofs.AtCuts.{reached_at, reached_count}
 use Rattle.cut_index.proofs.AtCuts.{reached_cut}
 
 module _ (f : Findings) (h : IsAudited f) (cut : Cut) (closed : IsClosed f.which f.recording cut) (u : UnderWay)
@@ -76,33 +74,3 @@ module _ (f : Findings) (h : IsAudited f) (cut : Cut) (closed : IsClosed f.which
   pub shown_word : (word value : ℕ) → IsWordAt f cut word value → value ≡ slice_index u.state.words word
   shown_word word value at = at s (reached_at f.which f.recording h.valid h.passed.determinate cut closed)
       ∙ ap (λ (v : UnderWay). slice_index v.state.words word) is
-
-  -- ---- one instruction more
-
-  module _ (core : ℕ) (ready : is_ready u.plan (counts_in u.state) core ≡ true) where
-    ready_here : is_ready (plan_of f.which f.recording) (counts_in (reached f.which f.recording cut)) core ≡ true
-    ready_here = ap (λ (v : UnderWay). is_ready v.plan (counts_in v.state) core) is ∙ ready
-
-    pub shown_next : core < f.recording.params.cores
-    shown_next = next_inside f.which f.recording h.valid h.passed.determinate cut closed core ready_here
-
-    pub shown_next_place : core < length cut.counts
-    shown_next_place =
-        let lt = shown_next in let wide = closed.is_cut.places in let few = h.valid.params.cores in omega arith
-
-    pub shown_below : slice_index cut.counts core < slice_index f.recording.totals core
-    shown_below = next_below f.which f.recording h.valid h.passed.determinate cut closed core ready_here
-
-    module _ (more : Cut) (cores : more.cores ≡ cut.cores)
-        (counts : more.counts ≡ slice_set cut.counts core (slice_index cut.counts core + 1)) where
-      pub shown_closed : IsClosed f.which f.recording more
-      shown_closed =
-          more_closed f.which f.recording h.valid h.passed.determinate cut closed core ready_here more cores counts
-
-      pub shown_plan : (v : UnderWay) → standing_at f.which f.recording more ≡ v → v.plan ≡ u.plan
-      shown_plan v new = ap (λ (w : UnderWay). w.plan) (sym new) ∙ ap (λ (w : UnderWay). w.plan) is
-
-      pub shown_state : (v : UnderWay) → standing_at f.which f.recording more ≡ v → v.state ≡ place u.plan u.state core
-      shown_state v new = ap (λ (w : UnderWay). w.state) (sym new)
-          ∙ more_reached f.which f.recording h.valid h.passed.determinate cut closed core ready_here more cores counts
-          ∙ ap (λ (w : UnderWay). place w.plan w.state core) is

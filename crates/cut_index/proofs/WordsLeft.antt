@@ -1,12 +1,11 @@
 -- What a play leaves of a word is what its accesses leave of it.
-use Rattle.std.proofs.Common.{inl, inr, ◌≡◌, ◌⊎◌, ◌≢◌, ℕ, ◌+◌, ◌<◌, Bool, true, false, cond, ◌&&◌, List, [], ◌∷◌, ◌++◌}
+use Rattle.std.proofs.Common.{◌≡◌, ◌⊎◌, ◌≢◌, ℕ, ◌+◌, ◌<◌, Bool, true, false, cond, ◌&&◌, List, [], ◌∷◌, ◌++◌}
 use Rattle.std.proofs.Common.{length, refl, sym, ap, ◌∙◌, get_or-set_same, get_or-set_other, eq-eqb, ne_eqb, arith}
-use Rattle.std.specs.Prelude.{nat_eq, slice_index, slice_set, Option, Some, None}
+use Rattle.std.specs.Prelude.{nat_eq, slice_index, slice_set, Some, None}
 use Rattle.std.proofs.Math.Bool.{and-false}
 use native.Mathlib.Decide.{ℕ_discrete}
 use Rattle.rtr_types.specs.Accesses.{is_write}
 use Rattle.rtr_types.specs.declared.access.Access.{Access}
-use Rattle.rtr_types.specs.declared.access.Kind.{Kind}
 use Rattle.rtr_types.specs.declared.instr.Instr.{Instr}
 use Rattle.rv_core.specs.declared.outcome.Outcome.{Outcome}
 use Rattle.replay_core.specs.Plans.{Plan}

@@ -2,12 +2,12 @@
 -- leads to those behind it.
 use Rattle.std.proofs.Common.{inl, inr, ◌≡◌, ◌⊎◌, ◌≢◌, ℕ, zero, suc, ◌+◌, ◌-◌, ◌<◌, ◌≤◌, Bool, true, false, cond, List}
 use Rattle.std.proofs.Common.{[]}
-use Rattle.std.proofs.Common.{◌∷◌, ◌++◌, length, take, drop, replicate, refl, sym, ap, ◌∙◌, subst, arith, IsTrue}
+use Rattle.std.proofs.Common.{◌∷◌, ◌++◌, length, take, drop, replicate, refl, sym, ap, ◌∙◌, arith, IsTrue}
 use Rattle.std.proofs.Common.{length-set, length-drop, get_or-set_same, get_or-set_other, take-append-drop}
 use Rattle.std.specs.Prelude.{filter, map, nat_eq, slice_index_or, slice_set, ◌&&◌}
-use Rattle.std.proofs.lemmas.Bool.{and_parts, cases_lt}
+use Rattle.std.proofs.lemmas.Bool.{and_parts}
 use Rattle.std.proofs.lemmas.Bool.Decides.{nat_tests}
-use Rattle.std.proofs.lemmas.List.{drop_more, length-replicate, map-append, take_more}
+use Rattle.std.proofs.lemmas.List.{length-replicate, map-append, take_more}
 use Rattle.std.proofs.lemmas.List.Elements.{filter_more}
 use native.Mathlib.Decide.{ℕ_discrete}
 use Rattle.rtr_types.specs.Accesses.{is_write}

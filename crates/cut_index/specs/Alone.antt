@@ -1,6 +1,6 @@
 -- Rule: a core on its own, with its own loads: goes_on, alone_after
 -- One core on its own. It needs no other core and no memory, only what its own loads read, one after the other.
-use Rattle.std.specs.Prelude.{ℕ, zero, suc, ◌+◌, Bool, false, List, Option, Some, None, if◌then◌else◌, slice_index_or}
+use Rattle.std.specs.Prelude.{ℕ, zero, suc, ◌+◌, Bool, false, List, Some, None, if◌then◌else◌, slice_index_or}
 use Rattle.rtr_types.specs.Accesses.{is_read}
 use Rattle.image_mem.specs.Contents.{Contents}
 use Rattle.rv_core.specs.declared.outcome.LoadNote.{LoadNote}

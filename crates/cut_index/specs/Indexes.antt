@@ -14,6 +14,7 @@ use Rattle.cut_replay.specs.CutStates.{IsStateAt}
 use Rattle.cut_index.specs.Alone.{alone_first}
 use Rattle.cut_index.specs.AloneLaws.{next_at, own_loads}
 use Rattle.cut_index.specs.Runs.{IsRun}
+use Rattle.cut_index.specs.Touches.{used_by}
 use Rattle.cut_index.specs.Writes.{AreWrites}
 use Rattle.cut_index.specs.declared.alone.Next.{Next}
 use Rattle.cut_index.specs.declared.runs.Run.{Run}
@@ -35,11 +36,16 @@ abbrev pub IsNextAt : Findings → (core count : ℕ) → Next → Type 0
 IsNextAt a core count next = (cut : Cut) (outcome : Outcome) → IsStateAt a.which a.recording cut outcome →
     count_in cut core ≡ count → ComesNext a core outcome next
 
--- and so much of each of its instructions
-pub record AreNextsOf (a : Findings) (core : ℕ) (nexts : List Next) : Type 0 where
-  pub all : length nexts ≡ slice_index a.recording.totals core
-  pub each : (count : ℕ) → count < length nexts → (d : Next) →
-      slice_index_or nexts count d ≡ next_at a.which a.recording core count
+-- the addresses of a core's instructions
+pub record ArePcsOf (a : Findings) (core : ℕ) (pcs : List ℕ) : Type 0 where
+  pub all : length pcs ≡ slice_index a.recording.totals core
+  pub each : (count : ℕ) → count < length pcs → slice_index pcs count ≡ (next_at a.which a.recording core count).pc
+
+-- and the numbers that stand for their accesses
+pub record AreUsesOf (a : Findings) (core : ℕ) (uses : List ℕ) : Type 0 where
+  pub all : length uses ≡ slice_index a.recording.totals core
+  pub each : (count : ℕ) → count < length uses →
+      used_by (slice_index uses count) ≡ (next_at a.which a.recording core count).used
 
 -- so the word stands at the cut
 abbrev pub IsWordAt : Findings → Cut → (word : ℕ) → (value : ℕ) → Type 0

@@ -2,6 +2,7 @@ pub mod Alone
 pub mod AloneLaws
 pub mod Left
 pub mod Words
+pub mod Touches
 pub mod Runs
 pub mod Writes
 pub mod Indexes

@@ -5,10 +5,11 @@ ghost use Rattle.replay_core.specs.Plans.{recorded_image};
 ghost use Rattle.replay_core.specs.Play.{loads_at};
 ghost use Rattle.cut_replay.specs.ClosedCuts.{IsClosed};
 ghost use Rattle.race_queries.specs.Queries.{IsAudited};
-ghost use Rattle.cut_index.specs.Indexes.{AreNextsOf, AreRuns, IsCoreAt, IsNextAt, IsRunOf, IsWordAt};
+ghost use Rattle.cut_index.specs.Indexes.{ArePcsOf, AreRuns, AreUsesOf, IsCoreAt, IsNextAt, IsRunOf, IsWordAt};
 
 use crate::alone::{Alone, Next, next_of};
 use crate::runs::Run;
+use crate::touches::used_by;
 use crate::writes::{Write, left_behind, writes_of};
 use image_mem::Image;
 use race_log::Recording;
@@ -49,8 +50,8 @@ impl<'a> Model for Index<'a> {
 }
 
 impl<'a> Index<'a> {
-    /// The index of an audited recording. Each core runs on its own, once. It takes some 13 bytes for each instruction
-    /// and 12 for each write. It is refused for want of memory alone.
+    /// The index of an audited recording. Each core runs on its own, once. It takes 8 bytes for each instruction, a
+    /// snapshot of a core for each 1,024 of them, and 12 bytes for each write. It is refused for want of memory alone.
     pub fn of(alloc: Global, audited: &'a Audited) -> Result<Index<'a>, AllocError>
         ensures { IfOk result (λ index. index ≡ audited.now) }
     {
@@ -110,15 +111,26 @@ impl<'a> Index<'a> {
         }
     }
 
-    /// What comes next at a core behind each number of its instructions, but for all.
-    pub fn nexts(&self, core: u8) -> &[Next]
+    /// The address of what comes next at a core behind each number of its instructions, but for all.
+    pub fn pcs(&self, core: u8) -> &[u32]
         requires { core < self.now.recording.params.cores }
-        ensures { AreNextsOf self.now core result.now }
+        ensures { ArePcsOf self.now core result.now }
     {
         // What always holds of an index: it has a run for each core of its recording.
         let _ = self.audited.recording();
         let run = &self.runs[core as usize];
-        run.nexts.as_slice()
+        run.pcs.as_slice()
+    }
+
+    /// The numbers that stand for the accesses that come next there (`used_by`).
+    pub fn uses(&self, core: u8) -> &[u32]
+        requires { core < self.now.recording.params.cores }
+        ensures { AreUsesOf self.now core result.now }
+    {
+        // What always holds of an index: it has a run for each core of its recording.
+        let _ = self.audited.recording();
+        let run = &self.runs[core as usize];
+        run.uses.as_slice()
     }
 
     /// What comes next at a core, as it was noted.
@@ -130,7 +142,10 @@ impl<'a> Index<'a> {
         // What always holds of an index: it has a run for each core of its recording.
         let _ = self.audited.recording();
         let run = &self.runs[core as usize];
-        run.nexts.as_slice()[count as usize]
+        Next {
+            pc: run.pcs.as_slice()[count as usize],
+            used: used_by(run.uses.as_slice()[count as usize]),
+        }
     }
 
     /// A word at a closed cut, by its index. Its last write in the cut is found by halving.

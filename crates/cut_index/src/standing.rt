@@ -1,9 +1,9 @@
 //! What a replay shows that has come to a closed cut, by an index.
-ghost use Rattle.std.specs.Prelude.{◌≡◌, ◌<◌, ◌≤◌, length, slice_index, true};
+ghost use Rattle.std.specs.Prelude.{◌≡◌, ◌<◌, ◌≤◌, length, slice_index};
 ghost use Rattle.rtr_types.specs.declared.TheConstants.{CORES_MAX};
 ghost use Rattle.replay_core.specs.Answers.{UsesWithin, cut_of};
-ghost use Rattle.replay_core.specs.Orders.{counts_in, is_ready};
-ghost use Rattle.replay_core.specs.Play.{core_at, need_at, place, use_of};
+ghost use Rattle.replay_core.specs.Orders.{counts_in};
+ghost use Rattle.replay_core.specs.Play.{core_at, need_at, use_of};
 ghost use Rattle.cut_replay.specs.ClosedCuts.{IsClosed};
 ghost use Rattle.cut_index.specs.Standings.{standing_at};
 
@@ -126,16 +126,5 @@ impl<'i, 'a> Standing<'i, 'a> {
         // What always holds of an index: its recording was audited.
         let _ = self.index.audited();
         self.index.word(&self.cut, word)
-    }
-
-    /// The core, which is ready, retires its next instruction: the cut has one more of it.
-    pub fn advance(&mut self, core: u8)
-        requires { is_ready self.old.plan (counts_in self.old.state) core ≡ true }
-        ensures plan { self.new.plan ≡ self.old.plan }
-        ensures state { self.new.state ≡ place self.old.plan self.old.state core }
-    {
-        // What always holds of an index: its recording was audited.
-        let _ = self.index.audited();
-        self.cut.counts[core as usize] += 1;
     }
 }

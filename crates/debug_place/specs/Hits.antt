@@ -1,7 +1,7 @@
 -- Rule: what a test of an instruction says of a core's counts and of the places of a way: hit, stops_behind, stops_on
 -- Which instructions a test stops before, by the core's own count alone. Counts and places are numbers from 0.
 use Rattle.std.specs.Prelude.{◌≡◌, ℕ, ◌+◌, ◌<◌, ◌≤◌, Bool, true, false, ◌&&◌, ◌||◌, nat_eq, List, take}
-use Rattle.std.specs.Prelude.{slice_index, slice_index_or}
+use Rattle.std.specs.Prelude.{slice_index}
 use Rattle.std.specs.Prelude.{Option, MatchOption}
 use Rattle.rtr_types.specs.declared.cut.Cut.{Cut}
 use Rattle.rtr_types.specs.declared.pairs.Which.{Which}
@@ -9,23 +9,29 @@ use Rattle.rv_core.specs.declared.outcome.Outcome.{Outcome}
 use Rattle.race_log.specs.declared.recording.Recording.{Recording}
 use Rattle.replay_core.specs.Orders.{counts, counts_in, nought}
 use Rattle.replay_core.specs.Plans.{Plan}
-use Rattle.replay_core.specs.Play.{core_at}
+use Rattle.replay_core.specs.Play.{Use, core_at}
 use Rattle.cut_replay.specs.ClosedCuts.{count_in}
 use Rattle.cut_moves.specs.Ways.{between, is_on_way}
 use Rattle.cut_index.specs.AloneLaws.{next_at}
 use Rattle.cut_index.specs.Runs.{next_of}
+use Rattle.cut_index.specs.Touches.{used_by}
 use Rattle.cut_index.specs.declared.alone.Next.{Next}
 
 -- ---- a test of an instruction
 
--- what stops a core before an instruction of its own, and before its last one
+-- what stops a core before an instruction of its own: its address, or its access; and before its last one
 pub record Hits : Type 0 where
-  pub each : (core : ℕ) → Next → Bool
+  pub by_pc : (core pc : ℕ) → Bool
+  pub by_use : (core : ℕ) → Use → Bool
   pub last : (core : ℕ) → Bool
+
+-- it stops the core before this instruction, whichever it is
+abbrev pub hits_next : Hits → (core : ℕ) → Next → Bool
+hits_next hits core next = hits.by_pc core next.pc || hits.by_use core next.used
 
 -- it stops the core behind so many of its instructions, of so many in all, before this one
 abbrev pub hit : Hits → (core count total : ℕ) → Next → Bool
-hit hits core count total next = hits.last core && nat_eq (count + 1) total || hits.each core next
+hit hits core count total next = hits.last core && nat_eq (count + 1) total || hits_next hits core next
 
 -- the same of what comes next at a core in a state
 abbrev pub hit_in : Hits → Plan → Outcome → (core : ℕ) → Bool
@@ -36,9 +42,16 @@ hit_in hits p s core =
 abbrev pub stops_behind : Hits → Which → Recording → (core count : ℕ) → Bool
 stops_behind hits which r core count = hit hits core count (slice_index r.totals core) (next_at which r core count)
 
--- the same by a list of what comes next at the core, but for its last instruction
-abbrev pub hits_at : Hits → (core : ℕ) → List Next → (d : Next) → (count : ℕ) → Bool
-hits_at hits core nexts d count = hits.each core (slice_index_or nexts count d)
+-- the same of an instruction that isn't its last
+abbrev pub hits_at : Hits → Which → Recording → (core count : ℕ) → Bool
+hits_at hits which r core count = hits_next hits core (next_at which r core count)
+
+-- and by lists of the addresses and of the accesses
+abbrev pub pc_hits : Hits → (core : ℕ) → (pcs : List ℕ) → (count : ℕ) → Bool
+pc_hits hits core pcs count = hits.by_pc core (slice_index pcs count)
+
+abbrev pub use_hits : Hits → (core : ℕ) → (uses : List ℕ) → (count : ℕ) → Bool
+use_hits hits core uses count = hits.by_use core (used_by (slice_index uses count))
 
 -- the last of so many instructions, which comes from one count on, before another, stops the core
 pub record EndsIn (hits : Hits) (core total from past : ℕ) : Type 0 where

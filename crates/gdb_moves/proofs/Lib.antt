@@ -6,3 +6,4 @@ pub mod BackLemmas
 pub mod EndLemmas
 pub mod RangeLemmas
 pub mod StopTests
+pub mod MarkLemmas

@@ -1,4 +1,5 @@
 pub mod Points
+pub mod Marks
 pub mod Ends
 pub mod Stopping
 pub mod Directions

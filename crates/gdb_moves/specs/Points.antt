@@ -1,6 +1,6 @@
 -- The points that are set: breakpoints, and ranges of memory that are watched.
-use Rattle.std.specs.Prelude.{ℕ, ◌+◌, ◌*◌, ◌&&◌, ◌||◌, Bool, true, false, not, nat_eq, nat_lt, List, [], ◌∷◌, ◌++◌}
-use Rattle.std.specs.Prelude.{Option, Some, None, count_by, filter, if◌then◌else◌}
+use Rattle.std.specs.Prelude.{ℕ, ◌+◌, ◌*◌, ◌/◌, ◌%◌, ◌&&◌, ◌||◌, Bool, true, false, not, nat_eq, nat_lt, List, [], ◌∷◌, ◌++◌}
+use Rattle.std.specs.Prelude.{Option, Some, None, count_by, filter, if◌then◌else◌, is_some}
 use Rattle.std.specs.List.{list_any}
 use Rattle.rtr_types.specs.Accesses.{is_read, is_write}
 use Rattle.rtr_types.specs.declared.access.Kind.{Kind}
@@ -74,6 +74,17 @@ is_break pc point = not (is_watch point.kind) && nat_eq point.at pc
 abbrev pub breaks_at : List Point → (pc : ℕ) → Bool
 breaks_at points pc = list_any (is_break pc) points
 
+-- any of them is a breakpoint, or watches memory
+abbrev pub has_break : List Point → Bool
+has_break points = list_any (λ point. not (is_watch point.kind)) points
+
+abbrev pub has_watch : List Point → Bool
+has_watch points = list_any (λ point. is_watch point.kind) points
+
+-- an address's mark, of 64
+abbrev pub mark_of : (at : ℕ) → ℕ
+mark_of at = at / 4 % 64
+
 -- points of this kind watch for accesses of that one
 abbrev pub is_of_kind : PointKind → Kind → Bool
 is_of_kind Software used = false
@@ -99,6 +110,10 @@ first_touched (point ∷ points) used = if touches used point then Some point el
 abbrev pub touched : List Point → Option (Kind × ℕ) → Option Point
 touched points None = None
 touched points (Some used) = first_touched points used
+
+-- whether there is one
+abbrev pub is_watching : List Point → Option (Kind × ℕ) → Bool
+is_watching points used = is_some (touched points used)
 
 -- what a stop at a point says, by its kind and where it begins
 abbrev pub why_of_kind : PointKind → (at : ℕ) → Why

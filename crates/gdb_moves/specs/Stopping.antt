@@ -31,7 +31,7 @@ stopping_by points paused heard ends =
 -- what the code has of it
 abbrev pub stopping_of : Hearing → Stopping
 stopping_of hearing = record {
-  points = hearing.points.now;
+  points = hearing.points;
   paused = hearing.paused;
   heard = hearing.heard;
   ends = end_in hearing.image.now hearing.audited.now.outcome;
@@ -58,8 +58,8 @@ stops_at stopping p s core =
 -- the same by a core's next instruction
 abbrev pub hits_of : Stopping → Hits
 hits_of stopping = record {
-  each = λ core next. has stopping.paused core && breaks_at stopping.points next.pc
-      || is_some (touched stopping.points next.used);
+  by_pc = λ core pc. has stopping.paused core && breaks_at stopping.points pc;
+  by_use = λ core used. is_some (touched stopping.points used);
   last = λ core. has stopping.heard core && is_some (signal_of (stopping.ends core));
 }
 

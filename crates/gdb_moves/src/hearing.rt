@@ -7,18 +7,18 @@ ghost use Rattle.gdb_moves.specs.Points.{breaks_at};
 ghost use Rattle.gdb_moves.specs.Stopping.{hits_of, own_test, stopping_by, stopping_of, stops_at};
 
 use crate::ends::{end_of, signal_of};
-use crate::points::{Point, breaks_at, touched};
-use cut_index::Next;
+use crate::marked::Marked;
+use crate::points::{Point, touched};
 use debug_place::Stops;
 use image_mem::Image;
 use replay_audit::Audited;
-use rtr_types::CoreSet;
+use rtr_types::{CoreSet, Kind};
 
 /// What stops a move of an audited recording's place: points, and programs that end by a fault.
-#[derive(Clone, Copy)]
+#[derive(Drop)]
 pub(crate) struct Hearing<'a> {
     /// The points that are set.
-    pub points: &'a [Point],
+    pub points: Marked<'a>,
     /// The cores that breakpoints stop.
     pub paused: CoreSet,
     /// The cores whose faults stop.
@@ -43,7 +43,7 @@ impl<'a> Hearing<'a> {
             ≡ stopping_by points.now paused heard (end_in image.now audited.now.outcome) }
     {
         Hearing {
-            points,
+            points: Marked::of(points),
             paused,
             heard,
             audited,
@@ -56,9 +56,9 @@ impl Hearing<'_> {
     /// Whether a breakpoint stops the core before the instruction at the address.
     pub(crate) fn breaks(&self, core: u8, pc: u32) -> bool
         requires { core < CORES_MAX }
-        ensures { result ≡ (has self.now.paused core && breaks_at self.now.points.now pc) }
+        ensures { result ≡ (has self.now.paused core && breaks_at self.now.points pc) }
     {
-        self.paused.has(core) && breaks_at(self.points, pc)
+        self.paused.has(core) && self.points.breaks(pc)
     }
 }
 
@@ -69,8 +69,12 @@ impl Stops for Hearing<'_> {
 
     ghost own = { λ hearing plan state core. own_test (stopping_of hearing) plan state core };
 
-    fn hits(&self, core: u8, next: Next) -> bool {
-        self.breaks(core, next.pc) || touched(self.points, next.used).is_some()
+    fn hits_pc(&self, core: u8, pc: u32) -> bool {
+        self.breaks(core, pc)
+    }
+
+    fn hits_use(&self, _core: u8, used: Option<(Kind, u32)>) -> bool {
+        touched(self.points.all(), used).is_some()
     }
 
     fn stops_last(&self, core: u8) -> bool {
@@ -78,7 +82,11 @@ impl Stops for Hearing<'_> {
             && signal_of(end_of(self.audited.outcome(), self.image, core)).is_some()
     }
 
-    fn passes_all(&self, _core: u8) -> bool {
-        self.points.is_empty()
+    fn passes_pcs(&self, core: u8) -> bool {
+        !self.paused.has(core) || self.points.has_no_breaks()
+    }
+
+    fn passes_uses(&self, _core: u8) -> bool {
+        self.points.has_no_watches()
     }
 }

@@ -17,6 +17,7 @@ mod direction;
 mod ends;
 mod hearing;
 pub mod laws;
+mod marked;
 mod moves;
 mod order;
 mod points;

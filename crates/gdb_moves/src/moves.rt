@@ -182,7 +182,7 @@ impl Hearing<'_> {
         ensures halts { IfOk result (HaltsIn direction (stopping_of self.now) lead core place.old place.new) }
         ensures core { IfOk result (λ stop. stop.core < place.old.recording.params.cores) }
     {
-        let watched = touched(self.points, place.next_use(core));
+        let watched = touched(self.points.all(), place.next_use(core));
         match direction {
             Direction::Forward => {
                 if self.breaks(core, place.core(core).pc()) {

@@ -1,6 +1,6 @@
 //! The points that are set: breakpoints, and ranges of memory that are watched.
 ghost use Rattle.std.specs.Prelude.{◌≡◌, IfOk, OnErr, OnOk, count_by, filter, not};
-ghost use Rattle.gdb_moves.specs.Points.{breaks_at, first_touched, has_room, is_break, is_of_kind, is_point};
+ghost use Rattle.gdb_moves.specs.Points.{breaks_at, first_touched, has_break, has_room, has_watch, is_break, is_of_kind, is_point};
 ghost use Rattle.gdb_moves.specs.Points.{is_same_kind};
 ghost use Rattle.gdb_moves.specs.Points.{is_set, is_watch, kind_digit, meets, point_of, takes, touched, touches};
 ghost use Rattle.gdb_moves.specs.Points.{why_of};
@@ -150,6 +150,20 @@ pub(crate) fn breaks_at(points: &[Point], pc: u32) -> bool
     ensures { result ≡ breaks_at points.now pc }
 {
     points.iter().any(|point| is_break(pc, *point))
+}
+
+/// Whether any of them is a breakpoint.
+pub(crate) fn has_break(points: &[Point]) -> bool
+    ensures { result ≡ has_break points.now }
+{
+    points.iter().any(|point| !is_watch(point.kind))
+}
+
+/// Whether any of them watches memory.
+pub(crate) fn has_watch(points: &[Point]) -> bool
+    ensures { result ≡ has_watch points.now }
+{
+    points.iter().any(|point| is_watch(point.kind))
 }
 
 /// Whether points of this kind watch for accesses of that one.

@@ -47,7 +47,7 @@ impl Hearing<'_> {
         for taken in count_of(place, core)..total {
             let before = count_of(place, core);
             let stop = self.step_core(alloc, place, Direction::Forward, core)?;
-            if !goes_on(self.points, place, range, core, total, before, stop) {
+            if !goes_on(self.points.all(), place, range, core, total, before, stop) {
                 return Ok(stop);
             }
         }

@@ -1,15 +1,15 @@
 //! Ways on which a test stops a place.
 ghost use Rattle.std.specs.Prelude.{IfOk, IfSome, false, nat_eq};
-ghost use Rattle.std.proofs.Common.{refl};
+ghost use Rattle.std.proofs.Common.{sym};
+ghost use Rattle.std.proofs.Math.Bool.{or-false};
 ghost use Rattle.cut_replay.specs.ClosedCuts.{IsClosed};
 ghost use Rattle.replay_core.specs.Play.{core_at};
 
 use crate::handed_over::{counts, handed_over};
-use cut_index::Next;
 use cut_replay::{cut_with, has_instr};
 use debug_place::{Place, Stops};
 use replay_audit::Audited;
-use rtr_types::{Cut, Instr};
+use rtr_types::{Cut, Instr, Kind};
 use std::alloc::{AllocError, Global};
 use std::test::Fail;
 
@@ -20,20 +20,32 @@ struct Breakpoint(u32);
 impl Stops for Breakpoint {
     ghost stops = { λ point plan state core. nat_eq (core_at state core).pc point.0 };
 
-    ghost hits = { λ point. record { each = λ core next. nat_eq next.pc point.0; last = λ core. false } };
+    ghost hits = { λ point. record {
+      by_pc = λ core pc. nat_eq pc point.0;
+      by_use = λ core used. false;
+      last = λ core. false;
+    } };
 
-    ghost own = { λ point plan state core. refl };
+    ghost own = { λ point plan state core. sym (or-false (nat_eq (core_at state core).pc point.0)) };
 
-    fn hits(&self, _core: u8, next: Next) -> bool {
-        next.pc == self.0
+    fn hits_pc(&self, _core: u8, pc: u32) -> bool {
+        pc == self.0
+    }
+
+    fn hits_use(&self, _core: u8, _used: Option<(Kind, u32)>) -> bool {
+        false
     }
 
     fn stops_last(&self, _core: u8) -> bool {
         false
     }
 
-    fn passes_all(&self, _core: u8) -> bool {
+    fn passes_pcs(&self, _core: u8) -> bool {
         false
+    }
+
+    fn passes_uses(&self, _core: u8) -> bool {
+        true
     }
 }
 

@@ -1,4 +1,4 @@
-use Rattle.std.proofs.Common.{◌≡◌, ◌∙◌, ◌<◌, List, ℕ, sym, ap, subst}
+use Rattle.std.proofs.Common.{◌≡◌, ◌∙◌, ◌<◌, List, ℕ, ap}
 use Rattle.std.specs.Prelude.{slice_index_or}
 use Rattle.race_log.specs.declared.recording.Recording.{Recording}
 use Rattle.race_queries.specs.Queries.{IsAudited}

@@ -1,14 +1,12 @@
-use Rattle.std.proofs.Common.{List, ◌<◌, sym, subst}
-use Rattle.std.specs.Prelude.{None, slice_index, slice_index_or}
+use Rattle.std.proofs.Common.{List, ℕ, ◌<◌, ◌∙◌, ap, sym, subst}
+use Rattle.std.specs.Prelude.{slice_index}
 use Rattle.replay_audit.specs.Audits.{Findings}
 use Rattle.cut_index.specs.declared.alone.Next.{Next}
 use Rattle.cut_index.specs.declared.runs.Run.{Run}
+use Rattle.cut_index.specs.Touches.{used_by}
 use Rattle.cut_index.specs.Indexes.{IsNextAt, IsRunOf}
 use Rattle.cut_index.proofs.Indexed.{noted_told}
 use Rattle.cut_index.proofs.index.Index.noted.Goals as goal
-
-abbrev nothing : Next
-nothing = record { pc = 0; used = None }
 
 pub returns : goal.returns
 returns c =
@@ -21,6 +19,9 @@ returns c =
     c.requires.count in
     let is = subst (λ (x : Run). IsRunOf a core x) (sym c.index-run.ensures)
     (c.self.invariant.runs_are.each core run inside) in
-    subst (λ (f : Findings). IsNextAt f core count (slice_index_or c.as_slice.result.now count nothing)) c.self.view_is
-    (subst (λ (l : List Next). IsNextAt a core count (slice_index_or l count nothing)) (sym c.as_slice.ensures)
-    (noted_told a c.self.invariant.audited core count inside run nothing is below))
+    let pc = slice_index c.as_slice.result.now count in
+    let next : Next = record { pc = pc; used = c.used_by.result } in
+    subst (λ (f : Findings). IsNextAt f core count next) c.self.view_is
+    (noted_told a c.self.invariant.audited core count inside run next is below
+    (ap (λ (l : List ℕ). slice_index l count) c.as_slice.ensures)
+    (c.used_by.ensures ∙ ap (λ (l : List ℕ). used_by (slice_index l count)) c.as_slice-2.ensures))

@@ -1,4 +1,4 @@
-use Rattle.std.proofs.Common.{◌<◌, ℕ, ap, subst, sym}
+use Rattle.std.proofs.Common.{◌<◌, subst, sym}
 use Rattle.std.specs.Prelude.{slice_index_or}
 use Rattle.race_log.specs.declared.recording.Recording.{Recording}
 use Rattle.cut_index.proofs.Indexed.{accesses_within}
