@@ -24,7 +24,7 @@ fn a_program_has_the_instructions_of_its_image(rt: HostRuntime) -> Result<(), Fa
     assert!(rt; program.op(2).is_none());
     assert!(rt; program.op(4).is_none());
     assert!(rt; program.op(8).is_none());
-    assert_eq!(rt; program.into_image().words(), 2);
+    assert!(rt; program.into_image().words() == 2);
     Ok(())
 }
 
@@ -42,7 +42,7 @@ fn at_16(alloc: Global, word: u32, x1: u32, x2: u32) -> Result<(Image, Core), Fa
 // The core's next instruction needs this, and retires; the word's value after it.
 fn retired(rt: &impl Abort, image: &Image, core: &mut Core, want: Need, old: u32) -> u32 {
     let need = core.need(image);
-    assert_eq!(rt; need, want);
+    assert!(rt; need == want);
     assert!(rt; !need.is_done());
     core.finish(image, old)
 }
@@ -92,7 +92,7 @@ fn results_go_to_the_register(rt: HostRuntime) -> Result<(), Fail> {
     ];
     for (word, x1, x2, want) in steps {
         let left = left_of_one(&rt, rt.alloc(), word, (x1, x2), Need::Local, 9)?;
-        assert_eq!(rt; left, [0, 20, 1, 0, x1, x2, want], "{word:x}");
+        assert!(rt; left == [0, 20, 1, 0, x1, x2, want], "{word:x}");
     }
     Ok(())
 }
@@ -115,7 +115,7 @@ fn jumps_and_branches_go_to_their_targets(rt: HostRuntime) -> Result<(), Fail> {
     ];
     for (word, x1, x2, pc, x1_after, x3_after) in steps {
         let left = left_of_one(&rt, rt.alloc(), word, (x1, x2), Need::Local, 9)?;
-        assert_eq!(rt; left, [0, pc, 1, 0, x1_after, x2, x3_after], "{word:x}");
+        assert!(rt; left == [0, pc, 1, 0, x1_after, x2, x3_after], "{word:x}");
     }
     Ok(())
 }
@@ -144,7 +144,7 @@ fn loads_and_stores_act_on_lanes(rt: HostRuntime) -> Result<(), Fail> {
     ];
     for (word, x1, want, old, x3, value) in steps {
         let left = left_of_one(&rt, rt.alloc(), word, (x1, 0xaabb_ccdd), want, old)?;
-        assert_eq!(rt; left, [value, 20, 1, 0, x1, 0xaabb_ccdd, x3], "{word:x}");
+        assert!(rt; left == [value, 20, 1, 0, x1, 0xaabb_ccdd, x3], "{word:x}");
     }
     Ok(())
 }
@@ -176,7 +176,7 @@ fn atomics_act_on_their_word(rt: HostRuntime) -> Result<(), Fail> {
         (0xe020_a1af, 10, 0xffff_fffa), // amomaxu.w x3, x2, (x1)
     ] {
         let left = left_of_amo(&rt, rt.alloc(), word, old)?;
-        assert_eq!(rt; left, [value, 20, 1, 0, 32, 0xffff_fffa, old], "{word:x}");
+        assert!(rt; left == [value, 20, 1, 0, 32, 0xffff_fffa, old], "{word:x}");
     }
     // The word, and x1, x2 and x3 after it, where the memory word was 10.
     for (word, x1, x2, x3) in [
@@ -185,7 +185,7 @@ fn atomics_act_on_their_word(rt: HostRuntime) -> Result<(), Fail> {
         (0x0020_a02f, 32, 0xffff_fffa, 0), // amoadd.w x0, x2, (x1)
     ] {
         let left = left_of_amo(&rt, rt.alloc(), word, 10)?;
-        assert_eq!(rt; left, [4, 20, 1, 0, x1, x2, x3], "{word:x}");
+        assert!(rt; left == [4, 20, 1, 0, x1, x2, x3], "{word:x}");
     }
     assert!(rt; !Need::Amo { word: 8 }.is_whole());
     Ok(())
@@ -207,7 +207,7 @@ fn atomics_stop_by_their_address(rt: HostRuntime) -> Result<(), Fail> {
         (256, Stop::Address),
         (258, Stop::Align),
     ] {
-        assert_eq!(rt; stop_at_16(rt.alloc(), 0x0020_a1af, x1, 1)?, stop, "{x1}");
+        assert!(rt; stop_at_16(rt.alloc(), 0x0020_a1af, x1, 1)? == stop, "{x1}");
     }
     Ok(())
 }
@@ -258,8 +258,8 @@ fn stops_retire_nothing(rt: HostRuntime) -> Result<(), Fail> {
     ];
     for (word, stop) in stops {
         let (why, shown) = stood(&rt, rt.alloc(), word, 10_000, 1)?;
-        assert_eq!(rt; why, stop, "{word:x}");
-        assert_eq!(rt; shown, [3, 1, 4, 1, 3], "{word:x}");
+        assert!(rt; why == stop, "{word:x}");
+        assert!(rt; shown == [3, 1, 4, 1, 3], "{word:x}");
     }
     Ok(())
 }
@@ -275,8 +275,8 @@ fn the_last_instruction_decides(rt: HostRuntime) -> Result<(), Fail> {
     ];
     for (word, limit, stop) in stops {
         let (why, shown) = stood(&rt, rt.alloc(), word, limit, 2)?;
-        assert_eq!(rt; why, stop, "{word:x}");
-        assert_eq!(rt; shown, [3, 2, 8, 1, 3], "{word:x}");
+        assert!(rt; why == stop, "{word:x}");
+        assert!(rt; shown == [3, 2, 8, 1, 3], "{word:x}");
     }
     Ok(())
 }
@@ -298,9 +298,8 @@ fn stores_have_masks(rt: HostRuntime) -> Result<(), Fail> {
         (0x0020_a023, 0xffff_ffff, 0xaabb_ccdd), // sw x2, 0(x1)
     ];
     for (word, mask, bits) in stores {
-        assert_eq!(rt;
-            masked(&rt, rt.alloc(), word, 0xaabb_ccdd)?,
-            (mask, bits),
+        assert!(rt;
+            masked(&rt, rt.alloc(), word, 0xaabb_ccdd)? == (mask, bits),
             "{word:x}"
         );
     }
@@ -317,7 +316,7 @@ fn jumps_by_half_words_stop(rt: HostRuntime) -> Result<(), Fail> {
         (0x0020_8463, Stop::Total), // beq x1, x2, 8
     ];
     for (word, stop) in stops {
-        assert_eq!(rt; stop_at_16(rt.alloc(), word, 5, 5)?, stop, "{word:x}");
+        assert!(rt; stop_at_16(rt.alloc(), word, 5, 5)? == stop, "{word:x}");
     }
     Ok(())
 }

@@ -33,20 +33,14 @@ fn a_program_has_its_flat_image(rt: HostRuntime) -> Result<(), Fail> {
     let want = [
         0x6f, 0, 0, 1, 0, 0, 0, 0, 0, 0, 0, 0, 0, 0, 0, 0, 0x93, 0x02, 0x10, 0x00, 0x73, 0, 0, 0,
     ];
-    assert_eq!(rt; image.as_slice(), want.as_slice());
-    assert_eq!(rt;
-        flatten(rt.alloc(), &PROGRAM, 4).err(),
-        Some(ElfFault::Outside { index: 0 })
-    );
-    assert_eq!(rt;
-        flatten(rt.alloc(), &PROGRAM[..51], 8).err(),
-        Some(ElfFault::NotElf)
-    );
+    assert!(rt; image.as_slice() == want.as_slice());
+    assert!(rt; flatten(rt.alloc(), &PROGRAM, 4).err() == Some(ElfFault::Outside { index: 0 }));
+    assert!(rt; flatten(rt.alloc(), &PROGRAM[..51], 8).err() == Some(ElfFault::NotElf));
     let image = flatten(rt.alloc(), &TABLE_LAST, 8)?;
     let want = [
         0x6f, 0, 0, 1, 0, 0, 0, 0, 0, 0, 0, 0, 0, 0, 0, 0, 1, 2, 3, 4, 5, 6, 0, 0, 0, 0, 0, 0,
     ];
-    assert_eq!(rt; image.as_slice(), want.as_slice());
+    assert!(rt; image.as_slice() == want.as_slice());
     Ok(())
 }
 
@@ -104,9 +98,9 @@ fn a_linked_program_has_the_bytes_that_objcopy_gives(rt: HostRuntime) -> Result<
 fn is_copied(rt: &impl Abort, image: &[u8]) {
     assert!(rt; image.len() == 76);
     let start = [0x6f, 0, 0, 1, 0, 0, 0, 0, 0, 0, 0, 0, 0, 0, 0, 0];
-    assert_eq!(rt; &image[..16], start.as_slice());
-    assert_eq!(rt; &image[16..68], COPIED.as_slice());
-    assert_eq!(rt; &image[68..], [0; 8].as_slice());
+    assert!(rt; &image[..16] == start.as_slice());
+    assert!(rt; &image[16..68] == COPIED.as_slice());
+    assert!(rt; &image[68..] == [0; 8].as_slice());
 }
 
 // Two words of `TABLE_LAST` written over, and the length of the image for a memory of 8 words, or the fault.
@@ -491,7 +485,7 @@ fn each_fault_comes_in_its_place(rt: HostRuntime) -> Result<(), Fail> {
         LittleEndian::write_u32(&mut file[first..], case.first);
         LittleEndian::write_u32(&mut file[second..], case.second);
         let answer = flatten(rt.alloc(), &file, 8).map(|image| image.len());
-        assert_eq!(rt; answer, case.want, "{}", case.what);
+        assert!(rt; answer == case.want, "{}", case.what);
     }
     Ok(())
 }

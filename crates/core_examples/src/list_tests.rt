@@ -14,15 +14,15 @@ fn push(rt: &impl Abort, all: &mut RoomyLists<u32>, item: u32, len: usize) -> Re
     assert!(rt; all.has_room() && all.has_room_at(1));
     all.push(1, item);
     assert!(rt; all.count() == 2);
-    assert_eq!(rt; (all.list(0).len(), all.list(1).len()), (0, len));
+    assert!(rt; (all.list(0).len(), all.list(1).len()) == (0, len));
     Ok(())
 }
 
 // Of two lists the first is empty, and the second has these items.
 fn have<T: Copy + Debug + PartialEq>(rt: &impl Abort, lists: &[Items<T>], items: &[T]) {
     assert!(rt; lists.len() == 2);
-    assert_eq!(rt; lists[0].len(), 0);
-    assert_eq!(rt; lists[1].as_slice(), items);
+    assert!(rt; lists[0].len() == 0);
+    assert!(rt; lists[1].as_slice() == items);
 }
 
 #[test]

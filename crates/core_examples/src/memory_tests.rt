@@ -19,7 +19,7 @@ fn an_image_fetches_at_whole_words_alone(rt: HostRuntime) -> Result<(), Fail> {
         (4, None),
         (u32::MAX - 3, None),
     ] {
-        assert_eq!(rt; image.fetch(pc), want, "at {pc}");
+        assert!(rt; image.fetch(pc) == want, "at {pc}");
     }
     Ok(())
 }
@@ -27,9 +27,9 @@ fn an_image_fetches_at_whole_words_alone(rt: HostRuntime) -> Result<(), Fail> {
 #[test]
 fn an_image_gives_its_words(rt: HostRuntime) -> Result<(), Fail> {
     let image = image(rt.alloc())?;
-    assert_eq!(rt; (image.words(), image.bytes().len()), (4, 6));
+    assert!(rt; (image.words(), image.bytes().len()) == (4, 6));
     for (word, want) in [(0, 0x0050_0093), (1, 0x1234), (2, 0), (u32::MAX, 0)] {
-        assert_eq!(rt; image.word(word), want, "word {word}");
+        assert!(rt; image.word(word) == want, "word {word}");
     }
     Ok(())
 }
@@ -37,22 +37,19 @@ fn an_image_gives_its_words(rt: HostRuntime) -> Result<(), Fail> {
 #[test]
 fn an_image_gives_its_bytes_back(rt: HostRuntime) -> Result<(), Fail> {
     let bytes = image(rt.alloc())?.into_bytes();
-    assert_eq!(rt;
-        bytes.as_slice(),
-        [0x93, 0x00, 0x50, 0x00, 0x34, 0x12].as_slice()
-    );
+    assert!(rt; bytes.as_slice() == [0x93, 0x00, 0x50, 0x00, 0x34, 0x12].as_slice());
     Ok(())
 }
 
 #[test]
 fn a_memory_begins_with_its_image(rt: HostRuntime) -> Result<(), Fail> {
     let image = image(rt.alloc())?;
-    assert_eq!(rt; image.words(), 4);
+    assert!(rt; image.words() == 4);
     let mut memory = Memory::new(rt.alloc(), &image)?;
     memory.put(1, 7);
-    assert_eq!(rt; memory.get(0), 0x0050_0093);
-    assert_eq!(rt; memory.get(1), 7);
-    assert_eq!(rt; memory.get(3), 0);
+    assert!(rt; memory.get(0) == 0x0050_0093);
+    assert!(rt; memory.get(1) == 7);
+    assert!(rt; memory.get(3) == 0);
     Ok(())
 }
 
@@ -61,9 +58,9 @@ fn an_image_above_its_memory_is_refused(rt: HostRuntime) -> Result<(), Fail> {
     for (length, fits) in [(15, true), (16, true), (17, false)] {
         let bytes = vec![in rt.alloc(); 0; length]?;
         let image = Image::flat(bytes, 4);
-        assert_eq!(rt; image.is_ok(), fits, "length {length}");
+        assert!(rt; image.is_ok() == fits, "length {length}");
         if let Err(refused) = image {
-            assert_eq!(rt; refused, TooLarge);
+            assert!(rt; refused == TooLarge);
         }
     }
     Ok(())
@@ -75,19 +72,17 @@ fn lanes_are_replaced_alone(rt: HostRuntime) {
     let bytes = [0x1122_33dd, 0x1122_dd44, 0x11dd_3344, 0xdd22_3344];
     for address in 0..8 {
         let want = bytes[address as usize % 4];
-        assert_eq!(rt;
-            merge_lanes(word, lanes, address, 1),
-            want,
+        assert!(rt;
+            merge_lanes(word, lanes, address, 1) == want,
             "a byte at {address}"
         );
     }
     for (address, want) in [(4, 0x1122_ccdd), (6, 0xccdd_3344)] {
         assert!(rt; address % 2 == 0);
-        assert_eq!(rt;
-            merge_lanes(word, lanes, address, 2),
-            want,
+        assert!(rt;
+            merge_lanes(word, lanes, address, 2) == want,
             "a half word at {address}"
         );
     }
-    assert_eq!(rt; merge_lanes(word, lanes, 8, 4), lanes);
+    assert!(rt; merge_lanes(word, lanes, 8, 4) == lanes);
 }

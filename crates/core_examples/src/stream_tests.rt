@@ -108,12 +108,12 @@ fn no_call_follows_one_that_failed(rt: HostRuntime) -> Result<(), Fail> {
     for failing in 1..=16 {
         let mut source = Counts::new(failing);
         let read = read_all(rt.alloc(), &mut source, 20);
-        assert_eq!(rt; read.err(), Some(ReadEnd::ReadFault));
-        assert_eq!(rt; source.calls, failing);
+        assert!(rt; read.err() == Some(ReadEnd::ReadFault));
+        assert!(rt; source.calls == failing);
 
         let mut sink = Counts::new(failing);
-        assert_eq!(rt; write_all(&mut sink, &[9; 16]), Err(WriteFault));
-        assert_eq!(rt; sink.calls, failing);
+        assert!(rt; write_all(&mut sink, &[9; 16]) == Err(WriteFault));
+        assert!(rt; sink.calls == failing);
     }
     Ok(())
 }
@@ -140,17 +140,13 @@ fn read_of(
 fn reads_to_the_end_or_refuses(rt: HostRuntime) -> Result<(), Fail> {
     for (max, answer) in [(4, Ok(4)), (usize::MAX, Ok(4)), (3, Err(ReadEnd::TooLarge))] {
         let mut source = four_bytes(rt.alloc(), &[])?;
-        assert_eq!(rt;
-            read_of(&rt, rt.alloc(), &mut source, max),
-            answer,
+        assert!(rt;
+            read_of(&rt, rt.alloc(), &mut source, max) == answer,
             "at {max}"
         );
     }
     let mut source = four_bytes(rt.alloc(), &[2])?;
-    assert_eq!(rt;
-        read_of(&rt, rt.alloc(), &mut source, 4),
-        Err(ReadEnd::ReadFault)
-    );
+    assert!(rt; read_of(&rt, rt.alloc(), &mut source, 4) == Err(ReadEnd::ReadFault));
     Ok(())
 }
 
@@ -161,8 +157,8 @@ fn four_places(alloc: Global, failing: &[u64], at_once: usize) -> Result<MemSink
 
 /// The four bytes are written so, and these of them lie there then.
 fn writes(rt: &impl Abort, sink: &mut MemSink, answer: Result<(), WriteFault>, bytes: &[u8]) {
-    assert_eq!(rt; write_all(sink, &[7, 0, 9, 255]), answer);
-    assert_eq!(rt; sink.bytes(), bytes);
+    assert!(rt; write_all(sink, &[7, 0, 9, 255]) == answer);
+    assert!(rt; sink.bytes() == bytes);
 }
 
 #[test]
@@ -185,22 +181,19 @@ fn writes_a_part(rt: HostRuntime) -> Result<(), Fail> {
 fn a_reader_is_tried_and_its_failure_counts(rt: HostRuntime) -> Result<(), Fail> {
     let mut source = StdSource::new(Drips { left: 2 });
     let mut into = [0u8; 4];
-    assert_eq!(rt; source.take(&mut into), Ok(1));
-    assert_eq!(rt; into, [2, 0, 0, 0]);
-    assert_eq!(rt;
-        read_all(rt.alloc(), &mut source, 9).err(),
-        Some(ReadEnd::ReadFault)
-    );
-    assert_eq!(rt; source.take(&mut into), Err(Failed));
+    assert!(rt; source.take(&mut into) == Ok(1));
+    assert!(rt; into == [2, 0, 0, 0]);
+    assert!(rt; read_all(rt.alloc(), &mut source, 9).err() == Some(ReadEnd::ReadFault));
+    assert!(rt; source.take(&mut into) == Err(Failed));
     Ok(())
 }
 
 #[test]
 fn a_writer_is_tried_and_taking_nothing_fails(rt: HostRuntime) -> Result<(), Fail> {
     let mut sink = StdSink::new(Fills { room: 5 });
-    assert_eq!(rt; sink.give(&[1, 2, 3]), Ok(3));
-    assert_eq!(rt; sink.give(&[4, 5, 6]), Ok(2));
-    assert_eq!(rt; sink.give(&[6]), Err(Failed));
-    assert_eq!(rt; write_all(&mut sink, &[]), Ok(()));
+    assert!(rt; sink.give(&[1, 2, 3]) == Ok(3));
+    assert!(rt; sink.give(&[4, 5, 6]) == Ok(2));
+    assert!(rt; sink.give(&[6]) == Err(Failed));
+    assert!(rt; write_all(&mut sink, &[]) == Ok(()));
     Ok(())
 }

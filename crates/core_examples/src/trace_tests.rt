@@ -57,14 +57,14 @@ fn little_endian(alloc: Global, words: &[u32]) -> Result<Vec<u8>, AllocError> {
 #[test]
 fn the_lock_of_500_rounds(rt: HostRuntime) -> Result<(), Fail> {
     let image = gen_image(rt.alloc(), 500, Shape::Lock)?;
-    assert_eq!(rt; image, little_endian(rt.alloc(), &LOCK_500)?);
+    assert!(rt; image == little_endian(rt.alloc(), &LOCK_500)?);
     Ok(())
 }
 
 #[test]
 fn the_mix_of_number_3(rt: HostRuntime) -> Result<(), Fail> {
     let image = gen_image(rt.alloc(), 3, Shape::Mix)?;
-    assert_eq!(rt; image, little_endian(rt.alloc(), &MIX_3)?);
+    assert!(rt; image == little_endian(rt.alloc(), &MIX_3)?);
     Ok(())
 }
 
@@ -77,7 +77,7 @@ fn the_lock_takes_1_to_2047_rounds(rt: HostRuntime) {
         (2048, false),
         (u64::MAX, false),
     ] {
-        assert_eq!(rt; Shape::Lock.takes(number), taken, "{number}");
+        assert!(rt; Shape::Lock.takes(number) == taken, "{number}");
         assert!(rt; Shape::Mix.takes(number), "{number}");
     }
 }
