@@ -189,9 +189,9 @@ fn said(row: &Row) -> Option<(Noted, Read)> {
 fn each_access_finds_what_is_left(rt: HostRuntime) -> Result<(), Fail> {
     for row in &ROWS {
         let noter = noted_in(rt.alloc(), row)?;
-        assert_eq!(rt; noter.kept, row.accesses);
+        assert!(rt; noter.kept == row.accesses);
         assert!(rt; all_fit(&noter.told));
-        assert_eq!(rt; found_at(&noter.told, row.access, row.reader), said(row));
+        assert!(rt; found_at(&noter.told, row.access, row.reader) == said(row));
     }
     Ok(())
 }

@@ -119,7 +119,7 @@ fn made(alloc: Global, run: &Run) -> Result<(u32, u32, u32, bool, bool), Fail> {
 fn runs_are_those_of_the_definitions(rt: HostRuntime) -> Result<(), Fail> {
     for run in &RUNS {
         let wanted = (run.steps, run.alone, run.ordered, true, true);
-        assert_eq!(rt; made(rt.alloc(), run)?, wanted);
+        assert!(rt; made(rt.alloc(), run)? == wanted);
     }
     Ok(())
 }
@@ -140,12 +140,12 @@ fn every_core_that_there_may_be_adds_to_one_word(rt: HostRuntime) -> Result<(), 
             let _taken = machine.step(choice, &mut clerk);
         }
     }
-    assert_eq!(rt; machine.done(), true);
-    assert_eq!(rt; clerk.alone, 48);
-    assert_eq!(rt; clerk.accesses, 16);
+    assert!(rt; machine.done());
+    assert!(rt; clerk.alone == 48);
+    assert!(rt; clerk.accesses == 16);
     if machine.done() {
-        assert_eq!(rt; machine.final_word(8), 136);
+        assert!(rt; machine.final_word(8) == 136);
     }
-    assert_eq!(rt; machine.into_image().words(), WORDS);
+    assert!(rt; machine.into_image().words() == WORDS);
     Ok(())
 }
