@@ -11,7 +11,7 @@ use Rattle.clock_core.proofs.EdgeLists.{contains_among}
 use Rattle.rv_core.specs.declared.core_state.Core.{Core}
 use Rattle.rv_core.specs.declared.core_state.Need.{Need}
 use Rattle.rv_core.specs.declared.core_state.Need.TheVariants.{Local, Load, Store, Amo, Done}
-use Rattle.rv_core.specs.Steps.{need, is_done, access_of}
+use Rattle.rv_core.specs.Steps.{need, after, is_done, access_of}
 use Rattle.rv_core.proofs.LawLemmas.{count_law, local_law, number_law}
 use Rattle.core_runs.specs.declared.running.Ran.{Ran}
 use Rattle.core_runs.specs.declared.running.Ran.TheVariants as ran
@@ -22,10 +22,12 @@ use Rattle.replay_core.specs.Plans.{Plan, plan_of, recorded_image}
 use Rattle.replay_core.specs.Play.{instr}
 use Rattle.replay_core.specs.Sources.{AreSources}
 use Rattle.replay_core.proofs.Ready.{within_sourced}
+use Rattle.atomic_table.specs.Seated.{TableId}
 use Rattle.replay_table.specs.declared.view.View.{View}
-use Rattle.replay_table.specs.Aheads.{Ahead, AreLocal, Due}
-use Rattle.replay_table.specs.Seats.{AwaitsChange, Past, Tied}
-use Rattle.replay_table.proofs.Aheads.{ahead_one}
+use Rattle.replay_table.specs.Aheads.{Ahead, AreLocal, Due, GoesOn}
+use Rattle.replay_table.specs.Rule.{seen_of}
+use Rattle.replay_table.specs.Seats.{AwaitsChange, Past, RunsOn, Sitting, Tied, sitting}
+use Rattle.replay_table.proofs.Aheads.{ahead_adds, ahead_one}
 use Rattle.replay_table.proofs.Ties.{local_ties}
 
 -- ---- a run that is refused each access
@@ -156,3 +158,101 @@ locals_tie which r past new sees holds v due until within free (suc n) t is le l
     local_ties (plan_of which r) mid new sees holds v tied
     (due_at which r (λ i. slice_index v.seen i) past.core due until within free n is.0 is.1 low) is.2 is.3 loads
     touched
+
+-- ---- local instructions to none of which an edge leads
+
+pub runs_on : (which : Which) (r : Recording) (until end n : ℕ) (k a : Core) → AreLocal (recorded_image r) n k a
+    → a.count ≤ end → end ≤ until → until ≤ slice_index r.totals k.id
+    → ((m : ℕ) → k.count < m → m ≤ end → AreSources (log_edges which r) (instr k.id m) no_counts)
+    → RunsOn which r until k a
+runs_on which r until end n k a is le to within free = record {
+  locals = n;
+  local = is;
+  most = λ some. omega arith;
+  free = λ m from most. free m from (omega (arith, most));
+  within = omega arith;
+}
+
+pub stays_there : (which : Which) (r : Recording) (until : ℕ) (k a : Core) → a ≡ k
+    → k.count ≤ slice_index r.totals k.id → RunsOn which r until k a
+stays_there which r until k a is within =
+    let count = ap (λ (x : Core). x.count) is in
+    record {
+      locals = 0;
+      local = is;
+      most = λ some. absurd (omega (arith, some));
+      free = λ m from most. absurd (omega (arith, from, most));
+      within = omega arith;
+    }
+
+pub same_run : (w w' : Which) (r r' : Recording) (until : ℕ) (k a : Core) → w' ≡ w → r' ≡ r → RunsOn w' r' until k a
+    → RunsOn w r until k a
+same_run w w' r r' until k a e same h =
+    subst (λ (x : Which). RunsOn x r until k a) e (subst (λ (x : Recording). RunsOn w' x until k a) same h)
+
+-- they are due, whatever was seen
+ahead_free : (which : Which) (r : Recording) (f : ℕ → ℕ) (n : ℕ) (k a : Core) → AreLocal (recorded_image r) n k a
+    → a.count ≤ slice_index r.totals k.id
+    → ((m : ℕ) → k.count < m → m ≤ a.count → AreSources (log_edges which r) (instr k.id m) no_counts)
+    → Ahead (plan_of which r) f n k a
+ahead_free which r f zero k a is within free = sym is
+ahead_free which r f (suc n) k a is within free =
+    let count = local_count (recorded_image r) (suc n) k a is in
+    let due = free_due which r f k (omega arith) (free (k.count + 1) (omega arith) (omega arith)) in
+    ahead_by which r f k due a.count within (λ m from to. free m (omega (arith, from)) to) (suc n) a is (omega arith)
+
+tie_free : (which : Which) (r : Recording) (past new : Past) (sees : List ℕ) (holds : Option ℕ) (v : View) (n : ℕ)
+    → AreLocal (recorded_image r) n past.core new.core → new.core.count ≤ slice_index r.totals past.core.id
+    → ((m : ℕ) → past.core.count < m → m ≤ new.core.count →
+    AreSources (log_edges which r) (instr past.core.id m) no_counts)
+    → Tied (plan_of which r) past sees holds v → new.loads ≡ past.loads → new.touched ≡ past.touched
+    → Tied (plan_of which r) new sees holds v
+tie_free which r past new sees holds v zero is within free t loads touched =
+    same_ties (plan_of which r) past new sees holds v t is loads touched
+tie_free which r past new sees holds v (suc n) is within free t loads touched =
+    let count = local_count (recorded_image r) (suc n) past.core new.core is in
+    let due = free_due which r (λ i. slice_index v.seen i) past.core (omega arith)
+    (free (past.core.count + 1) (omega arith) (omega arith)) in
+    locals_tie which r past new sees holds v due new.core.count within (λ m from to. free m (omega (arith, from)) to)
+    (suc n) t is (omega arith) loads touched
+
+pub tied_on : (which : Which) (r : Recording) (until : ℕ) (past new : Past) (sees : List ℕ) (holds : Option ℕ) (v : View)
+    → RunsOn which r until past.core new.core → Tied (plan_of which r) past sees holds v → new.loads ≡ past.loads
+    → new.touched ≡ past.touched → Tied (plan_of which r) new sees holds v
+tied_on which r until past new sees holds v run t loads touched =
+    tie_free which r past new sees holds v run.locals run.local run.within run.free t loads touched
+
+-- the core of a seat has retired an access, and such instructions after it
+pub gone_ahead : (which : Which) (r : Recording) (table : TableId) (past : Past) (v : View) (x : Sitting) (mid a : Core)
+    (old until : ℕ) → sitting table past v ≡ x → mid ≡ after (recorded_image r) past.core old
+    → RunsOn which r until mid a
+    → GoesOn (plan_of which r) (seen_of x.view) until (after (recorded_image r) x.core old) a
+gone_ahead which r table past v x mid a old until same made run =
+    let here : GoesOn (plan_of which r) (seen_of v) until mid a = record {
+      locals = run.locals;
+      ahead = ahead_free which r (seen_of v) run.locals mid a run.local run.within run.free;
+      most = run.most;
+    } in
+    subst (λ (y : Sitting). GoesOn (plan_of which r) (seen_of y.view) until (after (recorded_image r) y.core old) a) same
+    (subst (λ (k : Core). GoesOn (plan_of which r) (seen_of v) until k a) made here)
+
+nowhere : (p : Plan) (f : ℕ → ℕ) (n : ℕ) (k a : Core) → Ahead p f n k a → (0 < n → a.count ≤ 0) → a ≡ k
+nowhere p f zero k a h most = sym h
+nowhere p f (suc n) k a h most =
+    let le = most (omega arith) in
+    let count = ahead_adds p f (suc n) k a h in
+    absurd (omega arith)
+
+-- there are none where the count is 0
+pub gone_nowhere : (p : Plan) (f : ℕ → ℕ) (k a : Core) → GoesOn p f 0 k a → a ≡ k
+gone_nowhere p f k a h = nowhere p f h.locals k a h.ahead h.most
+
+-- the count is one of the core's, after the access as before it
+pub until_within : (r r' : Recording) (table : TableId) (past : Past) (v : View) (x : Sitting) (k : Core)
+    (old until : ℕ) → sitting table past v ≡ x → r' ≡ r → until ≤ slice_index r.totals x.core.id
+    → k ≡ after (recorded_image r) past.core old → until ≤ slice_index r'.totals k.id
+until_within r r' table past v x k old until same is le made =
+    let id : k.id ≡ x.core.id = ap (λ (y : Core). y.id) made ∙ number_law (recorded_image r) past.core old
+    ∙ ap (λ (y : Sitting). y.core.id) same in
+    subst (λ (q : Recording). until ≤ slice_index q.totals k.id) (sym is)
+    (subst (λ (i : ℕ). until ≤ slice_index r.totals i) (sym id) le)

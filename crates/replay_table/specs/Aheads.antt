@@ -1,5 +1,5 @@
 -- What a core that runs ahead of its executed count has done.
-use Rattle.std.specs.Prelude.{◌≡◌, ℕ, zero, suc}
+use Rattle.std.specs.Prelude.{◌≡◌, ℕ, zero, suc, ◌<◌, ◌≤◌}
 use Rattle.image_mem.specs.Contents.{Contents}
 use Rattle.rv_core.specs.declared.core_state.Core.{Core}
 use Rattle.rv_core.specs.declared.core_state.Need.TheVariants.{Local}
@@ -14,6 +14,13 @@ Due p f k = IsDue p f k.id k
 -- the second core is the first after n local instructions, each of which was due
 abbrev pub Ahead : Plan → (ℕ → ℕ) → ℕ → Core → Core → Type 0
 Ahead p f n k at = IsAhead p f k.id n k at
+
+-- the second core is the first after some local instructions, each of which was due: none of them is beyond the count
+-- `until`
+pub record GoesOn (p : Plan) (f : ℕ → ℕ) (until : ℕ) (k at : Core) : Type 0 where
+  pub locals : ℕ
+  pub ahead : Ahead p f locals k at
+  pub most : 0 < locals → at.count ≤ until
 
 -- the second core is the first after n local instructions
 abbrev pub AreLocal : Contents → (n : ℕ) → Core → Core → Type 0

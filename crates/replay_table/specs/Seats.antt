@@ -15,6 +15,7 @@ use Rattle.rv_core.specs.declared.outcome.Outcome.{Outcome}
 use Rattle.rv_core.specs.States.{starting}
 use Rattle.rv_core.specs.Steps.{need, after, wrote, instruction_at}
 use Rattle.image_mem.specs.Contents.{Contents}
+use Rattle.clock_core.specs.Counts.{no_counts}
 use Rattle.race_log.specs.declared.recording.Recording.{Recording}
 use Rattle.race_log.specs.Sources.{HasEdge, log_edges}
 use Rattle.race_log.specs.Validity.{Valid}
@@ -30,7 +31,7 @@ use Rattle.replay_table.specs.declared.raced.Raced.{Raced}
 use Rattle.replay_table.specs.declared.view.Own.{Own}
 use Rattle.replay_table.specs.declared.view.View.{View}
 use Rattle.replay_table.specs.Accesses.{Changes, word_by, word_of, touched_after, touches_by}
-use Rattle.replay_table.specs.Aheads.{Due, Ahead}
+use Rattle.replay_table.specs.Aheads.{AreLocal, Due, Ahead}
 use Rattle.replay_table.specs.Rule.{seen_of}
 use Rattle.replay_table.specs.Kinds.{dealt_view}
 use Rattle.replay_table.specs.Told.{ToldExchange}
@@ -118,6 +119,15 @@ pub record CanLook (which : Which) (r : Recording) (image : Contents) (k : Core)
   pub inside : k.id < length r.totals
   pub within : k.count ≤ slice_index r.totals k.id
   pub coming : IsComing (log_edges which r) k.id r.params.cores u.coming
+
+-- the second core is the first after local instructions, to none of which an edge leads. There are none beyond the
+-- count `until`
+pub record RunsOn (which : Which) (r : Recording) (until : ℕ) (k a : Core) : Type 0 where
+  pub locals : ℕ
+  pub local : AreLocal (recorded_image r) locals k a
+  pub most : 0 < locals → a.count ≤ until
+  pub free : (n : ℕ) → k.count < n → n ≤ a.count → AreSources (log_edges which r) (instr k.id n) no_counts
+  pub within : a.count ≤ slice_index r.totals k.id
 
 -- a logged source of the core's next instruction that the view hasn't seen
 pub record IsUnmet (which : Which) (r : Recording) (v : View) (k : Core) (of : Instr) : Type 0 where

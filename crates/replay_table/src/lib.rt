@@ -3,7 +3,8 @@
 //! The rule says that some order stands, and no history is kept of which. A store of a part of a word is a load and
 //! then a compare-exchange, and so is an atomic memory operation. The exchange isn't tried again: if the recording is
 //! determinate, it never fails. A seat looks up its next instruction and its logged sources once. A core that runs
-//! local instructions takes no step: it goes on in one run, up to an access, a count or an edge (`locals`).
+//! local instructions takes no step: it goes on in one run, up to an access, a count or an edge (`locals`). So it does
+//! behind a load and a store of a whole word, before what it needs next is looked up (`load_on`, `store_on`).
 //!
 //! Proved: each seat call names its one step of the table by a relation, and what the rule tells of it. `make` deals
 //! each core a seat that has done, seen and holds nothing. The opening memory with done counts of 0 keeps the table's

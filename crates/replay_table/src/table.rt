@@ -9,12 +9,13 @@ ghost use Rattle.rv_core.specs.Steps.{need, after, wrote, is_whole};
 ghost use Rattle.replay_core.specs.Plans.{plan_of, recorded_image};
 ghost use Rattle.replay_audit.specs.Determinate.{IsDeterminate};
 ghost use Rattle.replay_table.specs.Accesses.{is_load, is_change, word_of};
-ghost use Rattle.replay_table.specs.Aheads.{Due};
+ghost use Rattle.replay_table.specs.Aheads.{Due, GoesOn};
 ghost use Rattle.replay_table.specs.Kinds.{first_alone, rest_view};
 ghost use Rattle.replay_table.specs.Rule.{seen_of};
 ghost use Rattle.replay_table.specs.Told.{ToldDone, ToldLoad, ToldHold, ToldStore, ToldPublish};
 ghost use Rattle.replay_table.specs.Seats.{Dealt, Exchanged, AtRest, IsFresh, IsLowValue, Opening};
 
+use crate::gate::{Gate, OpenGate};
 use crate::job::Job;
 use crate::past::Past;
 use crate::raced::Raced;
@@ -208,6 +209,25 @@ impl<'a, J: Job> ReplayTable<'a, J> {
             (word_of (need (recorded_image J.recording) seat.old.core)) result seat.new.view }
         ensures low { IsLowValue J.which J.recording seat.old.core result }
     {
+        self.load_on(seat, 0, &OpenGate)
+    }
+
+    /// The same, and local instructions retire after it, up to this count, as long as no edge leads to them. The gate is
+    /// passed before each of these.
+    #[inline(always)]
+    pub fn load_on<G: Gate>(&self, seat: &mut CoreSeat<J>, until: u32, gate: &G) -> u32
+        requires table { seat.old.table_id ≡ self.now }
+        requires ready { Due (plan_of J.which J.recording) (seen_of seat.old.view) seat.old.core }
+        requires load { IsTrue (is_load (need (recorded_image J.recording) seat.old.core)) }
+        requires room { IsTrue seat.old.roomy }
+        requires within { until ≤ slice_index J.recording.totals seat.old.core.id }
+        ensures table { seat.new.table_id ≡ seat.old.table_id }
+        ensures ahead { GoesOn (plan_of J.which J.recording) (seen_of seat.old.view) until
+            (after (recorded_image J.recording) seat.old.core result) seat.new.core }
+        ensures told { ToldLoad (plan_of J.which J.recording) seat.old.view
+            (word_of (need (recorded_image J.recording) seat.old.core)) result seat.new.view }
+        ensures low { IsLowValue J.which J.recording seat.old.core result }
+    {
         let used = seat.upcoming.need.access();
         let Some((_, word)) = used else {
             unreachable!()
@@ -220,7 +240,14 @@ impl<'a, J: Job> ReplayTable<'a, J> {
         seat.past
             .finish(self.program.image(), seat.upcoming.op, value);
         seat.past.note(used, value);
-        seat.upcoming.advance(self.recording, self.which, &self.program, seat.past.core());
+        seat.upcoming.run_on(
+            self.recording,
+            self.which,
+            &self.program,
+            &mut seat.past,
+            until,
+            gate,
+        );
         value
     }
 
@@ -300,14 +327,19 @@ impl<'a, J: Job> ReplayTable<'a, J> {
 
 // The two ways to store.
 impl<'a, J: Job> ReplayTable<'a, J> {
-    fn store_whole(&self, seat: &mut CoreSeat<J>)
+    /// A whole word is stored and the instruction retires, and local ones after it, up to this count, as long as no edge
+    /// leads to them. The gate is passed before each of these.
+    #[inline(always)]
+    pub fn store_on<G: Gate>(&self, seat: &mut CoreSeat<J>, until: u32, gate: &G)
         requires table { seat.old.table_id ≡ self.now }
         requires ready { Due (plan_of J.which J.recording) (seen_of seat.old.view) seat.old.core }
         requires write { IsTrue (is_writing (need (recorded_image J.recording) seat.old.core)) }
         requires whole { IsTrue (is_whole (need (recorded_image J.recording) seat.old.core)) }
         requires room { IsTrue seat.old.roomy }
+        requires within { until ≤ slice_index J.recording.totals seat.old.core.id }
         ensures table { seat.new.table_id ≡ seat.old.table_id }
-        ensures core { seat.new.core ≡ after (recorded_image J.recording) seat.old.core 0 }
+        ensures ahead { GoesOn (plan_of J.which J.recording) (seen_of seat.old.view) until
+            (after (recorded_image J.recording) seat.old.core 0) seat.new.core }
         ensures told { ToldStore (plan_of J.which J.recording) seat.old.view
             (word_of (need (recorded_image J.recording) seat.old.core))
             (wrote (recorded_image J.recording) seat.old.core 0) seat.new.view }
@@ -321,7 +353,29 @@ impl<'a, J: Job> ReplayTable<'a, J> {
             .shared
             .store::<Told<J, StoreWord>>(&mut seat.seat, word as usize, value as u64);
         seat.past.note(used, 0);
-        seat.upcoming.advance(self.recording, self.which, &self.program, seat.past.core());
+        seat.upcoming.run_on(
+            self.recording,
+            self.which,
+            &self.program,
+            &mut seat.past,
+            until,
+            gate,
+        );
+    }
+
+    fn store_whole(&self, seat: &mut CoreSeat<J>)
+        requires table { seat.old.table_id ≡ self.now }
+        requires ready { Due (plan_of J.which J.recording) (seen_of seat.old.view) seat.old.core }
+        requires write { IsTrue (is_writing (need (recorded_image J.recording) seat.old.core)) }
+        requires whole { IsTrue (is_whole (need (recorded_image J.recording) seat.old.core)) }
+        requires room { IsTrue seat.old.roomy }
+        ensures table { seat.new.table_id ≡ seat.old.table_id }
+        ensures core { seat.new.core ≡ after (recorded_image J.recording) seat.old.core 0 }
+        ensures told { ToldStore (plan_of J.which J.recording) seat.old.view
+            (word_of (need (recorded_image J.recording) seat.old.core))
+            (wrote (recorded_image J.recording) seat.old.core 0) seat.new.view }
+    {
+        self.store_on(seat, 0, &OpenGate);
     }
 
     fn exchange(&self, seat: &mut CoreSeat<J>) -> Result<(), Raced>

@@ -14,7 +14,7 @@ use Rattle.replay_core.specs.Play.{core_at, played}
 use Rattle.replay_table.specs.declared.raced.Raced.{Raced}
 use Rattle.replay_table.specs.declared.view.Own.{Own}
 use Rattle.replay_table.specs.declared.view.View.{View}
-use Rattle.replay_table.specs.Aheads.{Ahead, Due}
+use Rattle.replay_table.specs.Aheads.{Ahead, Due, GoesOn}
 use Rattle.replay_table.specs.Rule.{seen_of, Reached}
 use Rattle.replay_table.specs.Kinds.{SeesDone, LoadsWord, HoldsWord, StoresWord, PublishesCount, alone_with}
 use Rattle.replay_table.specs.Kinds.{exchanged, retired}
@@ -28,10 +28,10 @@ use Rattle.replay_threads.proofs.TurnEnds.{goes_then}
 use Rattle.replay_threads.proofs.DoneLoads.{sees_polls}
 use Rattle.replay_threads.proofs.Shorts.{short_open}
 
--- one instruction more has retired
+-- the core has gone on, by one instruction or more
 pub record Retires (x y : Sitting) : Type 0 where
   pub goes_on : Continues x y
-  pub more : y.core.count ≡ x.core.count + 1
+  pub more : x.core.count < y.core.count
 
 -- nothing but the core and what it has done may differ
 pub record SameView (v w : View) : Type 0 where
@@ -47,6 +47,22 @@ retires image old x y table core same =
       goes_on = record {
         table = table;
         core = id ∙ number_law image x.core old;
+        count = omega arith;
+        polls = λ c. let e = ap (λ (l : List ℕ). slice_index l c) same.polls in omega arith;
+        failed = let e = same.failed in omega arith;
+      };
+      more = omega arith;
+    }
+
+-- an access, and local instructions after it in one go
+runs-on : (p : Plan) (f : ℕ → ℕ) (image : Contents) (until old : ℕ) (x y : Sitting) → y.table_id ≡ x.table_id
+    → GoesOn p f until (after image x.core old) y.core → SameView x.view y.view → Retires x y
+runs-on p f image until old x y table on same =
+    let more = ahead_adds p f on.locals (after image x.core old) y.core on.ahead in
+    let n = count_law image x.core old in record {
+      goes_on = record {
+        table = table;
+        core = ahead_id p f on.locals (after image x.core old) y.core on.ahead ∙ number_law image x.core old;
         count = omega arith;
         polls = λ c. let e = ap (λ (l : List ℕ). slice_index l c) same.polls in omega arith;
         failed = let e = same.failed in omega arith;
@@ -82,18 +98,18 @@ locals_go_on p f n x y table ahead view =
       failed = let e = ap (λ (v : View). v.failed) view in omega arith;
     }
 
-pub load_retires : (p : Plan) (image : Contents) (word value : ℕ) (x y : Sitting) → y.table_id ≡ x.table_id
-    → y.core ≡ after image x.core value →
-    LoadsWord p x.view word value y.view → Retires x y
-load_retires p image word value x y table core step =
-    retires image value x y table core
+pub load_retires : (p : Plan) (f : ℕ → ℕ) (image : Contents) (until word value : ℕ) (x y : Sitting)
+    → y.table_id ≡ x.table_id → GoesOn p f until (after image x.core value) y.core
+    → LoadsWord p x.view word value y.view → Retires x y
+load_retires p f image until word value x y table on step =
+    runs-on p f image until value x y table on
     (record { polls = ap (λ (v : View). v.polls) step.view; failed = ap (λ (v : View). v.failed) step.view })
 
-pub store_retires : (p : Plan) (image : Contents) (word new : ℕ) (x y : Sitting) → y.table_id ≡ x.table_id
-    → y.core ≡ after image x.core 0 →
-    StoresWord p x.view word new y.view → Retires x y
-store_retires p image word new x y table core step =
-    retires image 0 x y table core
+pub store_retires : (p : Plan) (f : ℕ → ℕ) (image : Contents) (until word new : ℕ) (x y : Sitting)
+    → y.table_id ≡ x.table_id → GoesOn p f until (after image x.core 0) y.core → StoresWord p x.view word new y.view
+    → Retires x y
+store_retires p f image until word new x y table on step =
+    runs-on p f image until 0 x y table on
     (record { polls = ap (λ (v : View). v.polls) step.view; failed = ap (λ (v : View). v.failed) step.view })
 
 pub hold_stays : (p : Plan) (word value : ℕ) (x y : Sitting) → y.table_id ≡ x.table_id → y.core ≡ x.core

@@ -66,7 +66,7 @@ pub(crate) fn run<J: Job, G: Gate>(
     Ok(Turn::Ended)
 }
 
-/// One instruction more, and local ones up to this count before it, if the turn doesn't end before it.
+/// One instruction more, and local ones up to this count before and after it, if the turn doesn't end before it.
 #[tactic(auto, using(crate::proofs::TurnEnds::goes_then, crate::proofs::TurnEnds::ends_sooner))]
 fn go_on<J: Job, G: Gate>(
     seat: &mut CoreSeat<J>,
@@ -91,7 +91,7 @@ fn go_on<J: Job, G: Gate>(
         return Ok(None);
     }
     seat.make_room()?;
-    Ok(retire(seat, table, gate))
+    Ok(retire(seat, until, table, gate))
 }
 
 /// Local instructions up to this count, without a step of the table. Answers whether the next one is ready.
@@ -111,14 +111,21 @@ fn run_locals<J: Job, G: Gate>(
     table.locals(seat, until, gate)
 }
 
-/// The next instruction, which is due, unless the program is done or the write loses its word.
-fn retire<J: Job, G: Gate>(seat: &mut CoreSeat<J>, table: &ReplayTable<J>, gate: &G) -> Option<Turn>
+/// The next instruction, which is due, and local ones up to this count after a load or a store of a whole word, unless
+/// the program is done or the write loses its word.
+fn retire<J: Job, G: Gate>(
+    seat: &mut CoreSeat<J>,
+    until: u32,
+    table: &ReplayTable<J>,
+    gate: &G,
+) -> Option<Turn>
     requires valid { Valid J.recording }
     requires table { seat.old.table_id ≡ table.now }
+    requires until { until ≤ slice_index J.recording.totals seat.old.core.id }
     requires due { Due (plan_of J.which J.recording) (seen_of seat.old.view) seat.old.core }
     requires room { IsTrue seat.old.roomy }
     ensures goes_on { Continues seat.old seat.new }
-    ensures more { IfNone result (seat.new.core.count ≡ seat.old.core.count + 1) }
+    ensures more { IfNone result (seat.old.core.count < seat.new.core.count) }
     ensures ends { IfSome result (λ turn. EndsBy J.which J.recording seat.old turn seat.new) }
 {
     let core = seat.core();
@@ -139,46 +146,58 @@ fn retire<J: Job, G: Gate>(seat: &mut CoreSeat<J>, table: &ReplayTable<J>, gate:
         }
         Need::Load { .. } => {
             gate.pass(at);
-            table.load_word(seat);
+            table.load_on(seat, until, gate);
             None
         }
         Need::Store { .. } | Need::Amo { .. } => {
             gate.pass(at);
-            write(seat, table, need)
+            write(seat, need, until, table, gate)
         }
     }
 }
 
 /// The next instruction, which writes.
-fn write<J: Job>(seat: &mut CoreSeat<J>, table: &ReplayTable<J>, need: Need) -> Option<Turn>
+fn write<J: Job, G: Gate>(
+    seat: &mut CoreSeat<J>,
+    need: Need,
+    until: u32,
+    table: &ReplayTable<J>,
+    gate: &G,
+) -> Option<Turn>
     requires table { seat.old.table_id ≡ table.now }
+    requires until { until ≤ slice_index J.recording.totals seat.old.core.id }
     requires due { Due (plan_of J.which J.recording) (seen_of seat.old.view) seat.old.core }
     requires room { IsTrue seat.old.roomy }
     requires need { need ≡ need_of_core (recorded_image J.recording) seat.old.core }
     requires write { IsTrue (is_writing need) }
     ensures goes_on { Continues seat.old seat.new }
-    ensures more { IfNone result (seat.new.core.count ≡ seat.old.core.count + 1) }
+    ensures more { IfNone result (seat.old.core.count < seat.new.core.count) }
     ensures ends { IfSome result (λ turn. EndsBy J.which J.recording seat.old turn seat.new) }
 {
     if need.is_whole() {
-        store_whole(seat, table);
+        store_whole(seat, until, table, gate);
         return None;
     }
     exchange(seat, table)
 }
 
-/// The next instruction, which stores a whole word.
-fn store_whole<J: Job>(seat: &mut CoreSeat<J>, table: &ReplayTable<J>)
+/// The next instruction, which stores a whole word, and local ones after it up to this count.
+fn store_whole<J: Job, G: Gate>(
+    seat: &mut CoreSeat<J>,
+    until: u32,
+    table: &ReplayTable<J>,
+    gate: &G,
+)
     requires table { seat.old.table_id ≡ table.now }
+    requires until { until ≤ slice_index J.recording.totals seat.old.core.id }
     requires due { Due (plan_of J.which J.recording) (seen_of seat.old.view) seat.old.core }
     requires room { IsTrue seat.old.roomy }
     requires write { IsTrue (is_writing (need_of_core (recorded_image J.recording) seat.old.core)) }
     requires whole { IsTrue (is_whole (need_of_core (recorded_image J.recording) seat.old.core)) }
     ensures goes_on { Continues seat.old seat.new }
-    ensures more { seat.new.core.count ≡ seat.old.core.count + 1 }
+    ensures more { seat.old.core.count < seat.new.core.count }
 {
-    // A store of a whole word needs nothing of the word before, so it never fails.
-    let _ = table.store_word(seat);
+    table.store_on(seat, until, gate);
 }
 
 /// The next instruction, whose word is held and then exchanged for the value after, unless another write came
@@ -190,7 +209,7 @@ fn exchange<J: Job>(seat: &mut CoreSeat<J>, table: &ReplayTable<J>) -> Option<Tu
     requires write { IsTrue (is_writing (need_of_core (recorded_image J.recording) seat.old.core)) }
     requires part { is_whole (need_of_core (recorded_image J.recording) seat.old.core) ≡ false }
     ensures goes_on { Continues seat.old seat.new }
-    ensures more { IfNone result (seat.new.core.count ≡ seat.old.core.count + 1) }
+    ensures more { IfNone result (seat.old.core.count < seat.new.core.count) }
     ensures ends { IfSome result (λ turn. EndsBy J.which J.recording seat.old turn seat.new) }
 {
     table.hold_word(seat);

@@ -2,10 +2,11 @@ use Rattle.std.proofs.Common.{ap, sym, ◌∙◌}
 use Rattle.rv_core.specs.declared.core_state.Need.{Need}
 use Rattle.rv_core.specs.Steps.{is_done}
 use Rattle.replay_core.specs.Plans.{plan_of, recorded_image}
+use Rattle.replay_table.specs.Rule.{seen_of}
 use Rattle.replay_threads.proofs.SeatSteps.{Retires, local_retires, load_retires, short_ends}
 use Rattle.replay_threads.proofs.turns.retire.Given.{Over}
 use Rattle.replay_threads.proofs.turns.retire.Goals as goal
-use Rattle.replay_threads.proofs.turns.retire.Goals.{After-load_word, After-local}
+use Rattle.replay_threads.proofs.turns.retire.Goals.{After-load_on, After-local}
 
 pub returns-in-Done-clause-ends : goal.returns-in-Done-clause-ends
 returns-in-Done-clause-ends g c =
@@ -26,11 +27,12 @@ returns-in-Local-clause-goes_on g c = (local_goes g c).goes_on
 pub returns-in-Local-clause-more : goal.returns-in-Local-clause-more
 returns-in-Local-clause-more g c = (local_goes g c).more
 
-load_goes : (g : Over) (c : After-load_word g) → Retires c.args.seat.now c.load_word.new.seat
+load_goes : (g : Over) (c : After-load_on g) → Retires c.args.seat.now c.load_on.new.seat
 load_goes g c =
-    let e = c.load_word.ensures in
-    load_retires (plan_of g.J.Job.which g.J.Job.recording) (recorded_image g.J.Job.recording) _ c.load_word.result
-    c.args.seat.now c.load_word.new.seat e.table e.core e.told.step
+    let e = c.load_on.ensures in
+    load_retires (plan_of g.J.Job.which g.J.Job.recording) (seen_of c.args.seat.now.view)
+    (recorded_image g.J.Job.recording) c.args.until _ c.load_on.result c.args.seat.now c.load_on.new.seat e.table
+    e.ahead e.told.step
 
 pub returns-in-Load-clause-goes_on : goal.returns-in-Load-clause-goes_on
 returns-in-Load-clause-goes_on g c = (load_goes g c).goes_on
