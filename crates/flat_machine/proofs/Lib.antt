@@ -4,3 +4,4 @@ pub mod LineWays
 pub mod NewEntries
 pub mod StartMarks
 pub mod LastPlaces
+mod ForgottenPlaces

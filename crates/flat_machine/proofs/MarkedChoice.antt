@@ -146,7 +146,7 @@ module _ (f : Flat) (marks : MoveMarks) (s : PlainState) (memory : ℕ → List 
       none_own c past = kept.own c ∙ ap (λ (t : Bool). t && own_mark (node_at f.nodes.items c))
           (past_is c (length f.nodes.items) (subst (λ (k : ℕ). k ≤ c) (sym nodes_long) past))
 
-  marked_long : length (marked marks) ≡ length (plain_moves s)
+  pub marked_long : length (marked marks) ≡ length (plain_moves s)
   marked_long = sym (length-map (marked marks) named) ∙ ap length all_marked
 
   module _ (going : list_all (λ n. is_done n.need) f.nodes.items ≡ false) where

@@ -230,3 +230,19 @@ marked_more f f' marks block s memory stands nodes more entry others kept =
         ∙ (ap (λ (b : HomeBlock). has b.askers c) entry ∙ (has-no_cores c
         ∙ (none_asks (node_at f.nodes.items c).asks c refl
         ∙ ap (λ (k : ℕ). (node_at f.nodes.items c).asks && ((node_at f.nodes.items c).place == k)) (sym last))))
+
+-- the same nodes and entries have the same marks
+pub marked_still : (f f' : Flat) (marks : MoveMarks) → f'.nodes.items ≡ f.nodes.items → f'.home.items ≡ f.home.items →
+    IsMarked f marks → IsMarked f' marks
+marked_still f f' marks nodes home kept =
+    record {
+      own = λ c. kept.own c ∙ ap (λ (l : List Node). nat_lt c (length l) && own_mark (node_at l c)) (sym nodes);
+      requests = λ c. kept.requests c
+          ∙ (ap (λ (l : List HomeBlock). request_mark l (node_at f.nodes.items c)) (sym home)
+          ∙ ap (λ (l : List Node). request_mark f'.home.items (node_at l c)) (sym nodes));
+      responses = λ c. kept.responses c ∙ ap (λ (l : List Node). not (is_nil (node_at l c).replies)) (sym nodes);
+      messages = λ c. kept.messages c ∙ ap (λ (l : List Node). not (is_nil (node_at l c).messages)) (sym nodes);
+      askers = λ i c lies. ap (λ (l : List HomeBlock). has (home_at l i).askers c) home
+          ∙ (kept.askers i c (subst (λ (l : List HomeBlock). i < length l) home lies)
+          ∙ ap (λ (l : List Node). (node_at l c).asks && ((node_at l c).place == i)) (sym nodes));
+    }

@@ -67,6 +67,11 @@ pub record HasEntry (old new : FlatMachine) (block place : ℕ) : Type 0 where
   pub lies : place < length new.flat.home.items
   pub there : (home_at new.flat.home.items place).block ≡ block
 
+-- the machine stands where it stood, and keeps what it keeps
+pub record StandsStill (old new : FlatMachine) : Type 0 where
+  pub stands : (s : PlainState) (memory : ℕ → List ℕ) → Stands old.flat s memory → Stands new.flat s memory
+  pub kept : IsKept new
+
 -- the machine made the move that this choice takes, which tells of this event, and fewer steps are left
 pub record HasStepped (old new : FlatMachine) (choice : ℕ) (e : Event) : Type 0 where
   pub taken : Move

@@ -2,8 +2,9 @@
 //! step makes the move that a choice numbers.
 //!
 //! Proved: a step makes the move that the plain machine chooses, at every state that the flat state stands at, answers
-//! what happened in it, and leaves fewer steps (`HasStepped`). A new machine stands at the start. It has what a run asks
-//! of a machine (`SteppedMachine`). No program goes by it yet.
+//! what happened in it, and leaves fewer steps (`HasStepped`). For want of memory it stands where it stood. A new
+//! machine stands at the start, and so does one that starts over (`restart`). It has what a run asks of a machine
+//! (`SteppedMachine`). Hunts go by it.
 #![tactic(auto)]
 
 mod machine;

@@ -1,5 +1,5 @@
 //! How the flat machine makes a move.
-ghost use Rattle.std.specs.Prelude.{◌≡◌, ◌≢◌, ◌<◌, ◌*◌, ◌^◌, ◌/◌, ◌%◌, IfOk, Some, is_some, true};
+ghost use Rattle.std.specs.Prelude.{◌≡◌, ◌≢◌, ◌<◌, ◌*◌, ◌^◌, ◌/◌, ◌%◌, IfOk, OnErr, Some, is_some, true};
 ghost use Rattle.rtr_types.specs.CoreSets.{has};
 ghost use Rattle.rtr_types.specs.declared.TheConstants.{BLOCK_WORDS, LINES};
 ghost use Rattle.rv_core.specs.declared.core_state.Need.TheVariants.{Load};
@@ -9,7 +9,7 @@ ghost use Rattle.msi_state.specs.declared.moves.Move.{Move};
 ghost use Rattle.flat_state.specs.Shows.{IsSomewhere, line_at, node_at};
 ghost use Rattle.flat_cores.specs.Needs.{looked, written};
 ghost use Rattle.flat_messages.specs.Heard.{is_data};
-ghost use Rattle.flat_machine.specs.Machines.{HasEntry, HasMade, IsKept, event_of, move_of};
+ghost use Rattle.flat_machine.specs.Machines.{HasEntry, HasMade, IsKept, StandsStill, event_of, move_of};
 ghost use Rattle.flat_machine.specs.Ways.{way_of};
 ghost use Rattle.flat_machine.specs.declared.ways.Way.TheVariants.{Hit};
 
@@ -29,7 +29,8 @@ impl FlatMachine {
         requires stands { IsSomewhere self.old.flat }
         requires kept { IsKept self.old }
         requires can { has (set_of kind self.old.marks) core ≡ true }
-        ensures { IfOk result (λ happened. HasMade self.old self.new (move_of kind core) (event_of happened)) }
+        ensures made { IfOk result (λ happened. HasMade self.old self.new (move_of kind core) (event_of happened)) }
+        ensures err { OnErr result (StandsStill self.old self.new) }
     {
         match kind {
             MoveKind::Own => self.move_core(core),
@@ -66,7 +67,8 @@ impl FlatMachine {
         requires stands { IsSomewhere self.old.flat }
         requires kept { IsKept self.old }
         requires can { has (set_of Own self.old.marks) core ≡ true }
-        ensures { IfOk result (λ happened. HasMade self.old self.new (Move.Core core) (event_of happened)) }
+        ensures made { IfOk result (λ happened. HasMade self.old self.new (Move.Core core) (event_of happened)) }
+        ensures err { OnErr result (StandsStill self.old self.new) }
     {
         match self.flat.nodes[core as usize].need {
             Need::Local => Ok(Happened::Retired(local(&mut self.flat, &mut self.marks, core))),
@@ -83,7 +85,8 @@ impl FlatMachine {
         requires kept { IsKept self.old }
         requires can { has (set_of Own self.old.marks) core ≡ true }
         requires need { (node_at self.old.flat.nodes.items core).need ≡ Load word }
-        ensures { IfOk result (λ happened. HasMade self.old self.new (Move.Core core) (event_of happened)) }
+        ensures made { IfOk result (λ happened. HasMade self.old self.new (Move.Core core) (event_of happened)) }
+        ensures err { OnErr result (StandsStill self.old self.new) }
     {
         let line = self.flat.nodes[core as usize].lines[word as usize / BLOCK_WORDS % LINES];
         let way = way_of(line, word / BLOCK_WORDS as u32, false);
@@ -99,7 +102,8 @@ impl FlatMachine {
         requires kept { IsKept self.old }
         requires can { has (set_of Own self.old.marks) core ≡ true }
         requires need { written (node_at self.old.flat.nodes.items core).need ≡ Some word }
-        ensures { IfOk result (λ happened. HasMade self.old self.new (Move.Core core) (event_of happened)) }
+        ensures made { IfOk result (λ happened. HasMade self.old self.new (Move.Core core) (event_of happened)) }
+        ensures err { OnErr result (StandsStill self.old self.new) }
     {
         let line = self.flat.nodes[core as usize].lines[word as usize / BLOCK_WORDS % LINES];
         let way = way_of(line, word / BLOCK_WORDS as u32, true);
@@ -115,10 +119,11 @@ impl FlatMachine {
         requires kept { IsKept self.old }
         requires can { has (set_of Own self.old.marks) core ≡ true }
         requires need { looked (node_at self.old.flat.nodes.items core).need ≡ Some word }
-        requires way { way ≡ way_of (line_at (node_at self.old.flat.nodes.items core) (word / BLOCK_WORDS % LINES)) (word / BLOCK_WORDS)
-            (is_some (written (node_at self.old.flat.nodes.items core).need)) }
+        requires way { way ≡ way_of (line_at (node_at self.old.flat.nodes.items core) (word / BLOCK_WORDS % LINES))
+            (word / BLOCK_WORDS) (is_some (written (node_at self.old.flat.nodes.items core).need)) }
         requires missed { way ≢ Hit }
-        ensures { IfOk result (λ happened. HasMade self.old self.new (Move.Core core) (event_of happened)) }
+        ensures made { IfOk result (λ happened. HasMade self.old self.new (Move.Core core) (event_of happened)) }
+        ensures err { OnErr result (StandsStill self.old self.new) }
     {
         match way {
             Way::Ask => {
@@ -137,7 +142,8 @@ impl FlatMachine {
         requires stands { IsSomewhere self.old.flat }
         requires kept { IsKept self.old }
         requires within { block * BLOCK_WORDS < self.old.flat.program.words }
-        ensures { IfOk result (λ place. HasEntry self.old self.new block place) }
+        ensures entry { IfOk result (λ place. HasEntry self.old self.new block place) }
+        ensures err { OnErr result (StandsStill self.old self.new) }
     {
         let noted = self.places[block as usize];
         if noted > 0 {

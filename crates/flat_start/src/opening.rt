@@ -1,5 +1,5 @@
 //! The flat state at the start.
-ghost use Rattle.std.specs.Prelude.{◌≡◌, ◌≤◌, ◌*◌, [], IfOk, length, map};
+ghost use Rattle.std.specs.Prelude.{◌≡◌, ◌≤◌, ◌*◌, [], IfOk, OnOk, length, map};
 ghost use Rattle.std.specs.List.{range_with_len};
 ghost use Rattle.access_times.specs.Riding.{none_carrying, none_riding};
 ghost use Rattle.rtr_types.specs.declared.params.TheConstants.{LIMIT_MAX};
@@ -9,7 +9,7 @@ ghost use Rattle.msi_state.specs.States.{state_start};
 ghost use Rattle.flat_state.specs.Shows.{Stands};
 ghost use Rattle.flat_start.specs.Starts.{node_start};
 
-use flat_state::{Ask, Flat, KeptLine, MessageRing, Node, ReplyRing};
+use flat_state::{Ask, Flat, HomeBlock, KeptLine, MessageRing, Node, ReplyRing};
 use image_mem::Image;
 use msi_cache::State;
 use rv_core::{Core, Program};
@@ -28,8 +28,32 @@ pub fn start(alloc: Global, image: Image, cores: u8, limit: u32) -> Result<Flat,
         ≡ map (λ id. node_start f.program id limit) (range_with_len 0 cores)) }
 {
     let program = Program::new(alloc, image)?;
-    let nodes = nodes_at_start(alloc, &program, cores, limit)?;
-    let home = Vec::new(alloc);
+    start_on(program, Vec::new(alloc), Vec::new(alloc), cores, limit)
+}
+
+/// The flat state of so many cores that are to run a program, each with this limit, before its first move. What stood
+/// in these lists goes, and their room serves again. The only refusal is want of memory.
+pub fn start_on(
+    program: Program,
+    nodes: Vec<Node>,
+    home: Vec<HomeBlock>,
+    cores: u8,
+    limit: u32,
+) -> Result<Flat, AllocError>
+    requires cores { cores ≤ CORES_MAX }
+    requires limit { limit ≤ LIMIT_MAX }
+    requires room { length program.bytes ≤ 4 * program.words }
+    ensures stands { IfOk result (λ f. Stands f (state_start none_riding none_carrying program cores limit)
+        (opening_memory program)) }
+    ensures empty { IfOk result (λ f. f.home.items ≡ []) }
+    ensures nodes { IfOk result (λ f. f.nodes.items
+        ≡ map (λ id. node_start f.program id limit) (range_with_len 0 cores)) }
+{
+    let mut nodes = nodes;
+    let mut home = home;
+    nodes.clear();
+    home.clear();
+    put_nodes(&mut nodes, &program, cores, limit)?;
     Ok(Flat {
         program,
         nodes,
@@ -37,22 +61,21 @@ pub fn start(alloc: Global, image: Image, cores: u8, limit: u32) -> Result<Flat,
     })
 }
 
-/// The cores at their ports, by number. The only refusal is want of memory.
+/// Puts the cores at their ports, by number, into a list that has nothing. The only refusal is want of memory.
 #[tactic(auto, using(rtr_types::proofs::Ranges::map_range_more))]
-fn nodes_at_start(
-    alloc: Global,
+fn put_nodes(
+    nodes: &mut Vec<Node>,
     program: &Program,
     cores: u8,
     limit: u32,
-) -> Result<Vec<Node>, AllocError>
-    ensures { IfOk result (λ nodes. nodes.items
-        ≡ map (λ id. node_start program.now id limit) (range_with_len 0 cores)) }
+) -> Result<(), AllocError>
+    requires { nodes.old.items ≡ [] }
+    ensures { OnOk result (nodes.new.items ≡ map (λ id. node_start program.now id limit) (range_with_len 0 cores)) }
 {
-    let mut nodes = Vec::new(alloc);
     for id in 0..cores {
         nodes.push(node_at_start(program, id, limit))?;
     }
-    Ok(nodes)
+    Ok(())
 }
 
 /// A core at its port: its lines hold nothing, and nothing is on its way.

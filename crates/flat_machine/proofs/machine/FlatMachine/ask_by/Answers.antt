@@ -30,27 +30,27 @@ give_back-requires-clause-copy c =
     (own_still m.flat m.marks c.args.core c.requires.kept.marked c.requires.can))
     (sym c.requires.way ∙ left_way c.args.way c.requires.missed c.in_default.not-Ask c.in_default.not-Upgrade)).0
 
-pub returns-in_ok-place-in-Ask : goal.returns-in_ok-place-in-Ask
-returns-in_ok-place-in-Ask c =
+pub returns-in_ok-place-in-Ask-clause-made : goal.returns-in_ok-place-in-Ask-clause-made
+returns-in_ok-place-in-Ask-clause-made c =
     let m = c.args.self.now in
     let w = c.requires.stands in
-    let entry = c.in_ok-place-in-Ask.ensures in
+    let entry = c.in_ok-place-in-Ask.ensures.entry in
     made_after m c.entry_of.new.self _ (CoreMove c.args.core) Nothing entry.stands
     (has_made c.entry_of.new.self _ (CoreMove c.args.core) Nothing
     (record { s = w.s; memory = w.memory; stands = entry.stands w.s w.memory w.stands })
     (marked_on m.flat m.marks w.s w.memory c.requires.kept.marked w.stands Own c.args.core c.requires.can) entry.kept
     c.ask.ensures refl)
 
-pub returns-in-Upgrade : goal.returns-in-Upgrade
-returns-in-Upgrade c =
+pub returns-in-Upgrade-clause-made : goal.returns-in-Upgrade-clause-made
+returns-in-Upgrade-clause-made c =
     let m = c.args.self.now in
     let w = c.requires.stands in
     has_made m _ (CoreMove c.args.core) Nothing w
     (marked_on m.flat m.marks w.s w.memory c.requires.kept.marked w.stands Own c.args.core c.requires.can)
     c.requires.kept c.upgrade.ensures refl
 
-pub returns-in_default : goal.returns-in_default
-returns-in_default c =
+pub returns-in_default-clause-made : goal.returns-in_default-clause-made
+returns-in_default-clause-made c =
     let m = c.args.self.now in
     let w = c.requires.stands in
     has_made m _ (CoreMove c.args.core) Nothing w

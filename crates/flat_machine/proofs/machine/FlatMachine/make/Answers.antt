@@ -10,8 +10,8 @@ use Rattle.flat_machine.proofs.MarkedChoice.{marked_on}
 use Rattle.flat_machine.specs.Machines.{HasMade, move_of}
 use Rattle.flat_machine.proofs.machine.FlatMachine.make.Goals as goal
 
-pub returns-in-Request : goal.returns-in-Request
-returns-in-Request c =
+pub returns-in-Request-clause-made : goal.returns-in-Request-clause-made
+returns-in-Request-clause-made c =
     let m = c.args.self.now in
     let w = c.requires.stands in
     let can = subst (λ (k : MoveKind). has (set_of k m.marks) c.args.core ≡ true) c.in-Request.is c.requires.can in
@@ -24,8 +24,8 @@ returns-in-Request c =
     (marked_on m.flat m.marks w.s w.memory c.requires.kept.marked w.stands Request c.args.core can)
     c.requires.kept c.serve.ensures refl)
 
-pub returns-in-Response : goal.returns-in-Response
-returns-in-Response c =
+pub returns-in-Response-clause-made : goal.returns-in-Response-clause-made
+returns-in-Response-clause-made c =
     let m = c.args.self.now in
     let w = c.requires.stands in
     let can = subst (λ (k : MoveKind). has (set_of k m.marks) c.args.core ≡ true) c.in-Response.is c.requires.can in

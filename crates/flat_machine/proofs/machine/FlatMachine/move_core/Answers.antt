@@ -6,8 +6,8 @@ use Rattle.flat_machine.proofs.MadeMoves.{has_made}
 use Rattle.flat_machine.proofs.MarkedChoice.{marked_on}
 use Rattle.flat_machine.proofs.machine.FlatMachine.move_core.Goals as goal
 
-pub returns-in-Local : goal.returns-in-Local
-returns-in-Local c =
+pub returns-in-Local-clause-made : goal.returns-in-Local-clause-made
+returns-in-Local-clause-made c =
     let m = c.args.self.now in
     let w = c.requires.stands in
     has_made m _ (CoreMove c.args.core) (Retires c.local.result) w

@@ -25,14 +25,14 @@ make-requires-clause-can c =
     taken_marked m.flat m.marks w.s w.memory c.requires.kept.marked w.stands c.requires.going c.args.choice
     c.count-many.result c.pick-taken.result c.count-many.ensures.value c.pick-taken.ensures.value
 
-pub returns : goal.returns
-returns c =
+pub returns-clause-stepped : goal.returns-clause-stepped
+returns-clause-stepped c =
     let m = c.args.self.now in
     let w = c.requires.stands in
     let taken = c.pick-taken.result in
     let can = taken_marked m.flat m.marks w.s w.memory c.requires.kept.marked w.stands c.requires.going
     c.args.choice c.count-many.result taken c.count-many.ensures.value c.pick-taken.ensures.value in
-    let made = c.in_ok-happened.ensures in
+    let made = c.in_ok-happened.ensures.made in
     record {
       taken = move_of taken.kind taken.core;
       chooses = λ s memory stands. taken_chosen m.flat m.marks s memory c.requires.kept.marked stands c.requires.going

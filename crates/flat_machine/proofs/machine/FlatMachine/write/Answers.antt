@@ -6,8 +6,8 @@ use Rattle.flat_machine.proofs.MadeMoves.{has_made}
 use Rattle.flat_machine.proofs.MarkedChoice.{marked_on}
 use Rattle.flat_machine.proofs.machine.FlatMachine.write.Goals as goal
 
-pub returns-in-Hit : goal.returns-in-Hit
-returns-in-Hit c =
+pub returns-in-Hit-clause-made : goal.returns-in-Hit-clause-made
+returns-in-Hit-clause-made c =
     let m = c.args.self.now in
     let w = c.requires.stands in
     has_made m _ (CoreMove c.args.core) (Accesses c.write.result) w
