@@ -24,9 +24,8 @@ use crate::records::{recording_answer, words_answer};
 use crate::smalls::{SmallOf, small_of};
 use crate::tables::{TableOf, table_of};
 use access_times::{NoCarry, NoRider};
-use hunt_runs::HuntedMachine;
+use hunt_runs::{FlatRun, HuntedMachine};
 use hunt_words::{Hunt, Runs, Setup, meaning};
-use msi_machine::Machine;
 use rtr_cli::tell;
 use rtr_io::{ReadEnd, Sink, Source, WriteFault, read_all, write_all};
 use run_ranges::Pace;
@@ -92,7 +91,7 @@ pub fn run_hunt<R: Threads + Sync, P: Pace, I: Source, O: Sink, E: Sink>(
         (O.faults output.old) (O.faults output.new) }
 {
     match meaning(alloc, words) {
-        Ok(Some(hunt)) => hunted(rt, alloc, pace, hunt, input, output, report),
+        Ok(Some(hunt)) => hunted(rt, alloc, pace, &hunt, input, output, report),
         Ok(None) => ends_as(report, Exit::Usage),
         Err(AllocError) => ends_as(report, Exit::OutOfMemory),
     }
@@ -103,13 +102,13 @@ fn hunted<R: Threads + Sync, P: Pace, I: Source, O: Sink, E: Sink>(
     rt: &R,
     alloc: Global,
     pace: &mut P,
-    hunt: Hunt,
+    hunt: &Hunt,
     input: &mut I,
     output: &mut O,
     report: &mut E,
 ) -> HuntExit
-    requires { IsFitting hunt }
-    ensures answered { HuntAnswers hunt result (record {
+    requires { IsFitting hunt.now }
+    ensures answered { HuntAnswers hunt.now result (record {
       left = I.left input.old;
       left' = I.left input.new;
       got = O.got output.old;
@@ -121,10 +120,10 @@ fn hunted<R: Threads + Sync, P: Pace, I: Source, O: Sink, E: Sink>(
     }) }
     ensures faults { TellsFaults result (I.faults input.old) (I.faults input.new) (O.faults output.old)
         (O.faults output.new) }
-    ensures complete { (given bytes : List ℕ) → GivesWhole hunt given bytes result (I.left input.old)
+    ensures complete { (given bytes : List ℕ) → GivesWhole hunt.now given bytes result (I.left input.old)
         (I.faults input.old) (I.faults input.new) (O.faults output.old) (O.faults output.new) }
 {
-    let bytes = match taken(alloc, &setup_in(&hunt), input) {
+    let bytes = match taken(alloc, &setup_in(hunt), input) {
         Ok(bytes) => bytes,
         Err(exit) => return ends_as(report, exit),
     };
@@ -135,7 +134,7 @@ fn hunted<R: Threads + Sync, P: Pace, I: Source, O: Sink, E: Sink>(
 }
 
 /// Tells the report that a hunt ends as a command of `rtr`.
-fn ends_as<E: Sink>(report: &mut E, exit: Exit) -> HuntExit
+pub(crate) fn ends_as<E: Sink>(report: &mut E, exit: Exit) -> HuntExit
     ensures exit { result ≡ As exit }
     ensures told { Tells (fault_line exit) (E.got report.old) (E.got report.new) (E.faults report.old)
         (E.faults report.new) }
@@ -200,17 +199,17 @@ fn answer<R: Threads + Sync, P: Pace>(
     rt: &R,
     alloc: Global,
     pace: &mut P,
-    hunt: Hunt,
+    hunt: &Hunt,
     bytes: Vec<u8>,
 ) -> Result<Answer, AllocError>
-    requires fits { IsFitting hunt }
-    requires room { vec_len bytes ≤ 4 * (setup_in hunt).params.words }
-    ensures { IfOk result (λ a. Finds hunt bytes.items a.out.items (string_bytes a.report) a.exit) }
+    requires fits { IsFitting hunt.now }
+    requires room { vec_len bytes ≤ 4 * (setup_in hunt.now).params.words }
+    ensures { IfOk result (λ a. Finds hunt.now bytes.items a.out.items (string_bytes a.report) a.exit) }
 {
-    if setup_in(&hunt).tso {
+    if setup_in(hunt).tso {
         answer_on::<BufferedMachine<NoRider, NoCarry>, R, P>(rt, alloc, pace, hunt, bytes)
     } else {
-        answer_on::<Machine<NoRider, NoCarry>, R, P>(rt, alloc, pace, hunt, bytes)
+        answer_on::<FlatRun, R, P>(rt, alloc, pace, hunt, bytes)
     }
 }
 
@@ -219,13 +218,13 @@ fn answer_on<M: HuntedMachine + Sync, R: Threads + Sync, P: Pace>(
     rt: &R,
     alloc: Global,
     pace: &mut P,
-    hunt: Hunt,
+    hunt: &Hunt,
     bytes: Vec<u8>,
 ) -> Result<Answer, AllocError>
-    requires fits { IsFitting hunt }
-    requires room { vec_len bytes ≤ 4 * (setup_in hunt).params.words }
+    requires fits { IsFitting hunt.now }
+    requires room { vec_len bytes ≤ 4 * (setup_in hunt.now).params.words }
     ensures { IfOk result (λ a. FindsOn (setting_on (kind_with M.seen_at M.changes_at M.outcome M.most_steps M.buffers)
-        (setup_in hunt).params bytes.items) hunt bytes.items a.out.items (string_bytes a.report) a.exit) }
+        (setup_in hunt.now).params bytes.items) hunt.now bytes.items a.out.items (string_bytes a.report) a.exit) }
 {
     match hunt {
         Hunt::First {
@@ -236,12 +235,12 @@ fn answer_on<M: HuntedMachine + Sync, R: Threads + Sync, P: Pace>(
         } => {
             let asked = FirstOf {
                 bytes: bytes.as_slice(),
-                setup,
-                runs,
-                demand: &demand,
-                plain,
+                setup: *setup,
+                runs: *runs,
+                demand,
+                plain: *plain,
             };
-            first_of::<M, R, P>(rt, alloc, pace, asked, threads_of(rt, &runs))
+            first_of::<M, R, P>(rt, alloc, pace, asked, threads_of(rt, runs))
         }
         Hunt::Table {
             setup,
@@ -251,24 +250,24 @@ fn answer_on<M: HuntedMachine + Sync, R: Threads + Sync, P: Pace>(
         } => {
             let asked = TableOf {
                 bytes: bytes.as_slice(),
-                setup,
-                runs,
+                setup: *setup,
+                runs: *runs,
                 places: places.as_slice(),
                 demand: demand.as_ref(),
             };
-            table_of::<M, R, P>(rt, alloc, pace, asked, threads_of(rt, &runs))
+            table_of::<M, R, P>(rt, alloc, pace, asked, threads_of(rt, runs))
         }
         Hunt::Small { setup, run, demand } => {
             let asked = SmallOf {
                 bytes: bytes.as_slice(),
-                setup,
-                demand: &demand,
+                setup: *setup,
+                demand,
                 first: &[],
             };
-            small_of::<M>(alloc, asked, &run)
+            small_of::<M>(alloc, asked, run)
         }
-        Hunt::Words { setup, run } => words_answer::<M>(alloc, bytes.as_slice(), &setup, &run),
-        Hunt::Record { setup, run } => recording_answer::<M>(alloc, bytes, &setup, &run),
+        Hunt::Words { setup, run } => words_answer::<M>(alloc, bytes.as_slice(), setup, run),
+        Hunt::Record { setup, run } => recording_answer::<M>(alloc, bytes, setup, run),
     }
 }
 

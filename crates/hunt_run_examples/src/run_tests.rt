@@ -5,10 +5,10 @@ ghost use Rattle.run_steps.specs.Ways.{IsSetUp};
 use access_times::{NoCarry, NoRider};
 use end_claims::EndView;
 use hunt_runs::{
-    AtEnd, Counting, HuntedMachine, picks_numbered, run_numbered, run_of_turns, straight_counts,
+    AtEnd, Counting, FlatRun, HuntedMachine, picks_numbered, run_numbered, run_of_turns,
+    straight_counts,
 };
 use image_mem::Image;
-use msi_machine::Machine;
 use rtr_types::{Items, Params};
 use rv_core::Program;
 use std::alloc::Global;
@@ -128,7 +128,7 @@ fn of_core(core: u8, count: u32) -> Turn {
 
 #[test]
 fn turns_give_their_choices(rt: HostRuntime) -> Result<(), Fail> {
-    type M = Machine<NoRider, NoCarry>;
+    type M = FlatRun;
     let alloc = rt.alloc();
     let straight = choices_by_turns::<M>(alloc, &LOST_UPDATE, &[])?;
     assert!(rt; straight.as_slice() == CORE_BY_CORE.as_slice());
@@ -141,7 +141,7 @@ fn turns_give_their_choices(rt: HostRuntime) -> Result<(), Fail> {
 
 #[test]
 fn an_end_is_asked(rt: HostRuntime) -> Result<(), Fail> {
-    type M = Machine<NoRider, NoCarry>;
+    type M = FlatRun;
     let alloc = rt.alloc();
     assert_eq!(rt; counter_by_turns::<M>(alloc, &LOST_UPDATE, &[])?, 2);
     assert_eq!(rt;
@@ -153,7 +153,7 @@ fn an_end_is_asked(rt: HostRuntime) -> Result<(), Fail> {
 
 #[test]
 fn numbers_give_their_choices(rt: HostRuntime) -> Result<(), Fail> {
-    type M = Machine<NoRider, NoCarry>;
+    type M = FlatRun;
     let alloc = rt.alloc();
     let walk = choices_numbered::<M>(alloc, &LOST_UPDATE, Numbered::Walk(2))?;
     assert!(rt; walk.as_slice() == ONE_FIRST.as_slice());

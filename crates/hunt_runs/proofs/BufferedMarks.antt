@@ -25,7 +25,7 @@ use Rattle.turn_policies.specs.Listed.{is_listed, listed}
 use Rattle.turn_policies.specs.declared.actor_set.ActorSet.{ActorSet}
 use Rattle.hunt_runs.specs.PlainSeen.{cores_that}
 use Rattle.hunt_runs.proofs.CoreSets.{set_is_that}
-use Rattle.hunt_runs.proofs.PlainMarks.{below_of, listed_long, marked_long}
+use Rattle.hunt_runs.proofs.MarkCounts.{below_of, listed_long, marked_long}
 
 -- how many moves are marked
 all_long : (marks : Marks) →

@@ -5,7 +5,9 @@ mod Decisions
 pub mod EndViews
 mod PickCounts
 pub mod PickedRuns
-mod PlainMarks
+mod MarkCounts
+mod FlatMarks
+mod FlatEnds
 mod PlainRuns
 mod RunCourses
 mod StartBounds

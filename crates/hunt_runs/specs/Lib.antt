@@ -8,6 +8,7 @@ pub mod Ends
 pub mod Told
 pub mod PlainSeen
 pub mod BufferedSeen
+pub mod FlatSeen
 pub mod Ways
 pub mod Noted
 pub mod Picked

@@ -2,7 +2,6 @@
 -- A policy that notes whom it picks.
 use Rattle.std.specs.Prelude.{ℕ, nat_lt, List, [], ◌∷◌, ◌++◌, length, if◌then◌else◌}
 use Rattle.turn_lists.specs.declared.actor.Actor.{Actor}
-use Rattle.turn_policies.specs.declared.actor_set.ActorSet.{ActorSet}
 use Rattle.turn_policies.specs.Policies.{PolicyOf}
 
 -- a policy's state, whom it picked, in order, and for how many picks there is room

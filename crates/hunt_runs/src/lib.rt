@@ -3,8 +3,8 @@
 //! and lets the policy pick again. The choices that it notes are choice bytes.
 //!
 //! A machine offers what directs it (`HuntedMachine`): whose steps are enabled, what a core needs, and a step by its
-//! number. Nothing is kept of an access but whether it changed a word. A machine serves runs one after the
-//! other, and takes hardly any memory for the next (`restart`).
+//! number. Without store buffers it is the flat machine (`FlatRun`). Nothing is kept of an access but whether it
+//! changed a word. A machine serves runs one after the other, and takes hardly any memory for the next (`restart`).
 //!
 //! Proved: `lead` answers the choices that are defined for the policy (`choices`), each of an enabled step
 //! (`enabled`), and the machine at its end (`ended`), which is what the run under exactly these choices comes to,
@@ -21,16 +21,17 @@ mod counted;
 mod decision;
 mod director;
 mod ended;
+mod flat;
 mod jumps;
 mod led;
 mod machine;
 mod noting;
 mod numbered;
 mod picked;
-mod plain;
 
 pub use decision::Enabled;
 pub use ended::AtEnd;
+pub use flat::FlatRun;
 pub use led::{Led, lead};
 pub use machine::HuntedMachine;
 pub use numbered::{Counted, Counting, Ended, run_numbered, run_of_turns, straight_counts};

@@ -20,11 +20,20 @@ use turn_lists::{Actor, FewLists, Turn};
 use turn_policies::{ByTurns, Numbered, Policy, Ranks, Walk};
 
 /// How often the straight run of an image picks each actor, and all of them: what runs by number rest on.
-#[derive(Drop)]
 pub struct Counted {
     lists: FewLists,
     actors: Vec<Actor>,
     all: u32,
+}
+
+impl Drop for Counted {
+    fn drop(self) {
+        let Counted {
+            lists: _lists,
+            actors: _actors,
+            all: _all,
+        } = self;
+    }
 }
 
 impl Model for Counted {
