@@ -40,11 +40,20 @@ impl From<AllocError> for HuntExit {
 }
 
 /// What a hunt answers: the output, what is reported, and how it ends where the output can be given.
-#[derive(Drop)]
 pub(crate) struct Answer {
     pub(crate) out: Vec<u8>,
     pub(crate) report: String,
     pub(crate) exit: HuntExit,
+}
+
+impl Drop for Answer {
+    fn drop(self) {
+        let Answer {
+            out: _out,
+            report: _report,
+            exit: _exit,
+        } = self;
+    }
 }
 
 impl Answer {

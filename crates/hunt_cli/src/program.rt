@@ -1,17 +1,19 @@
 //! From the words of a command line and three streams to an exit status.
-ghost use Rattle.std.specs.Prelude.{◌≡◌, IfErr, IfOk, map, string_bytes};
+ghost use Rattle.std.specs.Prelude.{◌≡◌, [], IfErr, IfOk, IfSome, None, map, string_bytes};
 ghost use Rattle.std.specs.Io.KnownBytes.{Keeps};
 ghost use Rattle.std.specs.Process.{exit_status};
 ghost use Rattle.state_text.specs.Exits.{fault_line};
+ghost use Rattle.state_text.specs.declared.exit.Exit.TheVariants.{Done};
 ghost use Rattle.rtr_cli.specs.Answers.{Tells};
 ghost use Rattle.hunt_words.specs.Meaning.{meaning};
-ghost use Rattle.hunt_cli.specs.Answers.{AnswersAsked, TellsFaults};
+ghost use Rattle.hunt_texts.specs.Told.{IsTold};
+ghost use Rattle.hunt_cli.specs.Answers.{AnswersAsked, IsGiven, TellsFaults};
 ghost use Rattle.hunt_cli.specs.Statuses.{status_of};
 ghost use Rattle.hunt_cli.specs.declared.exits.HuntExit.{HuntExit};
 ghost use Rattle.hunt_cli.specs.declared.exits.HuntExit.TheVariants.{As};
 
 use crate::exits::HuntExit;
-use crate::tool::run_hunt;
+use crate::tool::{ends_as, run_hunt};
 use crate::watched::Watched;
 use command_line::{Question, asked};
 use hunt_texts::{table, usage_told};
@@ -19,7 +21,7 @@ use rtr_cli::{arguments, tell};
 use rtr_io::{Sink, Source, StdSink, StdSource, WriteFault, write_all};
 use run_ranges::Pace;
 use state_text::Exit;
-use std::alloc::Global;
+use std::alloc::{AllocError, Global};
 use std::io::{Eprint, Stderr, Stdin, Stdout};
 use std::process::ExitCode;
 use std::rt::{Clock, Env};
@@ -51,12 +53,14 @@ where
         Err(_) => &[],
     };
     if let Some(asked) = asked(list) {
-        return give(text_of(asked), output, report);
+        let exit = given(
+            text_of(asked),
+            &mut StdSink::new(output),
+            &mut StdSink::new(report),
+        );
+        return ExitCode::from(exit.status());
     }
-    let told = match &words {
-        Ok(list) => usage_told(rt.alloc(), list.as_slice()),
-        Err(_) => Ok(None),
-    };
+    let told = told_of(rt.alloc(), &words);
     let status = conclude(
         rt,
         rt.alloc(),
@@ -66,21 +70,38 @@ where
         &mut StdSink::new(output),
         &mut StdSink::new(report),
     );
-    if let Ok(Some(text)) = told {
+    if let Some(text) = told {
         // It's a courtesy: where it can't be told, the status says enough.
         let _ = write_all(&mut StdSink::new(report), text.as_bytes());
     }
     status
 }
 
-/// Gives the text to the output, and answers the status that the process ends with.
-fn give(text: &str, output: Stdout, report: Stderr) -> ExitCode {
-    let exit = match write_all(&mut StdSink::new(output), text.as_bytes()) {
-        Ok(()) => Exit::Done,
-        Err(WriteFault) => Exit::WriteFault,
-    };
-    tell(&mut StdSink::new(report), &exit);
-    ExitCode::from(exit.status())
+/// What is told behind the report of words that ask for nothing: which of them is at fault and why, and how the program
+/// is used. Nothing is told where there is no memory for it.
+fn told_of(alloc: Global, words: &Result<Vec<String>, Exit>) -> Option<String>
+    ensures told { IfSome result (λ text. IfOk words.now (λ list.
+        IsTold (map string_bytes list.items) (string_bytes text))) }
+    ensures wordless { IfErr words.now (λ _. result ≡ None) }
+{
+    match words {
+        Ok(list) => match usage_told(alloc, list.as_slice()) {
+            Ok(told) => told,
+            Err(AllocError) => None,
+        },
+        Err(_) => None,
+    }
+}
+
+/// Gives the text to the output. Where that can't be had whole the report is told so.
+fn given<O: Sink, E: Sink>(text: &str, output: &mut O, report: &mut E) -> HuntExit
+    ensures { IsGiven (As Done) text.now [] result (O.got output.old) (O.got output.new) (E.got report.old)
+        (E.got report.new) (E.faults report.old) (E.faults report.new) }
+{
+    match write_all(output, text.as_bytes()) {
+        Ok(()) => ends_as(report, Exit::Done),
+        Err(WriteFault) => ends_as(report, Exit::WriteFault),
+    }
 }
 
 /// Does what the words ask for, and answers the status that the process ends with. `words` leaves out the program's
