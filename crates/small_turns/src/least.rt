@@ -76,9 +76,9 @@ fn least_of<T: Tries>(
     }
 }
 
-/// Turns that break the claim and are least in steps, made of the acts of a run: of the order that keeps each two that
-/// conflict and changes the actor seldom, where its turns break the claim, else of the turns in which they were made.
-/// `None` where neither break it. The only refusal is want of memory.
+/// Turns that break the claim and are least in steps, made of the acts of a run: of their order by conflicts, where its
+/// turns break the claim, else of the turns in which they were made. `None` only where the latter don't break it. The
+/// only refusal is want of memory.
 pub fn small_of_run<T: Tries>(
     alloc: Global,
     tries: &T,

@@ -10,9 +10,12 @@ use rtr_types::Items;
 use std::alloc::{AllocError, Global};
 use turn_lists::{Actor, Turn, joined};
 
-/// The acts of a run in an order in which each two that conflict stay in order and the actor changes seldom, as turns
-/// of one access each. From each first actor, a turn goes on as long as it can, and the next one is of the actor that
-/// can go on longest; the order of fewest turns is taken. The only refusal is want of memory.
+/// The acts of a run in another order, as turns of one access each: each actor makes as many of them. The only refusal
+/// is want of memory.
+///
+/// No clause says which order it is, since its turns are tried before they are taken. It is meant to keep each two acts
+/// that conflict in order, and to change the actor seldom. From each first actor, a turn goes on as long as it can, and
+/// the next one is of the actor that can go on longest; the order of fewest turns is taken.
 pub fn by_conflicts(alloc: Global, acts: &[Act]) -> Result<Items<Turn>, AllocError>
     ensures { IfOk result (λ turns. IsReordered acts.now turns) }
 {
