@@ -9,10 +9,10 @@ use Rattle.gdb_commands.specs.declared.commands.Command.TheVariants.{Cut, GoTo, 
 use Rattle.gdb_commands.specs.declared.commands.Command.TheVariants.{Writer, Readers, History, Conflicts, Why}
 use Rattle.gdb_commands.specs.declared.commands.Command.TheVariants.{Decision, Decisions, Order, Lead, Slack}
 use Rattle.gdb_commands.specs.declared.commands.Command.TheVariants.{Last, Other, When, Info, GoToMark, Mark, Marks}
-use Rattle.gdb_commands.specs.declared.commands.Command.TheVariants.{Unmeant}
+use Rattle.gdb_commands.specs.declared.commands.Command.TheVariants.{Calls, Trace, Unmeant}
 use Rattle.gdb_commands.specs.declared.filters.Filter.{Filter}
 use Rattle.gdb_commands.specs.declared.filters.Filter.TheVariants.{Every, Writes, ByCore}
-use Rattle.gdb_commands.specs.Numbers.{core_of, count_of, named_instr, word_of}
+use Rattle.gdb_commands.specs.Numbers.{address_of, core_of, count_of, named_instr, word_of}
 use Rattle.gdb_commands.specs.Words.{words_of}
 
 -- one argument, and no other
@@ -35,6 +35,9 @@ one_instr arguments = option_and_then named_instr (only arguments)
 
 abbrev pub one_word : List (List ℕ) → Option ℕ
 one_word arguments = option_and_then word_of (only arguments)
+
+abbrev pub one_address : List (List ℕ) → Option ℕ
+one_address arguments = option_and_then address_of (only arguments)
 
 -- `goto C:N` and `goto N N ..`
 abbrev pub spot_of : List (List ℕ) → Option Command
@@ -82,6 +85,16 @@ abbrev pub history_of : List (List ℕ) → Option Command
 history_of [] = None
 history_of (word ∷ rest) = option_and_then (λ w. option_map (λ f. History w f) (filter_of rest)) (word_of word)
 
+-- `trace C:N K`, and `trace C:N`, which tells ten instructions on each side
+abbrev pub near_of : List (List ℕ) → Option ℕ
+near_of [] = Some 10
+near_of (word ∷ []) = count_of word
+near_of (word ∷ next ∷ rest) = None
+
+abbrev pub trace_of : List (List ℕ) → Option Command
+trace_of [] = None
+trace_of (word ∷ rest) = option_and_then (λ at. option_map (λ near. Trace at near) (near_of rest)) (named_instr word)
+
 -- `lead C` and `lead all`
 abbrev pub leader_of : List ℕ → Option Command
 leader_of word =
@@ -122,10 +135,20 @@ run_named name arguments =
     if bytes_eq name (codes "decisions") then alone Decisions arguments else
     if bytes_eq name (codes "info") then alone Info arguments else None
 
+-- the commands that ask which instructions cores took
+abbrev pub path_named : (name : List ℕ) → (arguments : List (List ℕ)) → Option Command
+path_named name arguments =
+    if bytes_eq name (codes "trace") then trace_of arguments else
+    if bytes_eq name (codes "calls") then option_map Calls (one_address arguments) else None
+
+-- the commands that ask for a word, an instruction, a pc or the whole of the run
+abbrev pub asked_named : (name : List ℕ) → (arguments : List (List ℕ)) → Option Command
+asked_named name arguments = option_or (run_named name arguments) (path_named name arguments)
+
 -- a command by its name
 abbrev pub named : (name : List ℕ) → (arguments : List (List ℕ)) → Option Command
 named name arguments =
-    option_or (place_named name arguments) (option_or (cause_named name arguments) (run_named name arguments))
+    option_or (place_named name arguments) (option_or (cause_named name arguments) (asked_named name arguments))
 
 -- the words of a command
 abbrev pub meaning : List (List ℕ) → Option Command

@@ -37,11 +37,13 @@ asking_form name =
     if bytes_eq name (codes "history") then Some (codes "history ADDR, history ADDR writes or history ADDR core C")
     else None
 
--- the commands that mark cuts
+-- the commands that mark cuts, or ask which instructions cores took
 abbrev pub mark_form : (name : List ℕ) → Option (List ℕ)
 mark_form name =
     if bytes_eq name (codes "mark") then Some (codes "mark NAME, a name that is no C:N and no count") else
-    if bytes_eq name (codes "marks") then Some (codes "marks") else None
+    if bytes_eq name (codes "marks") then Some (codes "marks") else
+    if bytes_eq name (codes "trace") then Some (codes "trace C:N or trace C:N K") else
+    if bytes_eq name (codes "calls") then Some (codes "calls ADDR") else None
 
 -- how the command with this name goes, if there is one
 abbrev pub form_of : (name : List ℕ) → Option (List ℕ)
@@ -54,7 +56,7 @@ form_text form = line (codes "rtr_gdb: the command is monitor " ++ form)
 -- the commands that there are
 abbrev pub names_text : List ℕ
 names_text = codes "cut, when, goto, mark, marks, earliest, latest, last, decision, other, lead, slack, why, "
-    ++ codes "edges, order, conflicts, writer, readers, history, decisions and info"
+    ++ codes "edges, order, conflicts, writer, readers, history, decisions, trace, calls and info"
 
 abbrev pub unknown_text : (name : List ℕ) → List ℕ
 unknown_text name = line (codes "rtr_gdb: no command '" ++ name ++ codes "'; monitor takes " ++ names_text)

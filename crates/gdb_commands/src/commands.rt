@@ -4,11 +4,12 @@ ghost use Rattle.std.specs.Option.{option_map};
 ghost use Rattle.gdb_commands.specs.Commands.{alone, command_of, counts_of, goto_of, meaning, named, one_core, only};
 ghost use Rattle.gdb_commands.specs.Commands.{lead_of, leader_of, one_instr, one_word, order_of, place_named};
 ghost use Rattle.gdb_commands.specs.Commands.{cause_named, decision_of, filter_of, first_word, history_of};
-ghost use Rattle.gdb_commands.specs.Commands.{mark_of, other_of, run_named, spot_of, two_instrs};
+ghost use Rattle.gdb_commands.specs.Commands.{mark_of, near_of, other_of, path_named, run_named, spot_of};
+ghost use Rattle.gdb_commands.specs.Commands.{asked_named, one_address, trace_of, two_instrs};
 ghost use Rattle.gdb_commands.specs.declared.commands.Command.TheVariants.{Unmeant};
 
 use crate::filters::Filter;
-use crate::numbers::{core_of, count_of, named_instr, word_of};
+use crate::numbers::{address_of, core_of, count_of, named_instr, word_of};
 use crate::words::words_of;
 use gdb_packets::is;
 use rtr_types::{Instr, Items};
@@ -64,6 +65,10 @@ pub enum Command {
     When,
     /// `info`: what the session was begun with, and how each core of the recording ends.
     Info,
+    /// `trace C:N` and `trace C:N K`: the instructions of the core from so many before this one to so many behind it.
+    Trace(Instr, u32),
+    /// `calls ADDR`: how often each core came to this pc, and the first and the last time.
+    Calls(u32),
     /// Every other text, by its first word.
     Unmeant(Items<u8>),
 }
@@ -110,8 +115,31 @@ fn named(name: &[u8], arguments: &[Items<u8>]) -> Option<Command>
         Some(command) => Some(command),
         None => match cause_named(name, arguments) {
             Some(command) => Some(command),
-            None => run_named(name, arguments),
+            None => asked_named(name, arguments),
         },
+    }
+}
+
+/// The commands that ask for a word, an instruction, a pc or the whole of the run.
+fn asked_named(name: &[u8], arguments: &[Items<u8>]) -> Option<Command>
+    ensures { result ≡ asked_named name.now arguments.now }
+{
+    match run_named(name, arguments) {
+        Some(command) => Some(command),
+        None => path_named(name, arguments),
+    }
+}
+
+/// The commands that ask which instructions cores took.
+fn path_named(name: &[u8], arguments: &[Items<u8>]) -> Option<Command>
+    ensures { result ≡ path_named name.now arguments.now }
+{
+    if is(name, "trace") {
+        trace_of(arguments)
+    } else if is(name, "calls") {
+        one_address(arguments).map(Command::Calls)
+    } else {
+        None
     }
 }
 
@@ -295,6 +323,31 @@ fn filter_of(arguments: &[Items<u8>]) -> Option<Filter>
     }
 }
 
+/// `trace` with an instruction, and how many are told on each side of it.
+fn trace_of(arguments: &[Items<u8>]) -> Option<Command>
+    ensures { result ≡ trace_of arguments.now }
+{
+    match arguments.split_first() {
+        Some((at, rest)) => {
+            let at = named_instr(at.as_slice())?;
+            let near = near_of(rest)?;
+            Some(Command::Trace(at, near))
+        }
+        None => None,
+    }
+}
+
+/// How many instructions are told on each side of one.
+fn near_of(arguments: &[Items<u8>]) -> Option<u32>
+    ensures { result ≡ near_of arguments.now }
+{
+    match arguments {
+        [] => Some(10),
+        [near] => count_of(near.as_slice()),
+        _ => None,
+    }
+}
+
 /// `lead` with a core, or with `all`.
 fn lead_of(arguments: &[Items<u8>]) -> Option<Command>
     ensures { result ≡ lead_of arguments.now }
@@ -332,6 +385,13 @@ fn one_word(arguments: &[Items<u8>]) -> Option<u32>
     ensures { result ≡ one_word arguments.now }
 {
     word_of(only(arguments)?)
+}
+
+/// The one argument, an address.
+fn one_address(arguments: &[Items<u8>]) -> Option<u32>
+    ensures { result ≡ one_address arguments.now }
+{
+    address_of(only(arguments)?)
 }
 
 /// The one argument.

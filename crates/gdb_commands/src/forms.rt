@@ -54,7 +54,7 @@ fn put_names(text: &mut Vec<u8>) -> Put
     )?;
     put(
         text,
-        "edges, order, conflicts, writer, readers, history, decisions and info",
+        "edges, order, conflicts, writer, readers, history, decisions, trace, calls and info",
     )
 }
 
@@ -154,7 +154,7 @@ fn asking_form(name: &[u8]) -> Option<&'static str>
     }
 }
 
-/// The commands that mark cuts.
+/// The commands that mark cuts, or ask which instructions cores took.
 fn mark_form(name: &[u8]) -> Option<&'static str>
     ensures { option_map (λ form. form.now) result ≡ mark_form name.now }
 {
@@ -162,6 +162,10 @@ fn mark_form(name: &[u8]) -> Option<&'static str>
         Some("mark NAME, a name that is no C:N and no count")
     } else if is(name, "marks") {
         Some("marks")
+    } else if is(name, "trace") {
+        Some("trace C:N or trace C:N K")
+    } else if is(name, "calls") {
+        Some("calls ADDR")
     } else {
         None
     }

@@ -102,7 +102,7 @@ fn address_within(number: Option<u64>) -> Option<u32>
 }
 
 /// An address: decimal, or hexadecimal behind `0x`.
-fn address_of(text: &[u8]) -> Option<u32>
+pub(crate) fn address_of(text: &[u8]) -> Option<u32>
     ensures { result ≡ address_of text.now }
 {
     match behind(text, "0x") {
