@@ -3,3 +3,4 @@ pub mod OnePc
 pub mod SameSites
 pub mod TableCounts
 pub mod AllDecisions
+pub mod MoreVisits

@@ -5,3 +5,4 @@ pub mod Sites
 pub mod About
 pub mod Decisions
 pub mod Asking
+pub mod Traces

@@ -7,8 +7,9 @@
 //! `decisions_told` tells one row for each two sites (pc and word) between which an edge of the log leads: how many edges
 //! lead this way, how many the other, and the last one. What goes both ways comes first, and then what is rare
 //! (`AreDecisions`). `why_told` tells the chain of edges by which an instruction waited (`AreWaits`). `history_told`
-//! tells all accesses to a word, those that write it, or those of a core (`chosen`). `info_told` is a function of the
-//! audit (`info_text`). An instruction's pc is where its core is in the state of a closed cut that has all of the
+//! tells all accesses to a word, those that write it, or those of a core (`chosen`). `trace_told` tells a core's
+//! instructions around one (`around`). `calls_told` tells how often each core came to a pc, and the first and the last
+//! time (`visits`). `info_told` is a function of the audit (`info_text`). An instruction's pc is where its core is in the state of a closed cut that has all of the
 //! core's instructions before it, and not it. There is one (`IsPcOf`, `one_pc`). If what is named isn't there, that is
 //! told. Each is refused for want of memory alone.
 #![tactic(auto)]
@@ -25,6 +26,8 @@ pub mod laws;
 mod missing;
 mod pcs;
 mod sites;
+mod traces;
+mod visits;
 mod waits_told;
 
 pub use about::info_told;
@@ -34,4 +37,6 @@ pub use decision_rows::decisions_told;
 pub use edges::edges_told;
 pub use instrs::put_word;
 pub use missing::no_instr;
+pub use traces::trace_told;
+pub use visits::calls_told;
 pub use waits_told::why_told;
