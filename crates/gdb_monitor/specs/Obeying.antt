@@ -11,11 +11,13 @@ use Rattle.gdb_commands.specs.declared.commands.Command.TheVariants.{Cut, GoTo, 
 use Rattle.gdb_commands.specs.declared.commands.Command.TheVariants.{Writer, Readers, History, Conflicts, Why}
 use Rattle.gdb_commands.specs.declared.commands.Command.TheVariants.{Decision, Decisions, Order, Lead, Slack}
 use Rattle.gdb_commands.specs.declared.commands.Command.TheVariants.{Last, Other, When, Info, GoToMark, Marks, Unmeant}
+use Rattle.gdb_commands.specs.declared.commands.Command.TheVariants.{Calls, Trace}
 use Rattle.gdb_commands.specs.declared.commands.Command.TheVariants as commands
 use Rattle.gdb_monitor.specs.declared.moves.Extreme.TheVariants as extremes
 use Rattle.race_answers.specs.About.{info_text}
 use Rattle.race_answers.specs.Asking.{AreConflictsTold, AreDecisionsTold, AreEdgesTold, AreReadersTold}
 use Rattle.race_answers.specs.Asking.{IsHistoryTold, IsWhyTold, IsWriterTold}
+use Rattle.race_answers.specs.Traces.{AreCallsTold, IsTraceTold}
 use Rattle.gdb_commands.specs.Forms.{unmeant_text}
 use Rattle.gdb_monitor.specs.Leading.{lead_told}
 use Rattle.gdb_moves.specs.Sights.{IsOf}
@@ -27,7 +29,7 @@ use Rattle.gdb_monitor.specs.Slack.{IsSlackTold}
 use Rattle.gdb_monitor.specs.Texts.{here_text}
 use Rattle.gdb_monitor.specs.Whens.{when_text}
 
--- what a command that asks for a word, an instruction or all decisions is told, by the audit, at a cut
+-- what a command that asks for a word, an instruction, a pc or all decisions is told, by the audit, at a cut
 abbrev pub AuditTells : Command → Findings → cuts.Cut → (told : List ℕ) → Type 0
 AuditTells (Edges at) a cut told = AreEdgesTold a cut at told
 AuditTells (Writer word) a cut told = IsWriterTold a cut word told
@@ -38,6 +40,8 @@ AuditTells Decisions a cut told = AreDecisionsTold a told
 AuditTells (Why at) a cut told = IsWhyTold a at told
 AuditTells (Other at next) a cut told = IsOtherTold a at next told
 AuditTells Info a cut told = told ≡ info_text a
+AuditTells (Trace at near) a cut told = IsTraceTold a cut at near told
+AuditTells (Calls pc) a cut told = AreCallsTold a pc told
 AuditTells _ a cut told = told ≡ []
 
 -- by the audit of the place's recording, at its cut, and nothing moves
@@ -72,4 +76,6 @@ Obeys (Why at) marks old new told = Asks (Why at) old new told
 Obeys (Other at next) marks old new told = Asks (Other at next) old new told
 Obeys When marks old new told = Tells old new told (when_text old)
 Obeys Info marks old new told = Asks Info old new told
+Obeys (Trace at near) marks old new told = Asks (Trace at near) old new told
+Obeys (Calls pc) marks old new told = Asks (Calls pc) old new told
 Obeys (Unmeant word) marks old new told = Tells old new told (unmeant_text word)

@@ -18,8 +18,8 @@ use cut_marks::Marks;
 use debug_place::Place;
 use gdb_commands::{Command, unmeant_told};
 use race_answers::{
-    conflicts_told, decisions_told, edges_told, history_told, info_told, readers_told, why_told,
-    writer_told,
+    calls_told, conflicts_told, decisions_told, edges_told, history_told, info_told, readers_told,
+    trace_told, why_told, writer_told,
 };
 use replay_audit::Audited;
 use rtr_types::{Cut, Items};
@@ -66,11 +66,13 @@ pub fn obey(
         Command::Other(_, _) => ask(alloc, audited, place, command),
         Command::When => when_told(alloc, audited, place),
         Command::Info => ask(alloc, audited, place, command),
+        Command::Trace(_, _) => ask(alloc, audited, place, command),
+        Command::Calls(_) => ask(alloc, audited, place, command),
         Command::Unmeant(word) => unmeant_told(alloc, word.as_slice()),
     }
 }
 
-/// What a command that asks for a word, an instruction or all decisions is told.
+/// What a command that asks for a word, an instruction, a pc or all decisions is told.
 fn ask(
     alloc: Global,
     audited: &Audited,
@@ -104,6 +106,8 @@ fn audit_tells(
         Command::Why(at) => why_told(alloc, audited, *at),
         Command::Other(at, next) => other_told(alloc, audited, *at, *next),
         Command::Info => info_told(alloc, audited),
+        Command::Trace(at, near) => trace_told(alloc, audited, cut, *at, *near),
+        Command::Calls(pc) => calls_told(alloc, audited, *pc),
         _ => Ok(Items::new(alloc)),
     }
 }
