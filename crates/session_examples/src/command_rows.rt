@@ -86,7 +86,7 @@ macro_rules! unknown {
     ($command:literal, $name:literal) => {
         told!($command => concat!("rtr_gdb: no command '", $name,
             "'; monitor takes cut, when, goto, mark, marks, earliest, latest, last, decision, other, lead, slack, ",
-            "why, edges, order, conflicts, writer, readers, history, decisions and info\n"))
+            "why, edges, order, conflicts, writer, readers, history, decisions, trace, calls and info\n"))
     };
 }
 
@@ -105,7 +105,7 @@ macro_rules! lacks {
 }
 
 /// Commands that aren't known, or that name what isn't there.
-pub static REFUSED: [Told; 46] = [
+pub static REFUSED: [Told; 49] = [
     unknown!("", ""),
     unknown!("nonsense 1", "nonsense"),
     goes!("cut 1" => "cut"),
@@ -152,10 +152,13 @@ pub static REFUSED: [Told; 46] = [
     goes!("history 64 reads" => "history ADDR, history ADDR writes or history ADDR core C"),
     goes!("history 64 core" => "history ADDR, history ADDR writes or history ADDR core C"),
     goes!("last x" => "last ADDR"),
+    lacks!("trace 2:195" => "2:195"),
+    goes!("trace 2:1 x" => "trace C:N or trace C:N K"),
+    goes!("calls" => "calls ADDR"),
 ];
 
 /// What is asked where core 0 has stored to word 16 and core 1 has loaded it: on the recording of two cores.
-pub static RUN: [Told; 28] = [
+pub static RUN: [Told; 34] = [
     told!("history 64" =>
         "+ 0:3 pc 00000008 store 00000040 00000000 -> 00000007\n\
         + 1:2 pc 00000014 load 00000040 00000007\n\
@@ -217,4 +220,15 @@ pub static RUN: [Told; 28] = [
     told!("last 0x40" => "cut 2 1\n"),
     told!("last 0x40" => "no write: the opening value\n"),
     told!("slack 0" => "core 0: 2 to 2, at 2\ncore 1: 0 to 1, at 1\n"),
+    told!("trace 0:3 1" =>
+        "  0:2 pc 00000004\n\
+        + 0:3 pc 00000008 store 00000040 00000000 -> 00000007\n\
+        + 0:4 pc 0000000c load 00000040 00000001\n"),
+    told!("trace 1:4 1" =>
+        "+ 1:3 pc 00000018 store 00000040 00000007 -> 00000001\n\
+        + 1:4 pc 0000001c\n"),
+    told!("trace 1:1 0" => "  1:1 pc 00000000\n"),
+    told!("calls 0x18" => "core 1: 1 in all, first 1:3, last 1:3\n"),
+    told!("calls 0" => "core 0: 1 in all, first 0:1, last 0:1\ncore 1: 1 in all, first 1:1, last 1:1\n"),
+    told!("calls 0x1a" => "no instruction has this pc\n"),
 ];
