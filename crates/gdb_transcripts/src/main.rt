@@ -1,6 +1,6 @@
 //! A program that plays stored sessions of gdb, packet by packet, and compares each answer to the byte.
 //!
-//! Tested, not proved of gdb: thirteen whole sessions of gdb 13.1, 1,763 packets, are answered to the byte. They are on
+//! Tested, not proved of gdb: thirteen whole sessions of gdb 13.1, 1,768 packets, are answered to the byte. They are on
 //! recordings of four programs with 2, 4 and 16 cores. The answers are those of a plain program, with which gdb printed
 //! what `tests/sessions` has. `Player::plays`: where a line is passed, the session did as it says (`Does`). So an
 //! answer that differs, is missing or is too many ends a session's play.
