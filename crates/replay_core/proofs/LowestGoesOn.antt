@@ -51,7 +51,7 @@ module _ (t : Tallied) (c : ℕ) (inside : c < length t.plan.totals) (place : c 
         let h = here in
         let m = (most (omega arith)).1 in
         sym (lowest_here t.plan (count_of (gone_to t c k).counts) c (length t.plan.totals - c) (omega arith) ready_on
-        ∙ lowest_still t (gone_to t c k) c k until refl refl here (omega arith) (omega arith) low awaited (omega arith))
+        ∙ lowest_still t (gone_to t c k) c k until refl refl here (omega arith) awaited (omega arith))
 
   pub run_is : IsRun t c u
   run_is = record {

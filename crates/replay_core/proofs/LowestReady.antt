@@ -1,104 +1,80 @@
 -- The lowest core that is ready, as the counts go on.
 use Rattle.std.proofs.Common.{inl, inr, ◌≡◌, ◌≢◌, ◌⊎◌, ℕ, zero, suc, ◌+◌, ◌-◌, ◌<◌, ◌≤◌, true, false, List}
 use Rattle.std.proofs.Common.{length, refl, sym, ap, ◌∙◌, subst, arith}
-use Rattle.std.proofs.Common.{get_or-set_same, get_or-set_other}
+use Rattle.std.proofs.Common.{get_or-set_other}
 use Rattle.std.specs.Prelude.{nat_eq, slice_index, slice_set, Option, Some, None}
-use Rattle.std.specs.List.{Contains}
 use Rattle.std.specs.Option.{option_eq}
 use Rattle.std.proofs.lemmas.Bool.Decides.{nat_tests}
-use Rattle.std.proofs.lemmas.Bool.{cases_Bool, cases_lt}
+use Rattle.std.proofs.lemmas.Bool.{cases_Bool}
 use native.Mathlib.Decide.{ℕ_discrete}
-use Rattle.rtr_types.specs.declared.instr.Instr.{Instr}
-use Rattle.rtr_types.specs.declared.pairs.Which.{Which}
 use Rattle.clock_core.specs.Order.{Among}
-use Rattle.clock_core.proofs.EdgeLists.{contains_among}
-use Rattle.race_log.specs.declared.recording.Recording.{Recording}
-use Rattle.race_log.specs.Sources.{log_edges}
-use Rattle.race_log.specs.Validity.{Valid}
-use Rattle.replay_core.specs.Plans.{Plan, plan_of}
+use Rattle.clock_core.proofs.EdgeLists.{among_contains}
+use Rattle.replay_core.specs.Plans.{Plan}
 use Rattle.replay_core.specs.Play.{instr}
-use Rattle.replay_core.specs.Orders.{Ready, is_ready, lowest, lowest_ready}
-use Rattle.replay_core.proofs.Low.{IsLowest, lowest_is}
-use Rattle.replay_core.proofs.Ready.{ready_true, source_within, within_sourced}
-use Rattle.replay_core.proofs.Sources.{lowest_on}
-use Rattle.replay_core.specs.Sources.{AreSources}
-use Rattle.replay_core.specs.Tallies.{Tallied, AreAwaited, count_of, next_of}
-use Rattle.replay_core.proofs.Sources.{edge_within}
+use Rattle.replay_core.specs.Orders.{is_ready, is_sourced, lowest, lowest_ready}
+use Rattle.replay_core.proofs.Ready.{ready_true, source_within}
+use Rattle.replay_core.proofs.Sources.{lowest_on, unmet}
+use Rattle.replay_core.specs.Tallies.{Tallied, AreAwaited, IsWanting, Waits, WaitsFor, count_of, next_of}
 
 -- ---- what one core waits for
 
--- the counts of the first cores are lowered to those that the core waits for
-pub record LoweredTo (n : ℕ) (counts wanted old until : List ℕ) : Type 0 where
-  pub below : (i : ℕ) → slice_index until i ≤ slice_index old i
-  pub waits : (i : ℕ) → i < n → slice_index counts i < slice_index wanted i → slice_index until i ≤ slice_index wanted i
+-- its next instruction has a source that lies above the counts
+pub unsourced_at : (t : Tallied) (c : ℕ) (i a : ℕ) → IsWanting t c i a →
+    is_sourced t.plan.edges (count_of t.counts) c (count_of t.counts c + 1) ≡ false
+unsourced_at t c i a w = sym (unmet t.plan.edges (count_of t.counts) i c (count_of t.counts c + 1)
+    (λ met. let le = met a (among_contains t.plan.edges (instr i a) (next_of t.counts c) w.among) in
+    let up = w.above in omega arith))
 
-pub lowered_here : (n count : ℕ) (counts wanted old until : List ℕ) → n < length until →
-    LoweredTo n counts wanted old until →
-    count ≡ slice_index wanted n → count < slice_index until n →
-    LoweredTo (n + 1) counts wanted old (slice_set until n count)
-lowered_here n count counts wanted old until inside h is less =
-    record { below = λ i. below i (ℕ_discrete i n); waits = λ i lt up. waits i lt up (ℕ_discrete i n) }
+pub unready_at : (t : Tallied) (c : ℕ) (i a : ℕ) → IsWanting t c i a → is_ready t.plan (count_of t.counts) c ≡ false
+unready_at t c i a w = by (cases_Bool (is_ready t.plan (count_of t.counts) c))
   where
-    here : slice_index (slice_set until n count) n ≡ count
-    here = get_or-set_same until n count 0 inside
+    by : (is_ready t.plan (count_of t.counts) c ≡ true) ⊎ (is_ready t.plan (count_of t.counts) c ≡ false) →
+        is_ready t.plan (count_of t.counts) c ≡ false
+    by (inr f) = f
+    by (inl y) =
+        let le = source_within t.plan.edges (count_of t.counts) c (count_of t.counts c + 1)
+        (ready_true t.plan (count_of t.counts) c y).sourced (instr i a)
+        (among_contains t.plan.edges (instr i a) (next_of t.counts c) w.among) in
+        let up = w.above in
+        absurd (omega arith)
 
-    below : (i : ℕ) → Dec (i ≡ n) → slice_index (slice_set until n count) i ≤ slice_index old i
-    below i (yes e) = subst (λ (j : ℕ). slice_index (slice_set until n count) j ≤ slice_index old j) (sym e)
-        (let b = h.below n in let k = here in omega arith)
-    below i (no ne) = let k = get_or-set_other until n i count 0 ne in let b = h.below i in omega arith
-
-    waits : (i : ℕ) → i < n + 1 → slice_index counts i < slice_index wanted i → Dec (i ≡ n) →
-        slice_index (slice_set until n count) i ≤ slice_index wanted i
-    waits i lt up (yes e) = subst (λ (j : ℕ). slice_index (slice_set until n count) j ≤ slice_index wanted j) (sym e)
-        (let k = here in omega arith)
-    waits i lt up (no ne) = let k = get_or-set_other until n i count 0 ne in let w =
-        h.waits i (let e = ne in grind arith) up in omega arith
-
-pub lowered_not : (n count : ℕ) (counts wanted old until : List ℕ) → LoweredTo n counts wanted old until →
-    count ≡ slice_index wanted n →
-    (slice_index counts n < count → slice_index until n ≤ count) → LoweredTo (n + 1) counts wanted old until
-lowered_not n count counts wanted old until h is least =
-    record { below = h.below; waits = λ i lt up. waits i lt up (ℕ_discrete i n) }
+pub not_ready : (t : Tallied) (c : ℕ) (until : List ℕ) → Waits t c until →
+    is_ready t.plan (count_of t.counts) c ≡ false
+not_ready t c until (inr w) = unready_at t c w.of w.count w.wanting
+not_ready t c until (inl full) = by (cases_Bool (is_ready t.plan (count_of t.counts) c))
   where
-    waits : (i : ℕ) → i < n + 1 → slice_index counts i < slice_index wanted i → Dec (i ≡ n) →
-        slice_index until i ≤ slice_index wanted i
-    waits i lt up (yes e) =
-        subst (λ (j : ℕ). slice_index until j ≤ slice_index wanted j) (sym e)
-        (let u : slice_index counts n < slice_index wanted n =
-        subst (λ (j : ℕ). slice_index counts j < slice_index wanted j) e up in
-        let le = least (omega arith) in omega arith)
-    waits i lt up (no ne) = h.waits i (let e = ne in grind arith) up
-
--- the counts of all cores are
-pub lowered_all : (which : Which) (r : Recording) (p : Plan) (n c count : ℕ) (counts wanted old until : List ℕ) →
-    Valid r → p ≡ plan_of which r →
-    r.params.cores ≤ n → AreSources p.edges (instr c count) wanted → LoweredTo n counts wanted old until → (i a : ℕ) →
-    Among p.edges (instr i a) (instr c count) → slice_index counts i < a → slice_index until i ≤ a
-lowered_all which r p n c count counts wanted old until valid is all are h i a m up =
-    let there : Among (log_edges which r) (instr i a) (instr c count) =
-    subst (λ (q : Plan). Among q.edges (instr i a) (instr c count)) is m in
-    let w = edge_within which r (instr i a) (instr c count) valid there in
-    let e : slice_index wanted i ≡ a = are.each (instr i a) m in
-    let le = h.waits i (let lt = w.pair.source in omega arith) (omega arith) in
-    omega arith
+    by : (is_ready t.plan (count_of t.counts) c ≡ true) ⊎ (is_ready t.plan (count_of t.counts) c ≡ false) →
+        is_ready t.plan (count_of t.counts) c ≡ false
+    by (inr f) = f
+    by (inl y) = let lt = (ready_true t.plan (count_of t.counts) c y).below in absurd (omega arith)
 
 -- ---- cores in turn
 
+-- lower counts are awaited as well
+pub awaited_lower : (t : Tallied) (c : ℕ) (old until : List ℕ) → AreAwaited t c old →
+    ((i : ℕ) → slice_index until i ≤ slice_index old i) → AreAwaited t c until
+awaited_lower t c old until h below = record { each = λ d lt. lower d (h.each d lt) }
+  where
+    lower : (d : ℕ) → Waits t d old → Waits t d until
+    lower d (inl full) = inl full
+    lower d (inr w) = inr (record {
+      of = w.of;
+      count = w.count;
+      wanting = w.wanting;
+      awaited = let le = w.awaited in let b = below w.of in omega arith;
+    })
+
 -- one core more waits
 pub awaited_more : (t : Tallied) (c : ℕ) (old until : List ℕ) → AreAwaited t c old →
-    ((i : ℕ) → slice_index until i ≤ slice_index old i) →
-    ((i a : ℕ) → Among t.plan.edges (instr i a) (next_of t.counts c) → count_of t.counts i < a →
-    slice_index until i ≤ a) → AreAwaited t (c + 1) until
-awaited_more t c old until h below waits = record { each = λ d i a lt m up. each d i a lt m up (ℕ_discrete d c) }
+    ((i : ℕ) → slice_index until i ≤ slice_index old i) → Waits t c until → AreAwaited t (c + 1) until
+awaited_more t c old until h below waits = record { each = λ d lt. each d lt (ℕ_discrete d c) }
   where
-    each : (d i a : ℕ) → d < c + 1 → Among t.plan.edges (instr i a) (next_of t.counts d) → count_of t.counts i < a →
-        Dec (d ≡ c) → slice_index until i ≤ a
-    each d i a lt m up (yes e) =
-        waits i a (subst (λ (j : ℕ). Among t.plan.edges (instr i a) (next_of t.counts j)) e m) up
-    each d i a lt m up (no ne) = let w = h.each d i a (let e = ne in grind arith) m up in let b = below i in omega arith
+    each : (d : ℕ) → d < c + 1 → Dec (d ≡ c) → Waits t d until
+    each d lt (yes e) = subst (λ (j : ℕ). Waits t j until) (sym e) waits
+    each d lt (no ne) = (awaited_lower t c old until h below).each d (let e = ne in grind arith)
 
 pub awaited_none : (t : Tallied) (until : List ℕ) → AreAwaited t 0 until
-awaited_none t until = record { each = λ d i a lt m up. absurd (omega arith) }
+awaited_none t until = record { each = λ d lt. absurd (omega arith) }
 
 -- the one that is found
 pub awaited_at : (t : Tallied) (c d : ℕ) (until : List ℕ) → ◌≡◌ {A = Option ℕ} (Some c) (Some d) →
@@ -135,93 +111,49 @@ low_is None c e = absurd (cc)
 low_is (Some d) c e = let same : d ≡ c = grind (arith, nat_tests) in ap (λ (k : ℕ). Some k) same
 
 module _ (t u : Tallied) (c n : ℕ) (until : List ℕ) (plan_is : u.plan ≡ t.plan)
-    (counts_is : u.counts ≡ slice_set t.counts c n) (here : count_of u.counts c ≡ n) (up : count_of t.counts c ≤ n)
-    (all : c ≤ length t.plan.totals)
-    (low : lowest_ready t.plan (count_of t.counts) ≡ Some c) (h : AreAwaited t c until) where
+    (counts_is : u.counts ≡ slice_set t.counts c n) (here : count_of u.counts c ≡ n) (all : c ≤ length t.plan.totals)
+    (h : AreAwaited t c until) (before : count_of u.counts c < slice_index until c) where
   else_is : (i : ℕ) → i ≢ c → count_of u.counts i ≡ count_of t.counts i
   else_is i ne = ap (λ (l : List ℕ). count_of l i) counts_is
       ∙ get_or-set_other t.counts c i n 0 ne
 
-  more : (i : ℕ) → count_of t.counts i ≤ count_of u.counts i
-  more i = by (ℕ_discrete i c)
-    where
-      by : Dec (i ≡ c) → count_of t.counts i ≤ count_of u.counts i
-      by (yes e) = subst (λ (j : ℕ). count_of t.counts j ≤ count_of u.counts j) (sym e) (let k = here in omega arith)
-      by (no ne) = let k = else_is i ne in omega arith
-
-  -- what the cores below wait for is still at or above the same counts
+  -- what the cores below wait for is still to come
   pub awaited_still : AreAwaited u c until
-  awaited_still = record {
-    each = λ d i a less m up.
-        h.each d i a less
-        (subst (λ (m : ℕ). Among t.plan.edges (instr i a) (instr d (m + 1))) (else_is d (λ e. omega arith))
-        (subst (λ (q : Plan). Among q.edges (instr i a) (next_of u.counts d)) plan_is m))
-        (let k = more i in omega arith);
-  }
+  awaited_still = record { each = λ d less. each d less (h.each d less) }
+    where
+      same : (d : ℕ) → d < c → count_of u.counts d ≡ count_of t.counts d
+      same d less = else_is d (λ e. omega arith)
 
-  module _ (before : count_of u.counts c < slice_index until c) where
-    -- a core below that is ready now was ready before
-    ready_was : (d : ℕ) → d < c → Ready u.plan (count_of u.counts) d → Ready t.plan (count_of t.counts) d
-    ready_was d less ready = record {
-      inside = subst (λ (q : Plan). d < length q.totals) plan_is ready.inside;
-      below = let b : count_of u.counts d < slice_index t.plan.totals d =
-          subst (λ (q : Plan). count_of u.counts d < slice_index q.totals d) plan_is ready.below in
-          let e = same in omega arith;
-      sourced = within_sourced t.plan.edges (count_of t.counts) d (count_of t.counts d + 1) within;
-    }
-      where
-        same : count_of u.counts d ≡ count_of t.counts d
-        same = else_is d (λ e. omega arith)
+      above : (d : ℕ) → (w : WaitsFor t d until) → Dec (w.of ≡ c) → count_of u.counts w.of < w.count
+      above d w (yes e) = let le = w.awaited in
+          let lt : count_of u.counts w.of < slice_index until w.of =
+          subst (λ (j : ℕ). count_of u.counts j < slice_index until j) (sym e) before in omega arith
+      above d w (no ne) = let k = else_is w.of ne in let lt = w.wanting.above in omega arith
 
-        within : (from : Instr) →
-            Contains t.plan.edges (record { from = from; to = instr d (count_of t.counts d + 1) }) →
-            from.count ≤ count_of t.counts from.core
-        within from has = by (cases_lt (count_of t.counts from.core) from.count) (ℕ_discrete from.core c)
-          where
-            there : Contains u.plan.edges (record { from = from; to = instr d (count_of u.counts d + 1) })
-            there = subst (λ (q : Plan). Contains q.edges
-                (record { from = from; to = instr d (count_of u.counts d + 1) })) (sym plan_is)
-                (subst (λ (m : ℕ). Contains t.plan.edges (record { from = from; to = instr d (m + 1) })) (sym same) has)
+      each : (d : ℕ) → d < c → Waits t d until → Waits u d until
+      each d less (inl full) = inl (subst (λ (q : Plan). slice_index q.totals d ≤ count_of u.counts d) (sym plan_is)
+          (let e = same d less in omega arith))
+      each d less (inr w) = inr (record {
+        of = w.of;
+        count = w.count;
+        wanting = record {
+          core = w.wanting.core;
+          among = subst (λ (q : Plan). Among q.edges (instr w.of w.count) (next_of u.counts d)) (sym plan_is)
+              (subst (λ (m : ℕ). Among t.plan.edges (instr w.of w.count) (instr d (m + 1))) (sym (same d less))
+              w.wanting.among);
+          above = above d w (ℕ_discrete w.of c);
+        };
+        awaited = w.awaited;
+      })
 
-            now : from.count ≤ count_of u.counts from.core
-            now = source_within u.plan.edges (count_of u.counts) d (count_of u.counts d + 1) ready.sourced from there
-
-            waits : count_of t.counts from.core < from.count → slice_index until from.core ≤ from.count
-            waits up = h.each d from.core from.count less
-                (contains_among t.plan.edges from (instr d (count_of t.counts d + 1)) has) up
-
-            by : (count_of t.counts from.core < from.count) ⊎ (from.count ≤ count_of t.counts from.core) →
-                Dec (from.core ≡ c) →
-                from.count ≤ count_of t.counts from.core
-            by (inr le) e = le
-            by (inl up) (no ne) = let k = else_is from.core ne in let n = now in omega arith
-            by (inl up) (yes e) =
-                let w = waits up in
-                let n = now in
-                let k : count_of u.counts from.core < slice_index until from.core =
-                subst (λ (j : ℕ). count_of u.counts j < slice_index until j) (sym e) before in
-                absurd (omega arith)
-
-    not_ready : (d : ℕ) → d < c → is_ready u.plan (count_of u.counts) d ≡ false
-    not_ready d less = by (cases_Bool (is_ready u.plan (count_of u.counts) d))
-      where
-        found : IsLowest t.plan (count_of t.counts) 0 (length t.plan.totals) (Some c)
-        found = subst (λ (o : Option ℕ). IsLowest t.plan (count_of t.counts) 0 (length t.plan.totals) o) low
-            (lowest_is t.plan (count_of t.counts) 0 (length t.plan.totals))
-
-        by : (is_ready u.plan (count_of u.counts) d ≡ true) ⊎ (is_ready u.plan (count_of u.counts) d ≡ false) →
-            is_ready u.plan (count_of u.counts) d ≡ false
-        by (inr f) = f
-        by (inl y) = absurd (found.1 d (omega arith) less
-            (ready_was d less (ready_true u.plan (count_of u.counts) d y)))
-
-    -- so the lowest is found from the core on
-    pub lowest_still : lowest u.plan (count_of u.counts) c (length u.plan.totals - c)
-        ≡ lowest_ready u.plan (count_of u.counts)
-    lowest_still =
-        let e = ap (λ (q : Plan). length q.totals) plan_is in
-        let a : 0 + c ≡ c = omega arith in
-        let b : c + (length u.plan.totals - c) ≡ length u.plan.totals = omega arith in
-        ap (λ (d : ℕ). lowest u.plan (count_of u.counts) d (length u.plan.totals - c)) (sym a)
-        ∙ lowest_skip u.plan (count_of u.counts) c 0 (length u.plan.totals - c) (λ d le less. not_ready d (omega arith))
-        ∙ ap (λ (m : ℕ). lowest u.plan (count_of u.counts) 0 m) b
+  -- so the lowest is found from the core on
+  pub lowest_still : lowest u.plan (count_of u.counts) c (length u.plan.totals - c)
+      ≡ lowest_ready u.plan (count_of u.counts)
+  lowest_still =
+      let e = ap (λ (q : Plan). length q.totals) plan_is in
+      let a : 0 + c ≡ c = omega arith in
+      let b : c + (length u.plan.totals - c) ≡ length u.plan.totals = omega arith in
+      ap (λ (d : ℕ). lowest u.plan (count_of u.counts) d (length u.plan.totals - c)) (sym a)
+      ∙ lowest_skip u.plan (count_of u.counts) c 0 (length u.plan.totals - c)
+      (λ d le less. not_ready u d until (awaited_still.each d (omega arith)))
+      ∙ ap (λ (m : ℕ). lowest u.plan (count_of u.counts) 0 m) b

@@ -1,7 +1,8 @@
 -- Rule: the low order, place by place: Tallied, IsLow
 -- How far each core has come, and the sources of what comes next.
-use Rattle.std.specs.Prelude.{◌≡◌, ℕ, ◌+◌, ◌<◌, ◌≤◌, List, Option, Some, None, length, slice_index, slice_index_or}
-use Rattle.std.specs.Prelude.{slice_set}
+use Rattle.std.specs.Prelude.{◌≡◌, ◌⊎◌, ℕ, ◌+◌, ◌<◌, ◌≤◌, true, List, Option, Some, None, length, slice_index}
+use Rattle.std.specs.Prelude.{slice_index_or, slice_set}
+use Rattle.rtr_types.specs.declared.TheConstants.{CORES_MAX}
 use Rattle.rtr_types.specs.declared.instr.Edge.{Edge}
 use Rattle.rtr_types.specs.declared.instr.Instr.{Instr}
 use Rattle.rtr_types.specs.declared.pairs.Which.{Which}
@@ -12,7 +13,7 @@ use Rattle.race_log.specs.Sources.{log_edges}
 use Rattle.race_log.specs.Validity.{Valid}
 use Rattle.replay_core.specs.Plans.{Plan, plan_of}
 use Rattle.replay_core.specs.Play.{instr}
-use Rattle.replay_core.specs.Orders.{lowest_ready}
+use Rattle.replay_core.specs.Orders.{is_sourced, lowest_ready}
 use Rattle.replay_core.specs.Sources.{AreSources, sources_in}
 
 -- what contracts see of a tally: the plan, and the count of each core
@@ -76,10 +77,30 @@ pub record IsTally (which : Which) (r : Recording) (sources : Plan) (counts : Li
 
 -- ---- the lowest core that is ready
 
--- a count of core i that the next instruction of a core below `low` still waits for is at least the one of `until`
+-- a source of core c's next instruction that lies above the counts
+pub record IsWanting (t : Tallied) (c : ℕ) (i a : ℕ) : Type 0 where
+  pub core : i < CORES_MAX
+  pub among : Among t.plan.edges (instr i a) (next_of t.counts c)
+  pub above : count_of t.counts i < a
+
+-- one of these, or none where each source lies within the counts
+abbrev pub IsUnmet : Tallied → (c : ℕ) → Option (ℕ × ℕ) → Type 0
+IsUnmet t c None = true ≡ is_sourced t.plan.edges (count_of t.counts) c (count_of t.counts c + 1)
+IsUnmet t c (Some e) = IsWanting t c e.0 e.1
+
+-- core c is at its total, or its next instruction waits for a source that isn't below the count of `until`
+pub record WaitsFor (t : Tallied) (c : ℕ) (until : List ℕ) : Type 0 where
+  pub of : ℕ
+  pub count : ℕ
+  pub wanting : IsWanting t c of count
+  pub awaited : slice_index until of ≤ count
+
+abbrev pub Waits : Tallied → (c : ℕ) → (until : List ℕ) → Type 0
+Waits t c until = (slice_index t.plan.totals c ≤ count_of t.counts c) ⊎ WaitsFor t c until
+
+-- so each core below `low`
 pub record AreAwaited (t : Tallied) (low : ℕ) (until : List ℕ) : Type 0 where
-  pub each : (d i a : ℕ) → d < low → Among t.plan.edges (instr i a) (next_of t.counts d) → count_of t.counts i < a →
-      slice_index until i ≤ a
+  pub each : (d : ℕ) → d < low → Waits t d until
 
 -- it is the lowest, and while the counts are below those of `until` no core below it becomes ready
 pub record IsLow (t : Tallied) (low : Option ℕ) (until : List ℕ) : Type 0 where

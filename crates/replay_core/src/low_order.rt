@@ -17,12 +17,14 @@ use std::alloc::{AllocError, Global};
 use std::marker::Model;
 
 /// A tally along the low order, with the lowest core that is ready. Which cores below it are ready is looked
-/// at again only where a core comes as far as one of them waits for.
+/// at again only where a core comes as far as one of them waits for. `guesses` has for each core the core of the source
+/// that it waited for last, which is looked at first.
 #[derive(Drop)]
 pub struct LowOrder<'a> {
     tally: Tally<'a>,
     low: Option<u8>,
     until: [u32; PLACES],
+    guesses: [u8; PLACES],
 }
 
 impl<'a> Model for LowOrder<'a> {
@@ -44,8 +46,14 @@ impl<'a> LowOrder<'a> {
     {
         let tally = Tally::new(alloc, recording, which)?;
         let mut until = [u32::MAX; PLACES];
-        let low = lowest_from(&tally, 0, &mut until);
-        Ok(LowOrder { tally, low, until })
+        let mut guesses = [0; PLACES];
+        let low = lowest_from(&tally, 0, &mut until, &mut guesses);
+        Ok(LowOrder {
+            tally,
+            low,
+            until,
+            guesses,
+        })
     }
 
     /// How many cores there are.
@@ -94,15 +102,12 @@ impl<'a> LowOrder<'a> {
         self.tally.go_on(core, count);
         if self.low == Some(core) {
             if self.tally.count(core) < self.until[core as usize] {
-                if self.tally.is_ready(core) {
-                    return;
-                }
-                self.low = lowest_from(&self.tally, core, &mut self.until);
+                self.low = lowest_from(&self.tally, core, &mut self.until, &mut self.guesses);
                 return;
             }
         }
         self.until = [u32::MAX; PLACES];
-        self.low = lowest_from(&self.tally, 0, &mut self.until);
+        self.low = lowest_from(&self.tally, 0, &mut self.until, &mut self.guesses);
     }
 
     /// The count to which the lowest core that is ready goes on. Up to there it stays the lowest, and no edge
@@ -150,7 +155,12 @@ fn least_from(next: u32, total: u32, awaited: u32, free: u32) -> u32
 /// The lowest core from `from` on that is ready. `until` has for each core a count at most the one that it
 /// has yet to come to for a core below.
 #[inline(always)]
-fn lowest_from(tally: &Tally, from: u8, until: &mut [u32; PLACES]) -> Option<u8>
+fn lowest_from(
+    tally: &Tally,
+    from: u8,
+    until: &mut [u32; PLACES],
+    guesses: &mut [u8; PLACES],
+) -> Option<u8>
     requires from { from ≤ length tally.now.plan.totals }
     requires awaited { AreAwaited tally.now from until.old }
     ensures lowest { result
@@ -158,10 +168,9 @@ fn lowest_from(tally: &Tally, from: u8, until: &mut [u32; PLACES]) -> Option<u8>
     ensures awaited { (c : ℕ) → result ≡ Some c → AreAwaited tally.now c until.new }
 {
     for core in from..tally.cores() {
-        if tally.is_ready(core) {
+        if tally.is_ready_or_waits(core, &mut guesses[core as usize], until) {
             return Some(core);
         }
-        tally.lower(core, until);
     }
     None
 }

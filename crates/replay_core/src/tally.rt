@@ -1,16 +1,16 @@
 //! How far cores have come along an order, and what their next instructions wait for.
 ghost use Rattle.std.specs.Prelude.{◌≡◌, ◌<◌, ◌≤◌, ◌+◌, ◌↔◌, ℕ, length, slice_index, replicate, IfOk};
-ghost use Rattle.std.specs.Prelude.{IsTrue};
+ghost use Rattle.std.specs.Prelude.{IsTrue, false};
 ghost use Rattle.rtr_types.specs.declared.TheConstants.{CORES_MAX};
 ghost use Rattle.rtr_types.specs.declared.params.TheConstants.{LIMIT_MAX};
 ghost use Rattle.clock_core.specs.Counts.{no_counts};
-ghost use Rattle.clock_core.specs.Order.{Among};
 ghost use Rattle.race_log.specs.Validity.{Valid};
 ghost use Rattle.replay_core.specs.Plans.{plan_of};
 ghost use Rattle.replay_core.specs.Play.{instr};
 ghost use Rattle.replay_core.specs.Orders.{Full, is_ready, is_sourced};
 ghost use Rattle.replay_core.specs.Sources.{AreSources, sources_in};
-ghost use Rattle.replay_core.specs.Tallies.{AreWanted, IsGoneOn, IsNextInstr, IsOneMore, count_of, next_of};
+ghost use Rattle.replay_core.specs.Tallies.{AreWanted, IsGoneOn, IsNextInstr, IsOneMore, IsUnmet, Waits, count_of};
+ghost use Rattle.replay_core.specs.Tallies.{next_of};
 
 use crate::coming::{PLACES, Sources};
 use crate::sourced::Sourced;
@@ -199,58 +199,85 @@ impl<'a> Tally<'a> {
         ensures { result
             ≡ is_sourced self.now.plan.edges (count_of self.now.counts) core (count_of self.now.counts core + 1) }
     {
+        match self.unmet(core, 0) {
+            None => true,
+            Some(_) => false,
+        }
+    }
+
+    /// Whether the core is ready. If it is below its total and isn't, the count of a source's core is lowered to the
+    /// source that it waits for, and the guess becomes that core.
+    #[inline(always)]
+    pub(crate) fn is_ready_or_waits(
+        &self,
+        core: u8,
+        guess: &mut u8,
+        until: &mut [u32; PLACES],
+    ) -> bool
+        requires { core < length self.now.plan.totals }
+        ensures ready { result ≡ is_ready self.now.plan (count_of self.now.counts) core }
+        ensures below { (i : ℕ) → slice_index until.new i ≤ slice_index until.old i }
+        ensures waits { result ≡ false → Waits self.now core until.new }
+    {
+        // What always holds of a tally: it has a place for each core of its recording.
+        let _ = &self.recording;
+        if self.counts[core as usize] >= self.recording.totals.as_slice()[core as usize] {
+            return false;
+        }
+        match self.unmet(core, *guess) {
+            None => true,
+            Some((of, count)) => {
+                *guess = of;
+                until[of as usize] = until[of as usize].min(count);
+                false
+            }
+        }
+    }
+
+    /// A source of the core's next instruction that wasn't counted, if there is one. It is looked for at a guess
+    /// first.
+    #[inline(always)]
+    fn unmet(&self, core: u8, guess: u8) -> Option<(u8, u32)>
+        requires { core < length self.now.plan.totals }
+        ensures { IsUnmet self.now core result }
+    {
         // What always holds of a tally: it has a place for each core of its recording.
         let _ = &self.recording;
         match &self.wanted[core as usize] {
-            None => true,
-            Some(wanted) => self.are_met(core, wanted),
+            None => None,
+            Some(wanted) => self.unmet_among(core, wanted, guess),
         }
     }
 
-    /// Whether each of these sources of the core's next instruction was counted.
+    /// One of these sources of the core's next instruction that wasn't counted, if there is one. It is looked for at a
+    /// guess first.
     #[inline(always)]
-    fn are_met(&self, core: u8, wanted: &Clock) -> bool
+    fn unmet_among(&self, core: u8, wanted: &Clock, guess: u8) -> Option<(u8, u32)>
         requires core { core < length self.now.plan.totals }
         requires sources { AreSources self.now.plan.edges (next_of self.now.counts core) wanted.now }
-        ensures { result
-            ≡ is_sourced self.now.plan.edges (count_of self.now.counts) core (count_of self.now.counts core + 1) }
+        ensures { IsUnmet self.now core result }
     {
-        for of in 0..self.recording.params.cores {
-            if wanted.get(of) > self.counts[of as usize] {
-                return false;
+        let cores = self.recording.params.cores;
+        if guess < cores && self.is_above(wanted, guess) {
+            return Some((guess, wanted.get(guess)));
+        }
+        for of in 0..cores {
+            if self.is_above(wanted, of) {
+                return Some((of, wanted.get(of)));
             }
         }
-        true
+        None
     }
 
-    /// Lowers the counts where the core's next instruction waits for less.
-    pub(crate) fn lower(&self, core: u8, until: &mut [u32; PLACES])
-        requires { core < length self.now.plan.totals }
-        ensures below { (i : ℕ) → slice_index until.new i ≤ slice_index until.old i }
-        ensures waits { (i a : ℕ) → Among self.now.plan.edges (instr i a) (next_of self.now.counts core) →
-            count_of self.now.counts i < a → slice_index until.new i ≤ a }
+    /// Whether a core's count among these is above its own.
+    #[inline(always)]
+    fn is_above(&self, wanted: &Clock, of: u8) -> bool
+        requires { of < length self.now.plan.totals }
+        ensures { IsTrue result ↔ (count_of self.now.counts of < slice_index wanted.now of) }
     {
         // What always holds of a tally: it has a place for each core of its recording.
         let _ = &self.recording;
-        if let Some(wanted) = &self.wanted[core as usize] {
-            self.lower_to(core, wanted, until);
-        }
-    }
-
-    /// Lowers the counts where these sources of the core's next instruction are still to come.
-    fn lower_to(&self, core: u8, wanted: &Clock, until: &mut [u32; PLACES])
-        requires core { core < length self.now.plan.totals }
-        requires sources { AreSources self.now.plan.edges (next_of self.now.counts core) wanted.now }
-        ensures below { (i : ℕ) → slice_index until.new i ≤ slice_index until.old i }
-        ensures waits { (i a : ℕ) → Among self.now.plan.edges (instr i a) (next_of self.now.counts core) →
-            count_of self.now.counts i < a → slice_index until.new i ≤ a }
-    {
-        for of in 0..self.recording.params.cores {
-            let count = wanted.get(of);
-            if count > self.counts[of as usize] && count < until[of as usize] {
-                until[of as usize] = count;
-            }
-        }
+        wanted.get(of) > self.counts[of as usize]
     }
 }
 
