@@ -84,6 +84,16 @@ impl LogClocks {
         self.list(core).len()
     }
 
+    /// The same clock, where no later clock of the core is kept.
+    #[inline(always)]
+    pub fn last(&self, at: Instr) -> ClockOf<'_>
+        requires core { at.core < CORES_MAX }
+        requires last { number_of self.now at.core at.count ≡ length (clocks_of self.now at.core) }
+        ensures { (i : ℕ) → slice_index result i ≡ clock_at self.now at i }
+    {
+        ClockOf::new(at, self.last_kept(at.core))
+    }
+
     /// How many clocks are kept of the instruction's core up to it. It is looked for from a guess on.
     #[inline(always)]
     pub fn number(&self, at: Instr, guess: usize) -> usize
@@ -130,6 +140,19 @@ impl LogClocks {
             Some(clock) => clock,
             None => &self.nothing,
         }
+    }
+
+    /// The last clock that is kept of the core, or else the clock that knows of nothing.
+    #[inline(always)]
+    fn last_kept(&self, core: u8) -> &Clock
+        ensures { result.now ≡ numbered self.now core (length (clocks_of self.now core)) }
+    {
+        let list = self.list(core);
+        let number = list.len();
+        if number == 0 {
+            return &self.nothing;
+        }
+        &list[number - 1]
     }
 
     /// The clock of the instruction before on the core, merged with those of the sources, with the own

@@ -62,34 +62,27 @@ impl Marks {
         Ok(Marks { marks, crowds })
     }
 
-    /// Whether the clock covers the last write of the access's word and, where the access writes, the reads
-    /// since.
+    /// Marks an access, whose clock this is. The answer is whether the clock covers what was marked before: the last
+    /// write of the access's word and, where the access writes, the reads since.
     #[inline(always)]
-    pub fn are_covered(&self, access: &Access, clock: &ClockOf) -> bool
-        ensures { IsTrue result → AreMarksCovered self.now access.now clock.now }
-    {
-        let word = access.word as usize;
-        if word >= self.marks.len() {
-            return false;
-        }
-        let mark = self.marks.get(word);
-        clock.covers(mark.write) && (!access.kind.is_write() || self.are_reads_covered(mark, clock))
-    }
-
-    /// Marks an access, whose clock this is.
-    #[inline(always)]
-    pub fn note(&mut self, access: &Access, clock: &ClockOf) -> Result<(), AllocError>
+    pub fn note(&mut self, access: &Access, clock: &ClockOf) -> Result<bool, AllocError>
         requires { access.now.at.core < CORES_MAX }
-        ensures { OnOk result (IsMarked self.old access.now clock.now self.new) }
+        ensures covered { IfOk result (λ covered. IsTrue covered → AreMarksCovered self.old access.now clock.now) }
+        ensures marked { IfOk result (λ _. IsMarked self.old access.now clock.now self.new) }
     {
         let word = access.word as usize;
         if word >= self.marks.len() {
-            return Ok(());
+            return Ok(false);
         }
+        let mark = *self.marks.get(word);
+        let covered = clock.covers(mark.write);
         if access.kind.is_write() {
-            return self.write(word, access.at);
+            let covered = covered && self.are_reads_covered(&mark, clock);
+            self.write(word, mark.crowd, access.at)?;
+            return Ok(covered);
         }
-        self.read(word, access.at, clock)
+        self.read(word, mark, access.at, clock)?;
+        Ok(covered)
     }
 
     /// Whether the clock covers the reads of a mark.
@@ -102,19 +95,19 @@ impl Marks {
         match mark.reads {
             Reads::Unread => true,
             Reads::One { at } => clock.covers(at),
-            Reads::Crowd => is_crowd_covered(&self.crowds[mark.crowd - 1], clock),
+            Reads::Crowd => { is_crowd_covered(&self.crowds[mark.crowd - 1], &clock.to_clock()) }
         }
     }
 
-    /// Marks a write: it forgets the reads before it.
+    /// Marks a write: it forgets the reads before it. The word has the crowd with this number.
     #[inline(always)]
-    fn write(&mut self, word: usize, at: Instr) -> Result<(), AllocError>
+    fn write(&mut self, word: usize, crowd: usize, at: Instr) -> Result<(), AllocError>
         requires word { word < length self.old.marks }
+        requires crowd { crowd ≡ (mark_at self.old word).crowd }
         requires core { at.core < CORES_MAX }
         ensures elsewhere { OnOk result (IsElsewhere self.old word self.new) }
         ensures write { OnOk result ((mark_at self.new word).write ≡ at) }
     {
-        let crowd = self.marks.get(word).crowd;
         let mark = Mark {
             write: at,
             reads: Reads::Unread,
@@ -123,21 +116,29 @@ impl Marks {
         self.marks.set(word, mark)
     }
 
-    /// Marks a read, whose clock this is. It takes the place of one that its clock covers.
+    /// Marks a read of the word with this mark. It takes the place of one that its clock covers.
     #[inline(always)]
-    fn read(&mut self, word: usize, at: Instr, clock: &ClockOf) -> Result<(), AllocError>
+    fn read(
+        &mut self,
+        word: usize,
+        mark: Mark,
+        at: Instr,
+        clock: &ClockOf,
+    ) -> Result<(), AllocError>
         requires word { word < length self.old.marks }
+        requires mark { mark ≡ mark_at self.old word }
+        requires is { IsMark self.old.crowds mark }
         requires core { at.core < CORES_MAX }
         ensures elsewhere { OnOk result (IsElsewhere self.old word self.new) }
         ensures read { OnOk result (IsReadNext self.old word at clock.now self.new) }
     {
-        match self.marks.get(word).reads {
-            Reads::Unread => self.replace(word, at),
+        match mark.reads {
+            Reads::Unread => self.replace(word, mark, at),
             Reads::One { at: one } => {
                 if !clock.covers(one) {
                     return self.gather(word, one, at);
                 }
-                self.replace(word, at)
+                self.replace(word, mark, at)
             }
             Reads::Crowd => {
                 self.join(word, at);
@@ -146,24 +147,20 @@ impl Marks {
         }
     }
 
-    /// Has this as the one read.
+    /// Has this as the one read of the word with this mark.
     #[inline(always)]
-    fn replace(&mut self, word: usize, at: Instr) -> Result<(), AllocError>
+    fn replace(&mut self, word: usize, mark: Mark, at: Instr) -> Result<(), AllocError>
         requires word { word < length self.old.marks }
+        requires mark { mark ≡ mark_at self.old word }
         requires core { at.core < CORES_MAX }
         ensures elsewhere { OnOk result (IsElsewhere self.old word self.new) }
         ensures write { OnOk result ((mark_at self.new word).write ≡ (mark_at self.old word).write) }
         ensures read { OnOk result (IsReader self.new word at) }
     {
-        let Mark {
-            write,
-            reads: _reads,
-            crowd,
-        } = *self.marks.get(word);
         let mark = Mark {
-            write,
+            write: mark.write,
             reads: Reads::One { at },
-            crowd,
+            crowd: mark.crowd,
         };
         self.marks.set(word, mark)
     }
@@ -246,7 +243,7 @@ impl Mark {
 
 /// Whether the clock covers each count of a crowd.
 #[inline(never)]
-fn is_crowd_covered(crowd: &Clock, clock: &ClockOf) -> bool
+fn is_crowd_covered(crowd: &Clock, clock: &Clock) -> bool
     ensures { IsTrue result → (i : ℕ) → i < CORES_MAX → slice_index crowd.now i ≤ slice_index clock.now i }
 {
     for core in 0..CORES_MAX {

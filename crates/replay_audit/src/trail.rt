@@ -1,11 +1,12 @@
 //! What is kept of the accesses along an order: the clocks by the log, the last accesses of each word, and
 //! the first two accesses that the log leaves unordered.
-ghost use Rattle.std.specs.Prelude.{◌≡◌, ◌<◌, ◌≤◌, IfOk, IsTrue, OnOk, [], replicate, None as NoneFound};
+ghost use Rattle.std.specs.Prelude.{◌≡◌, ◌<◌, ◌≤◌, ◌∷◌, ◌++◌, IfOk, IsTrue, OnOk, [], replicate, None as NoneFound};
 ghost use Rattle.rtr_types.specs.declared.TheConstants.{CORES_MAX};
 ghost use Rattle.rtr_types.specs.declared.access.Access.{Access as SomeAccess};
 ghost use Rattle.conflict_edge.specs.Conflicts.{StandsIn};
 ghost use Rattle.replay_core.specs.Sources.{sources_in};
-ghost use Rattle.replay_audit.specs.Clocks.{CanNote, number_of};
+ghost use Rattle.replay_audit.specs.Clocks.{CanNote};
+ghost use Rattle.replay_audit.specs.Marks.{IsMarked};
 ghost use Rattle.replay_audit.specs.Trails.{CanWatch, FoundNext, IsFirstOpen, NotesNext, Watches};
 ghost use Rattle.replay_audit.specs.Trails.{watch_keeps_accepting};
 
@@ -13,6 +14,7 @@ use crate::clock_of::ClockOf;
 use crate::log_clocks::LogClocks;
 use crate::marks::Marks;
 use crate::unordered::{Unordered, latest_open};
+use clock_core::Clock;
 use replay_core::{Sourced, Watch};
 use rtr_types::{Access, CORES_MAX, Items};
 use std::alloc::{AllocError, Global};
@@ -146,32 +148,15 @@ impl Trail {
     {
         let number = self.clocks.number(access.at, *guess);
         *guess = number;
-        self.watch_by(access, number)
-    }
-
-    /// Looks at an access, up to whose instruction so many clocks of its core are kept, and keeps it.
-    #[inline(always)]
-    fn watch_by(&mut self, access: Access, number: usize) -> Result<(), AllocError>
-        requires core { access.at.core < CORES_MAX }
-        requires number { number ≡ number_of self.old.kept access.at.core access.at.count }
-        requires each { IsTrue self.old.listed → (b : SomeAccess) → StandsIn self.old.accesses b →
-            b.at.core < CORES_MAX }
-        ensures { OnOk result (Watches self.old access self.new) }
-    {
         let clock = self.clocks.by_number(access.at, number);
-        find(
-            &mut self.found,
-            &self.marks,
+        look(
             self.listed,
-            self.accesses.as_slice(),
-            &access,
+            &mut self.found,
+            &mut self.marks,
+            &mut self.accesses,
+            access,
             &clock,
-        );
-        self.marks.note(&access, &clock)?;
-        if self.listed {
-            self.accesses.push(access)?;
-        }
-        Ok(())
+        )
     }
 }
 
@@ -183,62 +168,75 @@ impl Watch for Trail {
 
     #[inline(always)]
     fn touch(&mut self, access: Access) -> Result<(), AllocError> {
-        let number = self.clocks.all(access.at.core);
-        self.watch_by(access, number)
+        let clock = self.clocks.last(access.at);
+        look(
+            self.listed,
+            &mut self.found,
+            &mut self.marks,
+            &mut self.accesses,
+            access,
+            &clock,
+        )
     }
 
     ghost keeps_accepting = { watch_keeps_accepting };
 }
 
-/// Finds the first two accesses that are unordered, with one access more. Those that were found stay, and then nothing
-/// is written.
+/// Looks at an access, whose clock this is, and keeps it. The first two unordered accesses that were found stay.
 #[inline(always)]
-fn find(
-    found: &mut Option<Unordered>,
-    marks: &Marks,
+fn look(
     listed: bool,
-    accesses: &[Access],
-    access: &Access,
+    found: &mut Option<Unordered>,
+    marks: &mut Marks,
+    accesses: &mut Items<Access>,
+    access: Access,
     clock: &ClockOf,
-)
-    requires { IsTrue listed → (b : SomeAccess) → StandsIn accesses.now b → b.at.core < CORES_MAX }
-    ensures { FoundNext listed found.old marks.now accesses.now access.now clock.now found.new }
+) -> Result<(), AllocError>
+    requires core { access.at.core < CORES_MAX }
+    requires each { IsTrue listed → (b : SomeAccess) → StandsIn accesses.old b → b.at.core < CORES_MAX }
+    ensures found { OnOk result (FoundNext listed found.old marks.old accesses.old access clock.now found.new) }
+    ensures marks { OnOk result (IsMarked marks.old access clock.now marks.new) }
+    ensures accesses { OnOk result (IsTrue listed → accesses.new ≡ accesses.old ++ access ∷ []) }
 {
-    match found {
-        Some(_) => {}
-        None => {
-            if !marks.are_covered(access, clock) {
-                *found = first_open(listed, accesses, access, clock);
-            }
+    if !marks.note(&access, clock)? {
+        match found {
+            Some(_) => {}
+            None => first_open(found, listed, accesses.as_slice(), access, clock.to_clock()),
         }
     }
+    if listed {
+        accesses.push(access)?;
+    }
+    Ok(())
 }
 
-/// The access, which the marks leave open, with the latest of those before it that is open, if one is. Where
+/// Finds the access, which the marks leave open, with the latest of those before it that is open, if one is. Where
 /// the accesses aren't listed, the access itself stands in its place. The list is gone over once along an
-/// order.
+/// order. The access and its clock are copies: what stays in registers elsewhere has a place in memory here.
 #[cold]
 #[inline(never)]
 fn first_open(
+    found: &mut Option<Unordered>,
     listed: bool,
     accesses: &[Access],
-    access: &Access,
-    clock: &ClockOf,
-) -> Option<Unordered>
+    access: Access,
+    clock: Clock,
+)
     requires { IsTrue listed → (b : SomeAccess) → StandsIn accesses.now b → b.at.core < CORES_MAX }
-    ensures { IsFirstOpen listed accesses.now access.now clock.now result }
+    ensures { IsFirstOpen listed accesses.now access clock found.new }
 {
     let second = access.at;
     if !listed {
-        return Some(Unordered {
+        *found = Some(Unordered {
             first: second,
             second,
         });
+        return;
     }
-    match latest_open(accesses, access, &clock.to_clock()) {
+    *found = match latest_open(accesses, &access, &clock) {
         Some(first) => Some(Unordered { first, second }),
         None => None,
-    }
+    };
 }
 
 /// Room for an access of each instruction, as far as it is taken beforehand.

@@ -1,9 +1,9 @@
-use Rattle.std.proofs.Common.{◌∙◌, ap, length, sym}
-use Rattle.replay_audit.specs.Clocks.{clocks_of}
+use Rattle.std.proofs.Common.{◌≡◌, length, subst, sym}
+use Rattle.replay_audit.specs.Clocks.{clocks_of, number_of}
 use Rattle.replay_audit.specs.Trails.{Trailed}
 use Rattle.replay_audit.proofs.trail.TrailWatch.touch.Goals as goal
 
-pub watch_by-requires-clause-number : goal.watch_by-requires-clause-number
-watch_by-requires-clause-number c =
-    c.all-number.ensures
-    ∙ ap (λ (s : Trailed). length (clocks_of s.kept c.args.access.at.core)) c.self.view_is ∙ sym c.requires.last
+pub last-clock-requires-clause-last : goal.last-clock-requires-clause-last
+last-clock-requires-clause-last c =
+    subst (λ (s : Trailed). number_of s.kept c.args.access.at.core c.args.access.at.count
+    ≡ length (clocks_of s.kept c.args.access.at.core)) (sym c.self.view_is) c.requires.last
