@@ -44,11 +44,20 @@ static SEEDS: [u64; 3] = [1, 20_261_127, u64::MAX];
 
 /// What was known at each retirement of a run, in their order, its history, and how many retirements of each core that
 /// has.
-#[derive(Drop)]
 struct Noted {
     rows: Vec<Told>,
     history: History,
     counts: [u32; PLACES],
+}
+
+impl Drop for Noted {
+    fn drop(self) {
+        let Noted {
+            rows: _rows,
+            history: _history,
+            counts: _counts,
+        } = self;
+    }
 }
 
 /// What was known at each retirement of a run under the seed, in their order.
@@ -162,7 +171,7 @@ fn histories_say_what_was_known(rt: HostRuntime) -> Result<(), Fail> {
     for seed in &SEEDS {
         let noted = noted_under(rt.alloc(), *seed)?;
         for core in 0..CORES - 1 {
-            assert_eq!(rt; noted.counts[core as usize], RETIRED);
+            assert!(rt; noted.counts[core as usize] == RETIRED);
             assert!(rt; is_dense_of(&noted, core), "seed {seed}, core {core}");
         }
         assert!(rt; is_dense_of(&noted, 7), "seed {seed}");

@@ -56,21 +56,21 @@ fn orders(
     edges: &[(u32, u32)],
     vectors: &[StrideVector],
 ) {
-    assert_eq!(rt; edges_at(recording, place), edges);
-    assert_eq!(rt; vectors_at(recording, place), vectors);
+    assert!(rt; edges_at(recording, place) == edges);
+    assert!(rt; vectors_at(recording, place) == vectors);
 }
 
 /// Each of two cores did this one load.
 fn loads_are(rt: &impl Abort, run: &Recorded, first: LoadNote, second: LoadNote) {
     let loads = run.outcome.loads.as_slice();
-    assert_eq!(rt; loads.len(), 2);
-    assert_eq!(rt; loads[0].as_slice(), [first].as_slice());
-    assert_eq!(rt; loads[1].as_slice(), [second].as_slice());
+    assert!(rt; loads.len() == 2);
+    assert!(rt; loads[0].as_slice() == [first].as_slice());
+    assert!(rt; loads[1].as_slice() == [second].as_slice());
 }
 
 /// The recorded instructions of each core.
 fn totals_are(rt: &impl Abort, run: &Recorded, totals: &[u32]) {
-    assert_eq!(rt; run.recording.totals.as_slice(), totals);
+    assert!(rt; run.recording.totals.as_slice() == totals);
 }
 
 // Core 0 stores 7 to word 16 as its third instruction and loads it as its fourth; core 1 loads the word
@@ -83,7 +83,7 @@ fn both_cores_conflict(rt: HostRuntime) -> Result<(), Fail> {
     orders(&rt, &run.recording, 0, &[(3, 2)], &[one_edge(3, 2)]);
     orders(&rt, &run.recording, 1, &[(3, 4)], &[one_edge(3, 4)]);
     leaves(&rt, &run.outcome, 16, 1);
-    assert_eq!(rt; run.recording.image.len(), 32);
+    assert!(rt; run.recording.image.len() == 32);
     loads_are(&rt, &run, load(4, 16, 1), load(2, 16, 7));
     Ok(())
 }
@@ -119,9 +119,9 @@ fn edges_are(rt: &impl Abort, recording: &Recording) {
     for place in 0..6 {
         let edges = edges_at(recording, place);
         match place {
-            3 => assert_eq!(rt; edges, [(4u32, 4u32)].as_slice()),
-            4 => assert_eq!(rt; edges, [(5u32, 4u32)].as_slice()),
-            _ => assert_eq!(rt; edges.len(), 0),
+            3 => assert!(rt; edges == [(4u32, 4u32)].as_slice()),
+            4 => assert!(rt; edges == [(5u32, 4u32)].as_slice()),
+            _ => assert!(rt; edges.len() == 0),
         }
     }
 }

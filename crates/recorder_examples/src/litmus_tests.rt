@@ -170,7 +170,7 @@ static LITMUS: [Litmus; 6] = [
 fn two_cores_have_these_outcomes(rt: HostRuntime) -> Result<(), Fail> {
     for litmus in &LITMUS {
         let seen = outcomes(rt.alloc(), litmus.program, 2)?;
-        assert_eq!(rt; seen, litmus.seen);
+        assert!(rt; seen == litmus.seen);
     }
     Ok(())
 }
@@ -193,7 +193,7 @@ fn two_readers_of_two_writers(rt: HostRuntime) -> Result<(), Fail> {
         let code = &TWO_READERS;
         let program = Program { code, fence };
         let seen = outcomes(rt.alloc(), program, 4)? | outcomes_in_turn(rt.alloc(), program)?;
-        assert_eq!(rt; seen, 0xfbff, "{fence:?}");
+        assert!(rt; seen == 0xfbff, "{fence:?}");
     }
     Ok(())
 }

@@ -10,6 +10,7 @@ use rtr_types::Params;
 use rv_core::{LoadNote, Outcome};
 use schedule_pick::Schedule;
 use std::alloc::{AllocError, Global};
+use std::process::Abort;
 use std::test::Fail;
 use tso_codec::TsoRecording;
 use tso_record::{TsoRecorded, tso_record, tso_record_image};
@@ -55,22 +56,30 @@ fn schedule(alloc: Global, zeros: usize, seed: u64) -> Result<Schedule, AllocErr
 fn recorded(alloc: Global, zeros: usize, seed: u64) -> Result<TsoRecorded, Fail>
     ensures { IfOk result (λ run. IsTso run.recording) }
 {
-    let choices = schedule(alloc, zeros, seed)?;
-    if let Ok(run) = tso_record(alloc, image(alloc)?, PARAMS, choices) {
+    let (image, choices) = begun(alloc, zeros, seed)?;
+    if let Ok(run) = tso_record(alloc, image, PARAMS, choices) {
         return Ok(run);
     }
-    let choices = schedule(alloc, zeros, seed)?;
-    Ok(tso_record(alloc, image(alloc)?, PARAMS, choices)?)
+    let (image, choices) = begun(alloc, zeros, seed)?;
+    Ok(tso_record(alloc, image, PARAMS, choices)?)
+}
+
+/// The image, and a schedule.
+fn begun(alloc: Global, zeros: usize, seed: u64) -> Result<(Image, Schedule), Fail>
+    ensures { IfOk result (λ begun. begun.0.words ≡ 32) }
+{
+    let image = image(alloc)?;
+    Ok((image, schedule(alloc, zeros, seed)?))
 }
 
 /// The recording alone, of a run by 30 choices that are 0.
 fn recorded_alone(alloc: Global) -> Result<TsoRecording, Fail> {
-    let choices = schedule(alloc, 30, 0)?;
-    if let Ok(recording) = tso_record_image(alloc, image(alloc)?, PARAMS, choices) {
+    let (image, choices) = begun(alloc, 30, 0)?;
+    if let Ok(recording) = tso_record_image(alloc, image, PARAMS, choices) {
         return Ok(recording);
     }
-    let choices = schedule(alloc, 30, 0)?;
-    Ok(tso_record_image(alloc, image(alloc)?, PARAMS, choices)?)
+    let (image, choices) = begun(alloc, 30, 0)?;
+    Ok(tso_record_image(alloc, image, PARAMS, choices)?)
 }
 
 /// What the recording's replay answers. It leaves the recording as it is.
@@ -88,36 +97,45 @@ fn replayed(alloc: Global, recording: &TsoRecording) -> Result<Outcome, ReplayFa
 #[test]
 fn both_loads_are_logged(rt: HostRuntime) -> Result<(), Fail> {
     let run = recorded(rt.alloc(), 30, 0)?;
-    let recording = &run.recording;
-    assert_eq!(rt; recording.totals.as_slice(), [7u32, 7].as_slice());
+    has_both(&rt, &run.recording);
+    Ok(())
+}
+
+/// The recording has both cores' loads, and no edge.
+fn has_both(rt: &impl Abort, recording: &TsoRecording) {
+    assert!(rt; recording.totals.as_slice() == [7u32, 7].as_slice());
     for edges in recording.reduced.as_slice() {
-        assert_eq!(rt; edges.len(), 0);
+        assert!(rt; edges.len() == 0);
     }
     let values = recording.values.as_slice();
-    assert_eq!(rt; values.len(), 2);
+    assert!(rt; values.len() == 2);
     for logged in values {
-        assert_eq!(rt; logged.as_slice(), [(6u32, 0u32)].as_slice());
+        assert!(rt; logged.as_slice() == [(6u32, 0u32)].as_slice());
     }
-    Ok(())
 }
 
 // The outcome has each core's load with the 0 that it got, and both stores in the memory.
 #[test]
 fn the_outcome_has_all_loads(rt: HostRuntime) -> Result<(), Fail> {
     let run = recorded(rt.alloc(), 30, 0)?;
-    let loads = run.outcome.loads.as_slice();
-    let other = |word| LoadNote {
-        count: 6,
-        word,
-        value: 0,
-    };
-    assert_eq!(rt; loads.len(), 2);
-    assert_eq!(rt; loads[0].as_slice(), [other(20)].as_slice());
-    assert_eq!(rt; loads[1].as_slice(), [other(16)].as_slice());
-    let words = run.outcome.words.as_slice();
-    assert_eq!(rt; words.get(16).copied(), Some(1));
-    assert_eq!(rt; words.get(20).copied(), Some(1));
+    has_loads(&rt, &run.outcome);
     Ok(())
+}
+
+/// Each core loaded 0 from the other's word, and both words are 1 at the end.
+fn has_loads(rt: &impl Abort, outcome: &Outcome) {
+    let loads = outcome.loads.as_slice();
+    assert!(rt; loads.len() == 2);
+    for (core, word) in [(0usize, 20), (1, 16)] {
+        let note = LoadNote {
+            count: 6,
+            word,
+            value: 0,
+        };
+        assert!(rt; loads[core].as_slice() == [note].as_slice(), "core {core}");
+    }
+    let words = outcome.words.as_slice();
+    assert!(rt; (words.get(16).copied(), words.get(20).copied()) == (Some(1), Some(1)));
 }
 
 // A replay of each recording gives the loads of the run that was recorded.
@@ -128,17 +146,14 @@ fn a_replay_gives_the_loads_of_the_run(rt: HostRuntime) -> Result<(), Fail> {
         let replayed = replayed(rt.alloc(), &run.recording)
             .ok()
             .ok_or("it is replayed")?;
-        assert_eq!(rt;
-            replayed.loads.as_slice().len(),
-            run.outcome.loads.as_slice().len()
-        );
+        assert!(rt; replayed.loads.as_slice().len() == run.outcome.loads.as_slice().len());
         for (ours, theirs) in replayed
             .loads
             .as_slice()
             .iter()
             .zip(run.outcome.loads.as_slice())
         {
-            assert_eq!(rt; ours.as_slice(), theirs.as_slice());
+            assert!(rt; ours.as_slice() == theirs.as_slice());
         }
     }
     Ok(())
@@ -148,7 +163,7 @@ fn a_replay_gives_the_loads_of_the_run(rt: HostRuntime) -> Result<(), Fail> {
 #[test]
 fn a_recording_is_made_alone(rt: HostRuntime) -> Result<(), Fail> {
     let recording = recorded_alone(rt.alloc())?;
-    assert_eq!(rt; recording.totals.as_slice(), [7u32, 7].as_slice());
-    assert_eq!(rt; recording.image.len(), 28);
+    assert!(rt; recording.totals.as_slice() == [7u32, 7].as_slice());
+    assert!(rt; recording.image.len() == 28);
     Ok(())
 }

@@ -22,14 +22,14 @@ fn ran(alloc: Global, code: &[u32], cores: u8, choices: &[u8]) -> Result<Ran, Fa
 /// Each of the two cores retired so many instructions.
 fn counts_are(rt: &impl Abort, ran: &Ran, first: u32, second: u32) {
     let cores = ran.outcome.cores.as_slice();
-    assert_eq!(rt; cores.len(), 2);
-    assert_eq!(rt; (cores[0].count(), cores[1].count()), (first, second));
+    assert!(rt; cores.len() == 2);
+    assert!(rt; (cores[0].count(), cores[1].count()) == (first, second));
 }
 
 /// The core did this one load.
 fn did(rt: &impl Abort, ran: &Ran, core: usize, load: LoadNote) {
     match ran.outcome.loads.as_slice().get(core) {
-        Some(loads) => assert_eq!(rt; loads.as_slice(), [load].as_slice()),
+        Some(loads) => assert!(rt; loads.as_slice() == [load].as_slice()),
         None => assert!(rt; false, "no core {core}"),
     }
 }
@@ -42,8 +42,8 @@ fn both_cores_conflict(rt: HostRuntime) -> Result<(), Fail> {
     leaves(&rt, &ran.outcome, 16, 1);
     leaves(&rt, &ran.outcome, 2, 0x0450_2023);
     counts_are(&rt, &ran, 5, 4);
-    assert_eq!(rt; (ran.image.words(), ran.image.bytes().len()), (32, 32));
-    assert_eq!(rt; ran.outcome.loads.as_slice().len(), 2);
+    assert!(rt; (ran.image.words(), ran.image.bytes().len()) == (32, 32));
+    assert!(rt; ran.outcome.loads.as_slice().len() == 2);
     did(&rt, &ran, 0, load(4, 16, 1));
     did(&rt, &ran, 1, load(2, 16, 7));
     Ok(())

@@ -41,7 +41,7 @@ pub fn schedule_of(alloc: Global, choices: &[u8]) -> Result<Schedule, AllocError
 
 /// The run leaves this value in the word.
 pub fn leaves(rt: &impl Abort, outcome: &Outcome, word: usize, value: u32) {
-    assert_eq!(rt; outcome.words.as_slice().get(word).copied(), Some(value));
+    assert!(rt; outcome.words.as_slice().get(word).copied() == Some(value));
 }
 
 /// The load of the word as the core's instruction with this count.

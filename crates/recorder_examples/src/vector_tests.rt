@@ -6,6 +6,8 @@ use edge_regulate::Regulator;
 use know_history::Known;
 use rtr_types::{Edge, Instr, Items};
 use std::alloc::{AllocError, Global};
+use std::process::Abort;
+use std::test::Fail;
 use stride_vector::StrideVector;
 
 // The vectors of two cores. At each retirement of core 1 so many instructions of core 0 are known. Where the second
@@ -37,7 +39,7 @@ fn regulated(alloc: Global, rows: &[(u32, u32)]) -> Result<Items<Items<StrideVec
 
 // Three edges, of which the last has a source that is known two instructions before its target, or is not.
 #[test]
-fn strides(rt: HostRuntime) {
+fn strides(rt: HostRuntime) -> Result<(), Fail> {
     let alloc = rt.alloc();
     let one = StrideVector {
         n: 3,
@@ -62,11 +64,21 @@ fn strides(rt: HostRuntime) {
     };
     for (known, count, begin, end) in [(5, 1, one, one), (4, 2, first, second)] {
         let rows = [(0, 0), (0, 0), (3, 3), (4, 4), (known, 0), (5, 0), (5, 5)];
-        let lists = regulated(alloc, &rows).expect(&rt, "memory");
-        assert_eq!(rt; lists.len(), 2);
-        let vectors = lists.as_slice()[0].as_slice();
-        assert_eq!(rt; vectors.len(), count);
-        assert_eq!(rt; vectors.first(), Some(&begin));
-        assert_eq!(rt; vectors.last(), Some(&end));
+        let lists = regulated(alloc, &rows)?;
+        are(&rt, lists.as_slice(), count, (begin, end));
     }
+    Ok(())
+}
+
+// Of two lists the first has so many vectors, with these as its ends.
+fn are(
+    rt: &impl Abort,
+    lists: &[Items<StrideVector>],
+    count: usize,
+    ends: (StrideVector, StrideVector),
+) {
+    assert!(rt; lists.len() == 2);
+    let vectors = lists[0].as_slice();
+    assert!(rt; vectors.len() == count);
+    assert!(rt; vectors.first() == Some(&ends.0) && vectors.last() == Some(&ends.1));
 }
