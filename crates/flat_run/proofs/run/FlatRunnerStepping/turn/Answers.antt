@@ -12,10 +12,10 @@ tell-requires c =
     let way = c.requires.under_way in
     let r = c.args.run.now in
     access_listed r.machine r.clerk.lists r.choices way.image way.params way.schedule way.t way.stands_so _ _ _
-    c.in_ok-happened.ensures
+    c.in_ok-happened.ensures.stepped
 
 pub returns-clause-stands : goal.returns-clause-stands
 returns-clause-stands c =
     let r = c.args.run.now in
     λ image params schedule t stands. steps_on r.machine r.clerk.lists r.choices image params schedule t stands _ _ _
-    c.in_ok-happened.ensures _ _ c.requires.going c.next.ensures.choice c.next.ensures.rest c.in_ok-tell.ensures
+    c.in_ok-happened.ensures.stepped _ _ c.requires.going c.next.ensures.choice c.next.ensures.rest c.in_ok-tell.ensures
