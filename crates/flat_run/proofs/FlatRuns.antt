@@ -24,7 +24,6 @@ use Rattle.msi_state.specs.Steps.{enabled}
 use Rattle.flat_state.specs.Shows.{IsSomewhere, Stands}
 use Rattle.flat_laws.proofs.LastWords.{cores_shown, done_shown}
 use Rattle.flat_machine.proofs.LastPlaces.{noted_final}
-use Rattle.flat_machine.proofs.MadeMoves.{program_same}
 use Rattle.flat_machine.specs.Machines.{HasStepped, IsKept, words_noted}
 use Rattle.flat_machine.specs.declared.machine.FlatMachine.{FlatMachine}
 use Rattle.run_outcome.proofs.CoreMoves.{CoresAfter, cores_moved}
@@ -59,11 +58,6 @@ module _ (m : FlatMachine) (loads : List (List LoadNote)) (rest : Choices) (imag
         subst (λ (x : Event). CoresAfter at.s.image at.s.cores x (plain_step at.s stepped.taken).cores) (tells ∙ is)
         (cores_moved none_riding none_carrying at.s stepped.taken tt can at.stands.holds) in
         subst (λ (n : ℕ). a.at.core < n) (sym long) after.retires.within
-
-    -- its program stays
-    pub program_stays : m'.flat.program ≡ m.flat.program
-    unfolding somewhere
-    program_stays = program_same m.flat m'.flat stepped.taken somewhere can stepped.made.makes
 
     -- it stands one choice further
     pub steps_on : (loads' : List (List LoadNote)) (rest' : Choices) →
