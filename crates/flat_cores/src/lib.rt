@@ -2,7 +2,7 @@
 //! that its lines allow. Where they don't allow it, the core asks the home for what it needs.
 //!
 //! Proved: each call makes the machine's move at every state that the flat state stands at (`Makes`). So the new flat
-//! state stands at the state after the move, with the words that its access left. No program goes by it yet.
+//! state stands at the state after the move, with the words that its access left.
 #![tactic(auto)]
 
 mod asks;

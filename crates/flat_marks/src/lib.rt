@@ -3,8 +3,7 @@
 //! step looks at all cores.
 //!
 //! Proved: each call makes the machine's move at every state that the flat state stands at, and tells what happened.
-//! After it exactly the moves are marked that can be made then (`Follows`), if so they were before. No program goes by
-//! it yet.
+//! After it exactly the moves are marked that can be made then (`Follows`), if so they were before.
 #![tactic(auto)]
 
 mod marking;

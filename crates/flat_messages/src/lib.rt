@@ -2,8 +2,7 @@
 //! After a block's data the access that waited for them is made in the same move.
 //!
 //! Proved: a line's state after a message and its answer are those of the table's row (`heard`, `answered`). Each call
-//! makes the machine's move at every state that the flat state stands at (`take_word`, `take_data`). No program goes by
-//! it yet.
+//! makes the machine's move at every state that the flat state stands at (`take_word`, `take_data`).
 #![tactic(auto)]
 
 mod data;

@@ -8,7 +8,7 @@
 //! entries have the words that the run's accesses left. Crates above make the moves.
 //!
 //! Proved: a ring has at its end what is put, and gives what is oldest (`MessageRing`, `ReplyRing`). A core's next
-//! instruction retires as `rv_core` has it (`Node::retire`). No program goes by the flat state yet.
+//! instruction retires as `rv_core` has it (`Node::retire`). `run` and hunts go by the flat state.
 #![tactic(auto)]
 
 mod block;
