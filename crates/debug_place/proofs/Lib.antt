@@ -6,3 +6,4 @@ pub mod StopPlaces
 mod CountTests
 mod SeatTests
 mod PlaceMoves
+pub mod AllSteps

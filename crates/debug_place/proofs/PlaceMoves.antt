@@ -1,5 +1,7 @@
 -- What a place's parts say of a move is said of its recording, since they belong together.
-use Rattle.std.proofs.Common.{◌≡◌, ◌∙◌, ℕ, ◌<◌, ◌≤◌, List, length, sym, ap, subst}
+use Rattle.std.proofs.Common.{inl, inr, ◌≡◌, ◌∙◌, ℕ, ◌<◌, ◌≤◌, List, length, take, sym, ap, subst, arith}
+use Rattle.std.proofs.lemmas.Bool.{cases_lt}
+use Rattle.std.proofs.lemmas.List.{take_all}
 use Rattle.std.specs.Prelude.{Option}
 use Rattle.rtr_types.specs.declared.TheConstants.{CORES_MAX}
 use Rattle.rtr_types.specs.declared.cut.Cut.{Cut}
@@ -9,7 +11,8 @@ use Rattle.replay_core.specs.Orders.{counts, nought}
 use Rattle.replay_audit.specs.Audits.{Findings}
 use Rattle.cut_replay.specs.ClosedCuts.{count_in, IsClosed, IsContained}
 use Rattle.cut_moves.specs.Rounds.{rounds_of}
-use Rattle.cut_moves.specs.Ways.{way_before}
+use Rattle.cut_moves.specs.Ways.{between, way_before}
+use Rattle.cut_moves.proofs.SeatCounts.{among_grows}
 use Rattle.debug_place.specs.Hits.{FirstIn, Hits, LastIn, stops_on}
 use Rattle.debug_place.specs.Places.{Fits}
 use Rattle.debug_place.proofs.StopPlaces.{IsCutBefore, in_line}
@@ -51,3 +54,22 @@ module _ (a : Findings) (timeline : List ℕ) (index : Findings) (cut : Cut) (fi
         ∙ ap (λ (l : List ℕ). counts (count_in low) (way_before (count_in low) (count_in high) l n) core)
         fits.timeline_is;
   }
+
+-- no more of a core's instructions stand among the first places than in all
+pub among_most : (line : List ℕ) (number core : ℕ) → counts nought (take number line) core ≤ counts nought line core
+among_most line number core = elim (cases_lt number (length line)) [
+  | inl inside ↦
+      let grows = among_grows line number (length line) core (omega arith) in
+      let all : counts nought (take (length line) line) core ≡ counts nought line core =
+      ap (λ (l : List ℕ). counts nought l core) (take_all (length line) line (omega arith)) in
+      omega arith
+  | inr past ↦
+      let all : counts nought (take number line) core ≡ counts nought line core =
+      ap (λ (l : List ℕ). counts nought l core) (take_all number line past) in
+      omega arith
+]
+
+-- so many as lie between none and all are as many
+pub among_between : (line : List ℕ) (number core total : ℕ) → counts nought line core ≡ total →
+    between 0 total (counts nought (take number line) core) ≡ counts nought (take number line) core
+among_between line number core total all = let most = among_most line number core in omega arith

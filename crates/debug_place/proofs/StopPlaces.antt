@@ -1,9 +1,9 @@
 -- What a test says of a place of a way is told by the core's count there. So the first place of the timeline before
 -- which it stops on the way is the way's first stop, and the last one its last.
-use Rattle.std.proofs.Common.{inl, inr, ◌≡◌, ◌⊎◌, ℕ, suc, ◌+◌, ◌<◌, ◌≤◌, Bool, true, false, ◌&&◌, List, [], ◌∷◌}
+use Rattle.std.proofs.Common.{inl, inr, ◌≡◌, ◌⊎◌, ℕ, zero, suc, ◌+◌, ◌<◌, ◌≤◌, Bool, true, false, ◌&&◌, List, [], ◌∷◌}
 use Rattle.std.proofs.Common.{length, take, drop, refl, sym, ap, subst, ◌∙◌, arith}
-use Rattle.std.specs.Prelude.{slice_index, None, Some}
-use Rattle.std.proofs.lemmas.Bool.{cases_lt}
+use Rattle.std.specs.Prelude.{slice_index, nat_le, nat_lt, None, Some}
+use Rattle.std.proofs.lemmas.Bool.{cases_lt, leb-true, ltb-true}
 use Rattle.std.proofs.lemmas.List.{drop_more, get_or-take, get_or_past, take-append-drop, take-take}
 use Rattle.rtr_types.specs.declared.TheConstants.{CORES_MAX}
 use Rattle.rtr_types.specs.declared.cut.Cut.{Cut}
@@ -20,7 +20,7 @@ use Rattle.replay_core.proofs.Lists.{ordered_on}
 use Rattle.replay_audit.specs.Determinate.{IsDeterminate}
 use Rattle.cut_replay.specs.ClosedCuts.{count_in, IsClosed, IsContained, IsCutOf}
 use Rattle.cut_replay.specs.CutStates.{IsStateAt}
-use Rattle.cut_replay.proofs.Unique.{one_cut}
+use Rattle.cut_replay.proofs.Unique.{one_cut, one_state_law}
 use Rattle.cut_moves.specs.Rounds.{rounds_of}
 use Rattle.cut_moves.specs.Ways.{ClosedUnder, is_on_way, way_before, way_of}
 use Rattle.cut_moves.proofs.Fronts.{count_is}
@@ -28,7 +28,8 @@ use Rattle.cut_moves.proofs.Rounds.{rounds_ordered}
 use Rattle.cut_moves.proofs.TakenWay.{in_totals}
 use Rattle.cut_moves.proofs.WayPlaces.{before_ordered, both, count_on, counts_before, front_taken}
 use Rattle.cut_moves.proofs.WayPlaces.{place_inside, place_of, place_there, rest_behind, way_grows, way_split}
-use Rattle.cut_moves.proofs.WayPlaces.{way_whole}
+use Rattle.cut_moves.proofs.WayPlaces.{way_gains, way_whole}
+use Rattle.cut_moves.proofs.Along.{on_is}
 use Rattle.cut_index.specs.AloneLaws.{alone_at}
 use Rattle.cut_index.specs.Runs.{next_of}
 use Rattle.cut_index.specs.Standings.{reached}
@@ -49,8 +50,14 @@ none_stops stops p s [] none = tt
 none_stops stops p s (core ∷ rest) none =
     (none 0 (omega arith), none_stops stops p (place p s core) rest (λ i lt. none (suc i) (omega arith)))
 
+none_listed : (stops : Plan → Outcome → ℕ → Bool) (p : Plan) (s : Outcome) (places : List ℕ) →
+    NoneStops stops p s places → NoneBelow stops p s places (length places)
+none_listed stops p s [] none i lt = absurd (omega arith)
+none_listed stops p s (core ∷ rest) none zero lt = none.0
+none_listed stops p s (core ∷ rest) none (suc i) lt = none_listed stops p (place p s core) rest none.1 i (omega arith)
+
 -- the core of each place of the timeline is ready there, and is one of the recording's
-ready_at : (which : Which) (r : Recording) (n : ℕ) → n < length (rounds_of which r) →
+pub ready_at : (which : Which) (r : Recording) (n : ℕ) → n < length (rounds_of which r) →
     Ready (plan_of which r) (counts nought (take n (rounds_of which r))) (slice_index (rounds_of which r) n)
 ready_at which r n lt =
     let p = plan_of which r in
@@ -310,6 +317,38 @@ module _ (stops : Plan → Outcome → ℕ → Bool) (hits : Hits)
       subst (λ (k : Cut). IsFirstStop stops p s (way_of (count_in k) (count_in high) line) (slice_index line n)
       (reached which r cut)) (sym low_own) stop
 
+  -- ---- where nothing stopped it, nothing stops it
+
+  none_from : NoneBelow stops (plan_of which r) (reached which r low)
+      (way_of (count_in low) (count_in high) (rounds_of which r))
+      (length (way_of (count_in low) (count_in high) (rounds_of which r))) →
+      NoneIn (stops_on hits which r low high (rounds_of which r)) 0 (length (rounds_of which r))
+  none_from none n least lt = by (on n) refl
+    where
+      by : (b : Bool) → is_on_way (count_in low) (count_in high) (rounds_of which r) n ≡ b →
+          stops_on hits which r low high (rounds_of which r) n ≡ false
+      by false off = ap (λ (b : Bool). b && stops_before_place hits which r line n) off
+      by true is_on =
+          let gains = way_gains (count_in low) (count_in high) line n (length line) lt lt is_on in
+          let all = ap (λ (l : List ℕ). length l) (way_whole (count_in low) (count_in high) line) in
+          ap (λ (b : Bool). b && stops_before_place hits which r line n) is_on
+          ∙ sym (stop_there n lt is_on) ∙ none (length (front n)) (omega arith)
+
+  pub none_going : (new : Placed) → GoesOn stops (placed_at which r low) high new None →
+      NoneIn (stops_on hits which r low high (rounds_of which r)) 0 (length (rounds_of which r))
+  none_going new goes = none_from (none_listed stops p s way
+      (subst (λ (k : Cut). NoneStops stops p s (way_of (count_in k) (count_in high) line)) low_own goes.0))
+
+  pub none_backing : (new : Placed) → GoesBack stops (placed_at which r high) low new None →
+      NoneIn (stops_on hits which r low high (rounds_of which r)) 0 (length (rounds_of which r))
+  none_backing new goes = none_from
+      (subst (λ (k : Cut). NoneBelow stops p s (way_of (count_in low) (count_in k) line)
+      (length (way_of (count_in low) (count_in k) line))) high_own
+      (subst (λ (t : Outcome). NoneBelow stops p t
+      (way_of (count_in low) (count_in (cut_of p (counts_in (reached which r high)))) line)
+      (length (way_of (count_in low) (count_in (cut_of p (counts_in (reached which r high)))) line)))
+      (one_state_law which r low goes.there s goes.state at_low) goes.ends.0))
+
   -- ---- going back
 
   pub backs_all : NoneIn (stops_on hits which r low high (rounds_of which r)) 0 (length (rounds_of which r)) →
@@ -361,3 +400,37 @@ module _ (stops : Plan → Outcome → ℕ → Bool) (hits : Hits)
                   (sym (front_taken (count_in low) (count_in high) line n lt tests.0));
             });
       }
+
+-- on a way between two cuts of another way no more places stop it
+pub none_between : (hits : Hits) (which : Which) (r : Recording) (low high first last : Cut) → IsContained low first →
+    IsContained last high → NoneIn (stops_on hits which r low high (rounds_of which r)) 0 (length (rounds_of which r)) →
+    NoneIn (stops_on hits which r first last (rounds_of which r)) 0 (length (rounds_of which r))
+none_between hits which r low high first last above below none n least lt =
+    by (is_on_way (count_in first) (count_in last) (rounds_of which r) n) refl
+  where
+    core : ℕ
+    core = slice_index (rounds_of which r) n
+
+    at : ℕ
+    at = counts nought (take n (rounds_of which r)) (slice_index (rounds_of which r) n)
+
+    by : (b : Bool) → is_on_way (count_in first) (count_in last) (rounds_of which r) n ≡ b →
+        stops_on hits which r first last (rounds_of which r) n ≡ false
+    by false off = ap (λ (b : Bool). b && stops_before_place hits which r (rounds_of which r) n) off
+    by true on =
+        let tests = both (nat_le (count_in first (slice_index (rounds_of which r) n))
+        (counts nought (take n (rounds_of which r)) (slice_index (rounds_of which r) n)))
+        (nat_lt (counts nought (take n (rounds_of which r)) (slice_index (rounds_of which r) n))
+        (count_in last (slice_index (rounds_of which r) n))) on in
+        let more = leb-true (count_in first (slice_index (rounds_of which r) n))
+        (counts nought (take n (rounds_of which r)) (slice_index (rounds_of which r) n)) tests.0 in
+        let less = ltb-true (counts nought (take n (rounds_of which r)) (slice_index (rounds_of which r) n))
+        (count_in last (slice_index (rounds_of which r) n)) tests.1 in
+        let a = above (slice_index (rounds_of which r) n) in
+        let b = below (slice_index (rounds_of which r) n) in
+        let wide : is_on_way (count_in low) (count_in high) (rounds_of which r) n ≡ true =
+        on_is (count_in low (slice_index (rounds_of which r) n)) (count_in high (slice_index (rounds_of which r) n))
+        (counts nought (take n (rounds_of which r)) (slice_index (rounds_of which r) n)) (omega arith) (omega arith) in
+        ap (λ (b : Bool). b && stops_before_place hits which r (rounds_of which r) n) on
+        ∙ sym (ap (λ (b : Bool). b && stops_before_place hits which r (rounds_of which r) n) wide)
+        ∙ none n least lt

@@ -20,6 +20,7 @@ mod counts;
 mod looks;
 mod place;
 mod stops;
+mod turns;
 
 pub use place::Place;
 pub use stops::{Stopped, Stops};

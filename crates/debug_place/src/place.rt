@@ -29,9 +29,9 @@ const PLACES: usize = CORES_MAX as usize;
 #[derive(Drop)]
 pub struct Place<'a> {
     audited: &'a Audited,
-    timeline: Timeline,
-    index: Index<'a>,
-    cut: Cut,
+    pub(crate) timeline: Timeline,
+    pub(crate) index: Index<'a>,
+    pub(crate) cut: Cut,
 }
 
 impl<'a> Model for Place<'a> {

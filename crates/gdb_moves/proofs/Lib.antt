@@ -7,3 +7,7 @@ pub mod EndLemmas
 pub mod RangeLemmas
 pub mod StopTests
 pub mod MarkLemmas
+pub mod LeapLemmas
+pub mod LeapBackLemmas
+pub mod Gathered
+pub mod LeapEnds

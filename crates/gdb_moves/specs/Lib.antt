@@ -6,4 +6,5 @@ pub mod Directions
 pub mod Turns
 pub mod Ranges
 pub mod Moves
+pub mod Leaps
 pub mod Sights

@@ -17,6 +17,7 @@ mod direction;
 mod ends;
 mod hearing;
 pub mod laws;
+mod leaps;
 mod marked;
 mod moves;
 mod order;

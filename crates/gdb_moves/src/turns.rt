@@ -7,15 +7,16 @@ ghost use Rattle.debug_place.specs.Places.{IsKept, cut_at};
 ghost use Rattle.gdb_moves.specs.Sights.{IsOf};
 ghost use Rattle.gdb_moves.specs.declared.direction.Direction.TheVariants.{Back, Forward};
 ghost use Rattle.gdb_moves.specs.Directions.{ahead_in};
+ghost use Rattle.gdb_moves.specs.Leaps.{IsCounted};
 ghost use Rattle.gdb_moves.specs.Moves.{GoesWith, StepsFree, StepsInto};
 ghost use Rattle.gdb_moves.specs.Stopping.{stopping_of};
 
 use crate::direction::{Direction, PLACES};
 use crate::hearing::Hearing;
 use crate::moves::{Moved, plain_stop};
-use cut_moves::whole;
 use debug_place::Place;
 use gdb_packets::{Stop, Why};
+use replay_audit::Audited;
 use rtr_types::CoreSet;
 use std::alloc::{AllocError, Global};
 
@@ -37,8 +38,9 @@ impl Hearing<'_> {
     {
         // The recording is valid, so each count fits.
         let _ = self.audited.recording();
-        let mut at = [0; PLACES];
-        for number in 0..place.timeline().len() {
+        let from = self.leap(alloc, place, cores)?;
+        let mut at = counted(self.audited, place, from);
+        for number in from..place.timeline().len() {
             let core = place.timeline()[number];
             let count = at[core as usize];
             if cores.has(core) && lacks(place, core, count) {
@@ -70,8 +72,9 @@ impl Hearing<'_> {
         let _ = self.audited.outcome();
         let _ = self.audited.recording();
         let _ = place.cut();
-        let mut at = whole(self.audited).counts;
-        for number in (0..place.timeline().len()).rev() {
+        let past = self.leap_back(alloc, place, cores)?;
+        let mut at = counted(self.audited, place, past);
+        for number in (0..past).rev() {
             let core = place.timeline()[number];
             let count = at[core as usize] - 1;
             if cores.has(core) && !lacks(place, core, count) {
@@ -117,4 +120,18 @@ fn lacks(place: &Place, core: u8, count: u32) -> bool
     ensures { result ≡ nat_le (count_in (cut_at place.now) core) count }
 {
     place.cut().counts[core as usize] <= count
+}
+
+/// Of each core how many of its instructions stand among the first places of the timeline, so many.
+fn counted(audited: &Audited, place: &Place, number: usize) -> [u32; PLACES]
+    requires { IsOf audited.now place.now }
+    ensures { IsCounted place.now number result }
+{
+    // A valid recording has no more cores than there may be.
+    let _ = audited.recording();
+    let mut at = [0; PLACES];
+    for core in 0..place.cores() {
+        at[core as usize] = place.among(core, number);
+    }
+    at
 }

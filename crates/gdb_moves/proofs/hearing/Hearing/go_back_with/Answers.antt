@@ -16,6 +16,7 @@ use Rattle.gdb_moves.proofs.EndLemmas.{whole_at}
 use Rattle.gdb_moves.proofs.BackLemmas.{IsTurningBack, back_count, back_few, back_inside, back_last, back_passed}
 use Rattle.gdb_moves.proofs.BackLemmas.{back_taken, back_there, turning_last}
 use Rattle.gdb_moves.proofs.AheadLemmas.{stopped_turn}
+use Rattle.gdb_moves.proofs.LeapEnds.{turning_back_leapt}
 use Rattle.gdb_moves.proofs.TurnLemmas.{line_inside}
 use Rattle.gdb_moves.proofs.hearing.Hearing.go_back_with.Goals as goal
 use Rattle.gdb_moves.proofs.hearing.Hearing.go_back_with.Goals.{After-timeline, else-has, else-has-via-else-has}
@@ -30,22 +31,16 @@ number_is : (c : After-timeline) → c.loop-number.number ≡ c.loop-number.numb
 number_is c = let some = c.loop-number-test.true in omega arith
 
 inside : (c : After-timeline) → c.loop-number.number - 1 < length c.timeline.result.now
-inside c = line_inside _ _ c.loop-number.invariant.kept _ _ c.timeline.ensures c.timeline-number.ensures _
-    (let some = c.loop-number-test.true in let most = c.loop-number.auto.number in omega arith)
+inside c = line_inside _ _ c.loop-number.invariant.kept _ _ c.timeline.ensures refl _
+    (let some = c.loop-number-test.true in let most = c.loop-number.auto.number in
+    let within = c.in_ok-past.ensures.within in omega arith)
 
 pub loop-number-init : goal.loop-number-init
 loop-number-init c =
-    let a = c.args.self.now.audited.now in
-    let place = c.args.place.now in
-    let valid : Valid place.recording =
-    subst (λ (r : Recording). Valid r) c.requires.run.recording c.recording.ensures.valid in
-    let determinate : IsDeterminate place.which place.recording =
-    subst (λ (w : Which). IsDeterminate w place.recording) c.requires.run.which
-    (subst (λ (r : Recording). IsDeterminate a.which r) c.requires.run.recording
-    c.outcome.ensures.passed.determinate) in
-    turning_last (stopping_of c.args.self.now) c.args.cores place c.whole.result c.timeline-number.result.now valid
-    determinate c.cut.ensures.stands (whole_at a place c.whole.result c.requires.run c.whole.ensures)
-    c.timeline-number.ensures
+    turning_back_leapt (stopping_of c.args.self.now) c.args.cores c.args.place.now c.leap_back.new.place
+    c.in_ok-past.past c.counted-at.result
+    (subst (λ (r : Recording). Valid r) c.requires.run.recording c.recording.ensures.valid)
+    c.in_ok-past.ensures.leapt c.counted-at.ensures
 
 pub bounds-at-core : goal.bounds-at-core
 bounds-at-core c =

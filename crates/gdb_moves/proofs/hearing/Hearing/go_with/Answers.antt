@@ -10,7 +10,8 @@ use Rattle.gdb_moves.specs.declared.direction.Direction.TheVariants.{Forward}
 use Rattle.gdb_moves.specs.Moves.{StepsFree, StepsInto}
 use Rattle.gdb_moves.specs.Stopping.{stopping_of}
 use Rattle.gdb_moves.proofs.AheadLemmas.{stopped_turn}
-use Rattle.gdb_moves.proofs.TurnLemmas.{IsTurning, line_inside, turn_few, turn_inside, turn_next, turn_passed}
+use Rattle.gdb_moves.proofs.LeapEnds.{turning_leapt}
+use Rattle.gdb_moves.proofs.TurnLemmas.{IsTurning, line_inside, same_line, turn_few, turn_inside, turn_next, turn_passed}
 use Rattle.gdb_moves.proofs.TurnLemmas.{turn_room, turn_taken, turn_there}
 use Rattle.gdb_moves.proofs.hearing.Hearing.go_with.Goals as goal
 use Rattle.gdb_moves.proofs.hearing.Hearing.go_with.Goals.{After-timeline, else-has, else-has-via-else-has}
@@ -22,8 +23,15 @@ valid : (c : After-timeline) → Valid c.args.place.now.recording
 valid c = subst (λ (r : Recording). Valid r) c.requires.run.recording c.recording.ensures.valid
 
 inside : (c : After-timeline) → c.loop-number.number < length c.timeline.result.now
-inside c = line_inside _ _ c.loop-number.invariant.kept _ _ c.timeline.ensures c.timeline-number-end.ensures _
+inside c = line_inside _ _ c.loop-number.invariant.kept _ _ c.timeline.ensures
+    (c.timeline-number-end.ensures ∙ same_line _ _ c.leap.ensures.kept) _
     c.loop-number-test.true
+
+pub loop-number-init : goal.loop-number-init
+loop-number-init c =
+    turning_leapt (stopping_of c.args.self.now) c.args.cores c.args.place.now c.leap.new.place c.in_ok-from.from
+    c.counted-at.result (subst (λ (r : Recording). Valid r) c.requires.run.recording c.recording.ensures.valid)
+    c.in_ok-from.ensures.within c.in_ok-from.ensures.leapt c.counted-at.ensures
 
 pub bounds-at-core : goal.bounds-at-core
 bounds-at-core c =
