@@ -40,8 +40,9 @@ fn clocks_of_core(
     let cores = audited.recording().params.cores;
     let room = ends.len().saturating_mul(cores as usize);
     let mut counts = Items::from_vec(Vec::with_capacity(alloc, room)?);
+    let mut near = 0;
     for &count in ends {
-        let clock = audited.clock(Instr { core, count });
+        let clock = audited.clock_near(Instr { core, count }, &mut near);
         put_counts(&mut counts, &clock, cores)?;
     }
     Ok(CoreEntries::new(ends.len(), cores as usize, counts))

@@ -93,6 +93,17 @@ impl Audited {
         self.pass.clocks.of(at).to_clock()
     }
 
+    /// The same clock, looked for from a place on among those that are kept of its core. The place where it was found is
+    /// left: the clocks of a core's instructions by rising count are each found near the one before.
+    pub fn clock_near(&self, at: Instr, near: &mut usize) -> Clock
+        requires { IsInstrOf self.now.recording at }
+        ensures { IsClock (Among (log_edges self.now.which self.now.recording)) at (λ i. slice_index result i) }
+    {
+        let number = self.pass.clocks.number(at, *near);
+        *near = number;
+        self.pass.clocks.by_number(at, number).to_clock()
+    }
+
     /// The recording, and the outcome of the low order. It takes no memory.
     pub fn into_parts(self) -> (Recording, Outcome)
         ensures recording { result.0 ≡ self.recording }

@@ -17,8 +17,8 @@ use Rattle.min_certificate.proofs.Exactly.{entry_of_clock, clocks_more}
 use Rattle.min_certificate.proofs.First.{IsListed, end_in_list}
 use Rattle.min_certificate.proofs.exact_clocks.clocks_of_core.Goals as goal
 
-pub clock-clock-requires : goal.clock-clock-requires
-clock-clock-requires c =
+pub clock_near-clock-requires : goal.clock_near-clock-requires
+clock_near-clock-requires c =
     let r = c.args.audited.now.recording in
     let valid = c.recording.ensures.valid in
     let h : IsListed r c.args.core c.loop-count.count-index c.args.ends.now =
@@ -34,7 +34,7 @@ loop-count-preserved c =
     let cores = c.recording.result.now.params.cores in
     let counts = c.loop-count.counts in
     let new = c.put_counts.new.counts in
-    let clock = c.clock-clock.result in
+    let clock = c.clock_near-clock.result in
     let entry = take cores clock in
     let put = c.in_ok-put_counts.ensures.counts in
     let valid = c.recording.ensures.valid in
@@ -45,7 +45,7 @@ loop-count-preserved c =
     (λ i. slice_index clock i) =
     subst (λ (w : Which). IsClock (Among (log_edges w r)) (instr c.args.core (get_or c.args.ends.now k 0))
     (λ i. slice_index clock i))
-    c.requires.which c.clock-clock.ensures in
+    c.requires.which c.clock_near-clock.ensures in
     let wide : length entry ≡ cores =
     omega (arith, ap length put, length-append counts entry, c.in_ok-put_counts.ensures.all) in
     let here : IsEntryOf r c.args.core (end_of r c.args.core k) entry =
