@@ -1,4 +1,4 @@
--- Many turns at once: how far the cores that move come along the timeline.
+-- Rule: many turns at once, how far the cores that move come along the timeline: IsGone, IsLeft, HasLeapt
 use Rattle.std.specs.Prelude.{◌≡◌, ℕ, ◌<◌, ◌≤◌, Bool, true, false, List, length, slice_index, take}
 use Rattle.rtr_types.specs.CoreSets.{has}
 use Rattle.rtr_types.specs.declared.TheConstants.{CORES_MAX}
