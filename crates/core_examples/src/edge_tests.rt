@@ -100,16 +100,21 @@ fn left_of(rt: &impl Abort, image: &Image, old: u32, value: u32) -> u32 {
     left
 }
 
+// The row has what the operation makes of the left value and of each right one.
+fn row_is(rt: &impl Abort, image: &Image, op: &Op, left: u32, row: &[u32; 5]) {
+    for (right, want) in EDGES.iter().zip(row.iter()) {
+        let found = match op {
+            Op::Amo { .. } => left_of(rt, image, left, *right),
+            _ => result_of(rt, image, left, *right),
+        };
+        assert!(rt; found == *want, "{left:x} and {right:x}");
+    }
+}
+
 fn table_is(rt: &impl Abort, alloc: Global, op: &Op, table: &Table) -> Result<(), Fail> {
     let image = image_of(rt, alloc, op)?;
     for (left, row) in EDGES.iter().zip(table.iter()) {
-        for (right, want) in EDGES.iter().zip(row.iter()) {
-            let found = match op {
-                Op::Amo { .. } => left_of(rt, &image, *left, *right),
-                _ => result_of(rt, &image, *left, *right),
-            };
-            assert!(rt; found == *want, "{left:x} and {right:x}");
-        }
+        row_is(rt, &image, op, *left, row);
     }
     Ok(())
 }

@@ -101,13 +101,13 @@ fn counts_through_the_bounds(rt: HostRuntime) {
         touches: 0,
     };
     let mut rider = twice_absorbed(&Absorbed { riders: 5 });
-    assert_eq!(rt; rider.riders, 12);
+    assert!(rt; rider.riders == 12);
     let carry = tell(&mut clerk, &mut rider, NoCarry::none(), access);
     let mut both = NoCarry;
     both.join(&NoCarry);
-    assert_eq!(rt; carry, both);
-    assert_eq!(rt; (clerk.locals, clerk.touches, rider.riders), (0, 1, 12));
+    assert!(rt; carry == both);
+    assert!(rt; (clerk.locals, clerk.touches, rider.riders) == (0, 1, 12));
     let mut idle = twice_absorbed(&NoRider);
     idle.absorb(&NoRider);
-    assert_eq!(rt; idle, NoRider::fresh());
+    assert!(rt; idle == NoRider::fresh());
 }

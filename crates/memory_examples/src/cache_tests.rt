@@ -12,7 +12,7 @@ use std::test::Fail;
 
 /// What happens to the line of block 4, with block 20 as the other block that goes there. `Data` has
 /// the number as each of its words and as its rider.
-#[derive(Clone, Copy, Debug)]
+#[derive(Clone, Copy)]
 enum Step {
     Load(u32),
     Store(u32),
@@ -72,7 +72,7 @@ fn row(
     rt: &impl Abort,
     alloc: Global,
     path: &[Step],
-    step: Step,
+    (step, what): (Step, &str),
     said: Said,
     left: (State, u32, u32),
 ) -> Result<(), Fail> {
@@ -80,11 +80,11 @@ fn row(
     for before in path {
         take(rt, &mut cache, *before);
     }
-    assert!(rt; take(rt, &mut cache, step) == said, "{step:?}");
+    assert!(rt; take(rt, &mut cache, step) == said, "{what}");
     let line = cache.line(4);
     assert!(rt;
         (line.state, line.words[0], line.rider.get().digits) == left,
-        "{step:?}"
+        "{what}"
     );
     Ok(())
 }
@@ -130,7 +130,7 @@ const OWNED_PUT: [Step; 3] = [Step::Store(4), Step::Data(1), Step::Load(20)];
 /// Rows of the table: the path, the step, what it answers, and the line's state, word and trail.
 macro_rules! rows {
     ($rt:ident: $($path:expr, $step:expr => $said:expr, $state:ident $word:literal $trail:literal;)+) => {
-        $(row(&$rt, $rt.alloc(), &$path, $step, $said, (State::$state, $word, $trail))?;)+
+        $(row(&$rt, $rt.alloc(), &$path, ($step, stringify!($step)), $said, (State::$state, $word, $trail))?;)+
     };
 }
 
@@ -212,7 +212,7 @@ fn writes_a_word_and_lends_the_rider(rt: HostRuntime) -> Result<(), Fail> {
     assert!(rt; cache.can_write(4) && !cache.can_write(20) && !cache.can_read(20));
     cache.put_word(4, 2, 9);
     assert!(rt; cache.can_read(4));
-    assert_eq!(rt; (cache.word(4, 1), cache.word(4, 2)), (7, 9));
+    assert!(rt; (cache.word(4, 1), cache.word(4, 2)) == (7, 9));
     cache.rider(4).absorb(&Trail { digits: 3 });
     let given = Said::Replied(Some(Response::OwnerData {
         block: 4,
@@ -274,7 +274,7 @@ fn takes_data(rt: &impl Abort, cache: &mut Cache<Trail>, message: &mut FromHomeS
     assert!(rt; cache.expects(&data));
     cache.take(message);
     assert!(rt; cache.can_read(4));
-    assert_eq!(rt; (cache.word(4, 1), cache.rider(4).digits), (2, 7));
+    assert!(rt; (cache.word(4, 1), cache.rider(4).digits) == (2, 7));
 }
 
 #[test]

@@ -253,9 +253,9 @@ fn takes_responses(rt: HostRuntime) -> Result<(), Fail> {
 /// Room is made for block 2, and cores 0 and 1 come to share it.
 fn shared_by_two(rt: &impl Abort, home: &mut Home<Trail>) -> Result<(), Fail> {
     assert!(rt; home.blocks() == 4);
-    assert_eq!(rt; (home.touched(), home.has_room(2)), (0, false));
+    assert!(rt; (home.touched(), home.has_room(2)) == (0, false));
     home.make_room(2)?;
-    assert_eq!(rt; (home.touched(), home.has_room(2)), (1, true));
+    assert!(rt; (home.touched(), home.has_room(2)) == (1, true));
     assert!(rt; take(rt, home, Step::GetS(0)) == data(0, 0, 0));
     assert!(rt; home.blocks() == 4);
     home.make_room(2)?;
@@ -269,9 +269,9 @@ fn waits_for_core_0(rt: &impl Abort, home: &mut Home<Trail>) -> Result<(), Fail>
     home.make_room(2)?;
     assert!(rt; take(rt, home, Step::GetM(1)) == invalidates(1));
     assert!(rt; home.blocks() == 4);
-    assert_eq!(rt; home.can_take(&Request::GetS { block: 2 }), false);
-    assert_eq!(rt; home.is_free(2), false);
-    assert_eq!(rt; home.owner(2), None);
+    assert!(rt; home.can_take(&Request::GetS { block: 2 }) == false);
+    assert!(rt; home.is_free(2) == false);
+    assert!(rt; home.owner(2) == None);
     Ok(())
 }
 
@@ -279,9 +279,9 @@ fn waits_for_core_0(rt: &impl Abort, home: &mut Home<Trail>) -> Result<(), Fail>
 fn owned_by_core_1(rt: &impl Abort, home: &mut Home<Trail>) {
     assert!(rt; take(rt, home, Step::InvAck(0, 7)) == data(1, 0, 7));
     assert!(rt; home.blocks() == 4);
-    assert_eq!(rt; (home.owner(2), home.words(2).owner), (Some(1), Some(1)));
-    assert_eq!(rt; (home.is_free(2), home.touched()), (true, 1));
-    assert_eq!(rt; (home.rider(2).digits, home.rider(3).digits), (0, 0));
+    assert!(rt; (home.owner(2), home.words(2).owner) == (Some(1), Some(1)));
+    assert!(rt; (home.is_free(2), home.touched()) == (true, 1));
+    assert!(rt; (home.rider(2).digits, home.rider(3).digits) == (0, 0));
 }
 
 #[test]
@@ -297,13 +297,13 @@ fn hands_a_shared_block_to_one_owner(rt: HostRuntime) -> Result<(), Fail> {
 /// The home of two blocks keeps so many entries, and has the image's words, the last three of which are none.
 fn has_opening_words(rt: &impl Abort, home: &Home<Trail>, touched: u32) {
     assert!(rt; home.blocks() == 2);
-    assert_eq!(rt; home.touched(), touched);
+    assert!(rt; home.touched() == touched);
     let owner = None;
     let words = [1, 2, 259, 0];
     assert!(rt; home.words(0) == HomeWords { words, owner });
     let words = [0; 4];
     assert!(rt; home.words(1) == HomeWords { words, owner });
-    assert_eq!(rt; (home.word(1), home.word(2), home.word(7)), (2, 259, 0));
+    assert!(rt; (home.word(1), home.word(2), home.word(7)) == (2, 259, 0));
 }
 
 #[test]
@@ -328,7 +328,7 @@ fn has_the_words_of_a_put(rt: HostRuntime) -> Result<(), Fail> {
     take(&rt, &mut home, Step::GetM(0));
     take(&rt, &mut home, Step::PutM(0, 5));
     assert!(rt; home.blocks() == 4);
-    assert_eq!(rt; (home.word(7), home.word(8), home.word(11)), (0, 5, 5));
-    assert_eq!(rt; home.owner(2), None);
+    assert!(rt; (home.word(7), home.word(8), home.word(11)) == (0, 5, 5));
+    assert!(rt; home.owner(2) == None);
     Ok(())
 }

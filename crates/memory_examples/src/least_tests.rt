@@ -24,7 +24,7 @@ fn least_is(rt: &impl Abort, alloc: Global, list: &[Access], edges: &[Edge]) -> 
     requires { IsTrue (is_short_history list.now) }
 {
     let least = least_of(alloc, list)?;
-    assert_eq!(rt; least.as_slice(), edges);
+    assert!(rt; least.as_slice() == edges);
     Ok(())
 }
 

@@ -3,7 +3,7 @@ use crate::accesses::{access, accesses};
 use access_times::{Rider, Times};
 use conflict_edge::least_of;
 use online_reduce::{EDGES_ROOM, EdgePlaces, Reducer};
-use rtr_types::{Access, CORES_MAX, Edge, Instr, Kind};
+use rtr_types::{Access, CORES_MAX, Edge, Instr, Items, Kind};
 use std::alloc::Global;
 use std::process::Abort;
 use std::test::Fail;
@@ -38,8 +38,8 @@ fn reduced(rt: &impl Abort, alloc: Global, list: &[Access]) -> Result<(Vec<Edge>
 fn an_add_reads_and_writes(rt: HostRuntime) -> Result<(), Fail> {
     let (edges, _) = reduced(&rt, rt.alloc(), &ADDS)?;
     let least = least_of(rt.alloc(), &ADDS)?;
-    assert_eq!(rt; edges.len(), 3);
-    assert_eq!(rt; edges.as_slice(), least.as_slice());
+    assert!(rt; edges.len() == 3);
+    assert!(rt; edges.as_slice() == least.as_slice());
     Ok(())
 }
 
@@ -47,22 +47,25 @@ fn an_add_reads_and_writes(rt: HostRuntime) -> Result<(), Fail> {
 fn readers_ordered_through_another_word(rt: HostRuntime) -> Result<(), Fail> {
     let (edges, reducer) = reduced(&rt, rt.alloc(), &READERS)?;
     let least = least_of(rt.alloc(), &READERS)?;
-    assert_eq!(rt; edges.as_slice(), least.as_slice());
+    assert!(rt; edges.as_slice() == least.as_slice());
     let lists = reducer.finish();
-    let lists = lists.as_slice();
-    assert_eq!(rt; lists.len(), 6);
-    assert_eq!(rt;
+    are_two(&rt, lists.as_slice());
+    Ok(())
+}
+
+// Of the pairs of three cores two have an edge.
+fn are_two(rt: &impl Abort, lists: &[Items<(u32, u32)>]) {
+    assert!(rt; lists.len() == 6);
+    assert!(rt;
         (
             lists[0].len(),
             lists[1].len(),
             lists[2].len(),
             lists[5].len()
-        ),
-        (0, 0, 0, 0)
+        ) == (0, 0, 0, 0)
     );
-    assert_eq!(rt; lists[3].as_slice(), [(2, 1)].as_slice());
-    assert_eq!(rt; lists[4].as_slice(), [(2, 1)].as_slice());
-    Ok(())
+    assert!(rt; lists[3].as_slice() == [(2, 1)].as_slice());
+    assert!(rt; lists[4].as_slice() == [(2, 1)].as_slice());
 }
 
 #[test]
@@ -74,9 +77,9 @@ fn a_local_instruction_counts(rt: HostRuntime) -> Result<(), Fail> {
     let mut times = Times::fresh();
     let mut edges = EdgePlaces::new();
     reducer.retire_into(&access!(1: 2 Store 0), &mut times, &mut edges);
-    assert_eq!(rt; edges.as_slice().len(), 0);
-    assert_eq!(rt; reducer.clock(1).get(1), 2);
-    assert_eq!(rt; reducer.clock(0).get(1), 0);
+    assert!(rt; edges.as_slice().len() == 0);
+    assert!(rt; reducer.clock(1).get(1) == 2);
+    assert!(rt; reducer.clock(0).get(1) == 0);
     Ok(())
 }
 
@@ -87,7 +90,7 @@ fn the_answered_list_has_the_edges(rt: HostRuntime) -> Result<(), Fail> {
     let mut times = Times::fresh();
     reducer.ready()?;
     let edges = reducer.retire(&access!(0: 1 Store 0), &mut times);
-    assert_eq!(rt; edges.len(), 0);
+    assert!(rt; edges.len() == 0);
     assert!(rt; reducer.clock(1).get(1) == 0);
     reducer.ready()?;
     let edges = reducer.retire(&access!(1: 1 Load 0), &mut times);
@@ -95,8 +98,8 @@ fn the_answered_list_has_the_edges(rt: HostRuntime) -> Result<(), Fail> {
         from: Instr { core: 0, count: 1 },
         to: Instr { core: 1, count: 1 },
     }];
-    assert_eq!(rt; edges.as_slice(), into_the_load.as_slice());
-    assert_eq!(rt; edges.capacity(), EDGES_ROOM);
+    assert!(rt; edges.as_slice() == into_the_load.as_slice());
+    assert!(rt; edges.capacity() == EDGES_ROOM);
     Ok(())
 }
 
@@ -115,11 +118,11 @@ fn a_store_follows_a_read_of_each_other_core(rt: HostRuntime) -> Result<(), Fail
             ..access!(0: 1 Load 0)
         };
         reducer.retire_into(&access, &mut times, &mut edges);
-        assert_eq!(rt; edges.as_slice().len(), 0);
+        assert!(rt; edges.as_slice().len() == 0);
     }
     assert!(rt; reducer.clock(0).get(0) == 0);
     reducer.ready()?;
     reducer.retire_into(&access!(0: 1 Store 0), &mut times, &mut edges);
-    assert_eq!(rt; edges.as_slice().len(), CORES_MAX as usize - 1);
+    assert!(rt; edges.as_slice().len() == CORES_MAX as usize - 1);
     Ok(())
 }
