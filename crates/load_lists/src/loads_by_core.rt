@@ -65,31 +65,3 @@ impl LoadLists {
         notes.into_items()
     }
 }
-
-#[cfg(test)]
-mod tests {
-    use super::*;
-    use std::test::Fail;
-
-    fn note(count: u32, word: u32, value: u32) -> LoadNote {
-        LoadNote { count, word, value }
-    }
-
-    #[test]
-    fn loads_stay_with_their_core(rt: HostRuntime) -> Result<(), Fail> {
-        let mut loads = LoadLists::new(rt.alloc(), 2)?;
-        let first = note(3, 16, 7);
-        let second = note(4, 17, 8);
-        loads.make_room()?;
-        loads.note(1, first);
-        loads.make_room()?;
-        assert!(rt; loads.has_room());
-        loads.note(1, second);
-        let items = loads.into_items();
-        let lists = items.as_slice();
-        assert_eq!(rt; lists.len(), 2);
-        assert_eq!(rt; lists[0].len(), 0);
-        assert_eq!(rt; lists[1].as_slice(), [first, second].as_slice());
-        Ok(())
-    }
-}

@@ -9,7 +9,5 @@
 
 mod all_lists;
 mod one_list;
-#[cfg(test)]
-mod tests;
 
 pub use all_lists::RoomyLists;

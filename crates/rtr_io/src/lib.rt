@@ -21,6 +21,3 @@ pub use memory_streams::{MemSink, MemSource};
 pub use std_streams::{StdSink, StdSource, StdStream};
 pub use traits::{Failed, Sink, Source};
 pub use transfer::{ReadEnd, WriteFault, read_all, write_all};
-
-#[cfg(test)]
-mod tests;

@@ -53,28 +53,3 @@ pub fn pair_laws()
     ensures by_source { SourcesRise }
     ensures then_by_target { TargetsRise }
 {}
-
-#[cfg(test)]
-mod tests {
-    use super::*;
-
-    // The six pairs of three cores.
-    #[test]
-    fn three_cores(rt: HostRuntime) {
-        let rows = [
-            (0, 1, 0),
-            (0, 2, 1),
-            (1, 0, 2),
-            (1, 2, 3),
-            (2, 0, 4),
-            (2, 1, 5),
-        ];
-        for (from, to, place) in rows {
-            assert!(rt; from < 3 && to < 3 && from != to);
-            assert_eq!(rt; pair_at(3, from, to), place);
-        }
-        assert_eq!(rt; pair_count(3), 6);
-        assert_eq!(rt; pair_count(1), 0);
-        assert_eq!(rt; pair_of(3, 4), (2, 0));
-    }
-}

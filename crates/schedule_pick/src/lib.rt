@@ -7,7 +7,5 @@
 
 pub mod laws;
 mod schedule;
-#[cfg(test)]
-mod tests;
 
 pub use schedule::Schedule;

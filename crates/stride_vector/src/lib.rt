@@ -81,6 +81,3 @@ pub fn vector_laws()
     ensures edges { EdgesPlaced }
     ensures rise { PositionsRise }
 {}
-
-#[cfg(test)]
-mod tests;

@@ -107,6 +107,3 @@ pub fn one_spelling()
 pub fn prefix_free()
     ensures { PrefixFree }
 {}
-
-#[cfg(test)]
-mod tests;
