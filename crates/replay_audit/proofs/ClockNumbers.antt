@@ -8,7 +8,7 @@ use Rattle.rtr_types.specs.declared.instr.Instr.{Instr}
 use Rattle.std.proofs.lemmas.Bool.Decides.{nat_tests}
 use Rattle.std.proofs.lemmas.Bool.{cases_lt}
 use Rattle.clock_core.specs.Counts.{no_counts}
-use Rattle.replay_audit.specs.Clocks.{AreKept, AreRising, AreWithin, number_to}
+use Rattle.replay_audit.specs.Clocks.{AreKept, AreRising, AreWithin, Kept, clocks_of, last_of, number_to, numbered}
 
 -- ---- lists with one more
 
@@ -204,3 +204,14 @@ kept_more nothing clocks guesses guess y clock list kept lt list_is all later = 
         (rising_more (slice_index_or clocks y.core []) clock y.core (y.count - 1) (kept.rising y.core) all later))
     rising c (no ne) = subst (λ (l : List (List ℕ)). AreRising c l)
         (sym (get_or-set_other clocks y.core c list [] ne)) (kept.rising c)
+
+-- ---- the last clock that is kept
+
+pub last_numbered : (k : Kept) (c n : ℕ) → n ≡ length (clocks_of k c) → last_of k c ≡ numbered k c n
+last_numbered k c zero all = none (clocks_of k c) all
+  where
+    none : (l : List (List ℕ)) → 0 ≡ length l → slice_index_or l (length l - 1) no_counts ≡ no_counts
+    none [] e = refl
+    none (clock ∷ l) e = absurd (omega arith)
+last_numbered k c (suc n) all = let e : length (clocks_of k c) - 1 ≡ n = omega arith in
+    ap (λ (m : ℕ). slice_index_or (clocks_of k c) m no_counts) e

@@ -1,6 +1,6 @@
 -- Clocks by a log, which are kept only of instructions to which an edge leads.
 use Rattle.std.specs.Prelude.{◌≡◌, ℕ, zero, suc, ◌-◌, ◌<◌, ◌≤◌, ◌⊎◌, List, [], ◌∷◌, ◌++◌, length, nat_le, slice_index}
-use Rattle.std.specs.Prelude.{slice_index_or, slice_set, if◌then◌else◌}
+use Rattle.std.specs.Prelude.{slice_index_or, slice_set, if◌then◌else◌, Option, Some, None}
 use Rattle.rtr_types.specs.declared.TheConstants.{CORES_MAX}
 use Rattle.rtr_types.specs.declared.instr.Instr.{Instr}
 use Rattle.rtr_types.specs.declared.instr.Edge.{Edge}
@@ -35,6 +35,15 @@ numbered k c (suc n) = slice_index_or (clocks_of k c) n no_counts
 -- the clock of y: the last one that is kept of its core up to it, with its own count
 abbrev pub clock_at : Kept → Instr → ℕ → ℕ
 clock_at k y = with_own y (λ i. slice_index (numbered k y.core (number_of k y.core y.count)) i)
+
+-- the last clock of core c that is kept, or the one that knows of nothing
+abbrev pub last_of : Kept → (c : ℕ) → List ℕ
+last_of k c = slice_index_or (clocks_of k c) (length (clocks_of k c) - 1) no_counts
+
+-- so many clocks of y's core are kept up to it, or all of them
+abbrev pub IsNumber : Kept → Instr → Option ℕ → Type 0
+IsNumber k y None = number_of k y.core y.count ≡ length (clocks_of k y.core)
+IsNumber k y (Some n) = n ≡ number_of k y.core y.count
 
 -- the clock of y by that of the instruction before it on its core and those of its sources
 abbrev pub next_at : Kept → Instr → (sources : List ℕ) → (cores : ℕ) → ℕ → ℕ

@@ -101,7 +101,7 @@ impl Audited {
     {
         let number = self.pass.clocks.number(at, *near);
         *near = number;
-        self.pass.clocks.by_number(at, number).to_clock()
+        self.pass.clocks.by_number(at, Some(number)).to_clock()
     }
 
     /// The recording, and the outcome of the low order. It takes no memory.

@@ -1,9 +1,12 @@
 //! The clocks of instructions by a log. They are kept only where an edge leads to.
-ghost use Rattle.std.specs.Prelude.{◌≡◌, ◌<◌, ◌≤◌, ℕ, IfOk, IsTrue, OnOk, [], length, replicate, slice_index};
+ghost use Rattle.std.specs.Prelude.{◌≡◌, ◌<◌, ◌≤◌, ℕ, IfOk, IsTrue, OnOk, [], length, max, replicate, slice_index};
+ghost use Rattle.std.specs.Prelude.{slice_index_or};
 ghost use Rattle.rtr_types.specs.declared.TheConstants.{CORES_MAX};
+ghost use Rattle.clock_core.specs.Counts.{no_counts};
+ghost use Rattle.clock_core.specs.Reach.{with_own};
 ghost use Rattle.replay_core.specs.Sources.{sources_in};
-ghost use Rattle.replay_audit.specs.Clocks.{AreRising, AreWithin, CanNote, IsKept, IsNoted, clock_at, clocks_of};
-ghost use Rattle.replay_audit.specs.Clocks.{next_at, number_of, number_to, numbered};
+ghost use Rattle.replay_audit.specs.Clocks.{AreRising, AreWithin, CanNote, IsKept, IsNoted, IsNumber, clock_at};
+ghost use Rattle.replay_audit.specs.Clocks.{clocks_of, last_of, next_at, number_of, number_to, numbered};
 
 use crate::clock_of::ClockOf;
 use clock_core::Clock;
@@ -66,32 +69,17 @@ impl LogClocks {
         ClockOf::new(at, self.numbered(at.core, number))
     }
 
-    /// The same clock, where it was looked up that so many clocks of its core are kept up to it.
+    /// The same clock, where it was looked up that so many clocks of its core are kept up to it, or all of them.
     #[inline(always)]
-    pub fn by_number(&self, at: Instr, number: usize) -> ClockOf<'_>
+    pub fn by_number(&self, at: Instr, number: Option<usize>) -> ClockOf<'_>
         requires core { at.core < CORES_MAX }
-        requires number { number ≡ number_of self.now at.core at.count }
+        requires number { IsNumber self.now at number }
         ensures { (i : ℕ) → slice_index result i ≡ clock_at self.now at i }
     {
-        ClockOf::new(at, self.numbered(at.core, number))
-    }
-
-    /// How many clocks are kept of the core.
-    #[inline(always)]
-    pub fn all(&self, core: u8) -> usize
-        ensures { result ≡ length (clocks_of self.now core) }
-    {
-        self.list(core).len()
-    }
-
-    /// The same clock, where no later clock of the core is kept.
-    #[inline(always)]
-    pub fn last(&self, at: Instr) -> ClockOf<'_>
-        requires core { at.core < CORES_MAX }
-        requires last { number_of self.now at.core at.count ≡ length (clocks_of self.now at.core) }
-        ensures { (i : ℕ) → slice_index result i ≡ clock_at self.now at i }
-    {
-        ClockOf::new(at, self.last_kept(at.core))
+        match number {
+            Some(number) => ClockOf::new(at, self.numbered(at.core, number)),
+            None => ClockOf::new(at, last_in(&self.nothing, self.clocks.as_slice(), at.core)),
+        }
     }
 
     /// How many clocks are kept of the instruction's core up to it. It is looked for from a guess on.
@@ -122,10 +110,7 @@ impl LogClocks {
         ensures list { result.now ≡ clocks_of self.now core }
         ensures rising { AreRising core result.now }
     {
-        match self.clocks.get(core as usize) {
-            Some(list) => list.as_slice(),
-            None => &[],
-        }
+        list_in(self.clocks.as_slice(), core)
     }
 
     /// The core's clock with this number, counted from 1; number 0 is the clock that knows of nothing.
@@ -133,70 +118,117 @@ impl LogClocks {
     fn numbered(&self, core: u8, number: usize) -> &Clock
         ensures { result.now ≡ numbered self.now core number }
     {
-        if number == 0 {
-            return &self.nothing;
-        }
-        match self.list(core).get(number - 1) {
-            Some(clock) => clock,
-            None => &self.nothing,
-        }
+        numbered_in(&self.nothing, self.clocks.as_slice(), core, number)
     }
 
-    /// The last clock that is kept of the core, or else the clock that knows of nothing.
-    #[inline(always)]
-    fn last_kept(&self, core: u8) -> &Clock
-        ensures { result.now ≡ numbered self.now core (length (clocks_of self.now core)) }
-    {
-        let list = self.list(core);
-        let number = list.len();
-        if number == 0 {
-            return &self.nothing;
-        }
-        &list[number - 1]
-    }
-
-    /// The clock of the instruction before on the core, merged with those of the sources, with the own
-    /// count. The guesses become what was found.
-    fn next(&self, at: Instr, sources: &Clock, cores: u8, guesses: &mut [usize; PLACES]) -> Clock
-        requires next { CanNote self.now at }
-        requires few { cores ≤ CORES_MAX }
-        ensures { (i : ℕ) → slice_index result i ≡ next_at self.now at sources.now cores i }
-    {
-        let Instr { core, count } = at;
-        let before = Instr {
-            core,
-            count: count - 1,
-        };
-        let mut clock = self.by_number(before, self.all(core)).to_clock();
-        for of in 0..cores {
-            let source = sources.get(of);
-            if source != 0 {
-                let from = Instr {
-                    core: of,
-                    count: source,
-                };
-                let number = self.number(from, guesses[of as usize]);
-                guesses[of as usize] = number;
-                clock.join(&self.by_number(from, number).to_clock());
-            }
-        }
-        clock.set(core, count);
-        clock
-    }
-
-    /// Keeps the clock of an instruction that has these sources.
+    /// Keeps the clock of an instruction that has these sources. The guesses of its core become what was found.
     #[inline(never)]
     fn keep(&mut self, at: Instr, sources: &Clock, cores: u8) -> Result<(), AllocError>
         requires next { CanNote self.old at }
         requires few { cores ≤ CORES_MAX }
         ensures { OnOk result (IsKept self.old at sources.now cores self.new.clocks) }
     {
-        let mut guesses = self.guesses[at.core as usize];
-        let clock = self.next(at, sources, cores, &mut guesses);
-        self.guesses[at.core as usize] = guesses;
+        let clock = next(
+            &self.nothing,
+            self.clocks.as_slice(),
+            at,
+            sources,
+            cores,
+            &mut self.guesses[at.core as usize],
+        );
         self.clocks[at.core as usize].push(clock)?;
         Ok(())
     }
+}
+
+/// The clocks that are kept of the core.
+#[inline(always)]
+fn list_in(clocks: &[Items<Clock>], core: u8) -> &[Clock]
+    ensures { result.now ≡ slice_index_or clocks.now core [] }
+{
+    match clocks.get(core as usize) {
+        Some(list) => list.as_slice(),
+        None => &[],
+    }
+}
+
+/// The core's clock with this number, counted from 1; number 0 is the clock that knows of nothing.
+#[inline(always)]
+fn numbered_in<'a>(
+    nothing: &'a Clock,
+    clocks: &'a [Items<Clock>],
+    core: u8,
+    number: usize,
+) -> &'a Clock
+    requires { nothing.now ≡ no_counts }
+    ensures { result.now ≡ numbered (record { clocks = clocks.now }) core number }
+{
+    if number == 0 {
+        return nothing;
+    }
+    match list_in(clocks, core).get(number - 1) {
+        Some(clock) => clock,
+        None => nothing,
+    }
+}
+
+/// The core's last clock that is kept, or the one that knows of nothing.
+#[inline(always)]
+fn last_in<'a>(nothing: &'a Clock, clocks: &'a [Items<Clock>], core: u8) -> &'a Clock
+    requires { nothing.now ≡ no_counts }
+    ensures { result.now ≡ last_of (record { clocks = clocks.now }) core }
+{
+    match list_in(clocks, core).last() {
+        Some(clock) => clock,
+        None => nothing,
+    }
+}
+
+/// The clock of the instruction before on the core, merged with those of the sources, with the own count. The guesses
+/// become what was found.
+#[inline(always)]
+fn next(
+    nothing: &Clock,
+    clocks: &[Items<Clock>],
+    at: Instr,
+    sources: &Clock,
+    cores: u8,
+    guesses: &mut [usize; PLACES],
+) -> Clock
+    requires nothing { nothing.now ≡ no_counts }
+    requires rising { (c : ℕ) → AreRising c (slice_index_or clocks.now c []) }
+    requires next { CanNote (record { clocks = clocks.now }) at }
+    requires few { cores ≤ CORES_MAX }
+    ensures { (i : ℕ) → slice_index result i ≡ next_at (record { clocks = clocks.now }) at sources.now cores i }
+{
+    let mut clock = *last_in(nothing, clocks, at.core);
+    clock.set(at.core, at.count - 1);
+    for of in 0..cores {
+        let source = sources.get(of);
+        if source != 0 {
+            let from = Instr {
+                core: of,
+                count: source,
+            };
+            let number = number_from(list_in(clocks, of), from, guesses[of as usize]);
+            guesses[of as usize] = number;
+            merge(&mut clock, numbered_in(nothing, clocks, of, number), from);
+        }
+    }
+    clock.set(at.core, at.count);
+    clock
+}
+
+/// Takes over each greater count of a source's clock, which is the last one that is kept with the source's own count.
+#[inline(always)]
+fn merge(clock: &mut Clock, last: &Clock, from: Instr)
+    requires { from.core < CORES_MAX }
+    ensures { (i : ℕ) → slice_index clock.new i
+        ≡ max (slice_index clock.old i) (with_own from (λ j. slice_index last.now j) i) }
+{
+    let own = clock.get(from.core).max(from.count);
+    clock.join(last);
+    clock.set(from.core, own);
 }
 
 /// How many of a core's clocks are of instructions up to this one, looked for from a guess on.

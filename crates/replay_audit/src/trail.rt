@@ -148,7 +148,7 @@ impl Trail {
     {
         let number = self.clocks.number(access.at, *guess);
         *guess = number;
-        let clock = self.clocks.by_number(access.at, number);
+        let clock = self.clocks.by_number(access.at, Some(number));
         look(
             self.listed,
             &mut self.found,
@@ -168,7 +168,7 @@ impl Watch for Trail {
 
     #[inline(always)]
     fn touch(&mut self, access: Access) -> Result<(), AllocError> {
-        let clock = self.clocks.last(access.at);
+        let clock = self.clocks.by_number(access.at, None);
         look(
             self.listed,
             &mut self.found,

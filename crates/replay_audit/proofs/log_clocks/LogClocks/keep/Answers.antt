@@ -14,7 +14,8 @@ invariant_of-self-2 c =
     c.index_mut-2.ensures.value
     ∙ get_or_default c.self.inside.clocks.items c.args.at.core c.index_mut-2.result.now [] can.clocks in
     let own : slice_index c.next-clock.result c.args.at.core ≡ c.args.at.count =
-    c.next-clock.ensures c.args.at.core ∙ own_next c.args.self.now c.args.at c.args.sources.now c.args.cores in
+    c.next-clock.ensures c.args.at.core
+    ∙ own_next (record { clocks = c.as_slice.result.now }) c.args.at c.args.sources.now c.args.cores in
     let some = can.some in
     kept_more c.self.inside.nothing c.self.inside.clocks.items c.self.inside.guesses.items
     c.next-clock.new.guesses c.args.at c.next-clock.result c.push.new.self c.self.invariant can.clocks

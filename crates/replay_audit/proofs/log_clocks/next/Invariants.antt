@@ -5,11 +5,12 @@ use Rattle.clock_core.specs.Order.{previous}
 use Rattle.clock_core.specs.Reach.{merged_over}
 use Rattle.replay_core.specs.Sources.{listed}
 use Rattle.replay_audit.specs.Clocks.{clock_at}
-use Rattle.replay_audit.proofs.log_clocks.LogClocks.next.Given as goal
+use Rattle.replay_audit.proofs.log_clocks.next.Given as goal
 
 abbrev pub invariant-loop-of : goal.invariant-loop-of
 invariant-loop-of l = record {
   merged : (i : ℕ) → slice_index l.clock i
-      ≡ merged_over (clock_at l.fn.self (previous l.fn.at)) (clock_at l.fn.self) (listed l.sources l.of) i;
+      ≡ merged_over (clock_at (record { clocks = l.clocks }) (previous l.fn.at)) (clock_at (record { clocks = l.clocks }))
+      (listed l.sources l.of) i;
   places : length l.guesses ≡ CORES_MAX;
 }
