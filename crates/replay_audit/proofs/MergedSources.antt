@@ -1,5 +1,5 @@
 -- Clocks merged source by source.
-use Rattle.std.proofs.Common.{inl, inr, ◌≡◌, ◌≢◌, ◌⊎◌, ℕ, ◌+◌, ◌≤◌, List, max, sym, ap, ◌∙◌, arith}
+use Rattle.std.proofs.Common.{◌≡◌, ◌≢◌, ℕ, ◌+◌, List, max, sym, ap, ◌∙◌, arith}
 use Rattle.std.specs.Prelude.{slice_index}
 use native.Mathlib.Decide.{ℕ_discrete}
 use Rattle.rtr_types.specs.declared.instr.Instr.{Instr}

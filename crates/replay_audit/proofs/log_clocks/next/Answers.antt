@@ -1,10 +1,10 @@
-use Rattle.std.proofs.Common.{◌≡◌, ◌-◌, ℕ, List, ap, length, max, rules, sym, ◌∙◌, slice_index}
+use Rattle.std.proofs.Common.{◌≡◌, ℕ, List, ap, max, rules, sym, ◌∙◌, slice_index}
 use native.Mathlib.Decide.{ℕ_discrete}
 use Rattle.clock_core.specs.Order.{previous}
 use Rattle.clock_core.specs.Reach.{with_own}
 use Rattle.clock_core.proofs.Reach.{own_other, own_same}
 use Rattle.replay_core.specs.Play.{instr}
-use Rattle.replay_audit.specs.Clocks.{Kept, clocks_of, number_of, number_to, numbered}
+use Rattle.replay_audit.specs.Clocks.{Kept, number_of, number_to, numbered}
 use Rattle.replay_audit.proofs.ClockNumbers.{last_numbered}
 use Rattle.replay_audit.proofs.MergedSources.{merged_none, merged_over_some}
 use Rattle.replay_audit.proofs.log_clocks.next.Goals as goal
